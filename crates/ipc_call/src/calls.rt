@@ -1,0 +1,50 @@
+// What a client asks of the namespace.
+
+ghost use Rattle.std.specs.Prelude.{◌≡◌, IfOk};
+
+use crate::replies::Memory;
+
+/// Flag of a get call: make the object where the key has none (msgget(2)).
+pub const IPC_CREAT: u32 = 0o1000;
+
+/// Flag of a get call: with `IPC_CREAT`, fail where the key has an object already (msgget(2)).
+pub const IPC_EXCL: u32 = 0o2000;
+
+/// One call of a client, with its arguments, as POSIX.1-2017 XSI IPC has it. Flag bits that a call doesn't know are ignored.
+#[derive(Debug, Drop, PartialEq)]
+pub enum Call {
+    /// The queue of a key (msgget(2)). Key 0 is IPC_PRIVATE and makes a new queue each time. Of the
+    /// flags, `IPC_CREAT` and `IPC_EXCL` are known, the low nine bits are the mode of a new queue,
+    /// and of a queue that is there they ask for read (0444) and alter (0222).
+    MsgGet { key: u32, flags: u32 },
+}
+
+impl Call {
+    /// A copy of the call with its arguments. Memory comes only where a growth was refused.
+    pub fn copy(&self) -> Result<Call, Memory>
+        ensures { IfOk result (λ copied. copied ≡ self.now) }
+    {
+        match self {
+            Call::MsgGet { key, flags } => Ok(Call::MsgGet {
+                key: *key,
+                flags: *flags,
+            }),
+        }
+    }
+}
+
+#[cfg(test)]
+mod tests {
+    use super::*;
+    use std::test::Fail;
+
+    #[test]
+    fn a_copy_equals_its_source(rt: HostRuntime) -> Result<(), Fail> {
+        let call = Call::MsgGet {
+            key: 5,
+            flags: IPC_CREAT | 0o600,
+        };
+        assert!(rt; call.copy()? == call);
+        Ok(())
+    }
+}

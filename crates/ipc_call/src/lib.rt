@@ -1,0 +1,13 @@
+//! The plain types of the service: what a client asks, what it is answered, and the rules by which
+//! a call is refused, with Linux's error numbers.
+#![tactic(auto)]
+
+mod calls;
+mod limits;
+mod replies;
+mod rules;
+
+pub use calls::{Call, IPC_CREAT, IPC_EXCL};
+pub use limits::{Limit, Limits};
+pub use replies::{Answer, Ended, JournalRow, Memory, Outcome, Reply, Waiting};
+pub use rules::{Rule, errno, error_name, rule_name};

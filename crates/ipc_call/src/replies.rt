@@ -1,0 +1,70 @@
+// What a call is answered, and the rows of the journal.
+
+use crate::calls::Call;
+use crate::rules::Rule;
+use std::alloc::AllocError;
+
+/// Memory was refused (ENOMEM 12). It is no rule: what answers it has changed nothing.
+pub type Memory = AllocError;
+
+/// What a served call gives (the return values of msgget(2)).
+#[derive(Debug, Drop, PartialEq)]
+pub enum Answer {
+    /// The identifier of an object, at most 2147483647.
+    Id(u32),
+}
+
+/// How a call ended: served with an answer, or refused by a rule.
+pub type Outcome = Result<Answer, Rule>;
+
+/// What the client of a call is told. Places and turns are the project's own.
+#[derive(Debug, Drop, PartialEq)]
+pub enum Reply {
+    /// The call was entered in the journal. `place` is the place, from 1, of the event that ended it;
+    /// `turn` is 0 for that event's own call, and then counts the waiting calls that it ended.
+    Entered {
+        place: u64,
+        turn: u32,
+        outcome: Outcome,
+    },
+    /// Memory was refused, and nothing has changed.
+    Memory,
+}
+
+/// A call that waits. That all waiting calls stand in one list is the project's own.
+#[derive(Debug, Drop, PartialEq)]
+pub struct Waiting {
+    /// The client that waits, counted from 0.
+    pub client: u32,
+    /// Its call.
+    pub call: Call,
+}
+
+/// A waiting call that has ended, with its client.
+#[derive(Debug, Drop, PartialEq)]
+pub struct Ended {
+    /// The client that waited, counted from 0.
+    pub client: u32,
+    /// How its call ended.
+    pub outcome: Outcome,
+}
+
+/// A row of the journal, which is the project's own. The rows of one event stand together: `Called`, then an `Answered` for each
+/// of its replies in order of turn.
+#[derive(Debug, Drop, PartialEq)]
+pub enum JournalRow {
+    /// A client, counted from 0, called at a moment in seconds.
+    Called {
+        client: u32,
+        now: u64,
+        call: Call,
+    },
+    /// A client was answered by the event at this place, with this turn. `rule` is None where the
+    /// call was served.
+    Answered {
+        client: u32,
+        place: u64,
+        turn: u32,
+        rule: Option<Rule>,
+    },
+}

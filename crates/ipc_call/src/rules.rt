@@ -1,0 +1,68 @@
+// The named rules by which calls are refused, and their error numbers.
+
+ghost use Rattle.std.specs.Prelude.{◌≡◌};
+ghost use Rattle.ipc_call.specs.Rules.{number_of, name_of_error, name_of_rule};
+
+/// Why a call was refused. The numbers are those of POSIX.1-2017 XSH msgget and msgctl; the rules
+/// and their names are the project's own.
+#[derive(Clone, Copy, Debug, PartialEq, Eq)]
+pub enum Rule {
+    /// The caller neither owns nor made the object and lacks CAP_SYS_ADMIN.
+    NotOwner,
+    /// The key has no object, and `IPC_CREAT` isn't given.
+    NoKey,
+    /// The caller is in the owner class, and the owner digit lacks a right that is asked.
+    OwnerBits,
+    /// The caller is in the group class, and the group digit lacks a right that is asked.
+    GroupBits,
+    /// The caller is in neither class, and the other digit lacks a right that is asked.
+    OtherBits,
+    /// The key has an object, and both `IPC_CREAT` and `IPC_EXCL` are given.
+    KeyExists,
+    /// Each slot of the kind holds an object or is retired.
+    NoSlot,
+}
+
+/// The error number of a rule, as Linux has it (errno(3)).
+#[tactic(auto, unfolding(crate::specs::Rules::number_of))]
+pub fn errno(rule: Rule) -> u16
+    ensures { result ≡ number_of rule }
+{
+    match rule {
+        Rule::NotOwner => 1,
+        Rule::NoKey => 2,
+        Rule::OwnerBits | Rule::GroupBits | Rule::OtherBits => 13,
+        Rule::KeyExists => 17,
+        Rule::NoSlot => 28,
+    }
+}
+
+/// The name of a rule's error number, as `EACCES` (errno(3)).
+#[tactic(auto, unfolding(crate::specs::Rules::name_of_error))]
+pub fn error_name(rule: Rule) -> &'static str
+    ensures { result.now ≡ name_of_error rule }
+{
+    match rule {
+        Rule::NotOwner => "EPERM",
+        Rule::NoKey => "ENOENT",
+        Rule::OwnerBits | Rule::GroupBits | Rule::OtherBits => "EACCES",
+        Rule::KeyExists => "EEXIST",
+        Rule::NoSlot => "ENOSPC",
+    }
+}
+
+/// The name of a rule as it is printed, as `other-bits`. The names are the project's own.
+#[tactic(auto, unfolding(crate::specs::Rules::name_of_rule))]
+pub fn rule_name(rule: Rule) -> &'static str
+    ensures { result.now ≡ name_of_rule rule }
+{
+    match rule {
+        Rule::NotOwner => "not-owner",
+        Rule::NoKey => "no-key",
+        Rule::OwnerBits => "owner-bits",
+        Rule::GroupBits => "group-bits",
+        Rule::OtherBits => "other-bits",
+        Rule::KeyExists => "key-exists",
+        Rule::NoSlot => "no-slot",
+    }
+}

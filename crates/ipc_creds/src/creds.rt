@@ -1,0 +1,116 @@
+// The credentials of a client.
+
+ghost use Rattle.std.specs.Prelude.{◌≡◌, ◌≤◌, IfOk, vec_len};
+ghost use Rattle.ipc_creds.specs.Credentials.{is_in_group};
+
+use crate::caps::Caps;
+use std::alloc::AllocError;
+use std::marker::Model;
+
+/// How many supplementary groups a client may have. The project's own limit.
+pub const GROUPS_MAX: usize = 32;
+
+/// The credentials of a client (credentials(7)): effective user and group, at most 32 supplementary
+/// groups, and capabilities.
+#[derive(Debug, Drop)]
+pub struct Creds {
+    euid: u32,
+    egid: u32,
+    groups: Vec<u32>,
+    caps: Caps,
+}
+
+impl Model for Creds {
+    ghost use Rattle.std.specs.Prelude.{◌≤◌, vec_len};
+    ghost use Rattle.ipc_creds.specs.Credentials.{Credentials};
+
+    ghost Value = { Credentials };
+
+    ghost view = { λ c. record { euid = c.euid; egid = c.egid; groups = c.groups.items; caps = c.caps.0 } };
+
+    ghost invariant = { λ c. vec_len c.groups ≤ 32 };
+}
+
+impl Creds {
+    /// Credentials of these parts.
+    pub fn new(euid: u32, egid: u32, groups: Vec<u32>, caps: Caps) -> Creds
+        requires { vec_len groups ≤ 32 }
+        ensures { result ≡ record { euid = euid; egid = egid; groups = groups.items; caps = caps.0 } }
+    {
+        Creds {
+            euid,
+            egid,
+            groups,
+            caps,
+        }
+    }
+
+    /// The effective user.
+    pub fn euid(&self) -> u32
+        ensures { result ≡ self.now.euid }
+    {
+        self.euid
+    }
+
+    /// The effective group.
+    pub fn egid(&self) -> u32
+        ensures { result ≡ self.now.egid }
+    {
+        self.egid
+    }
+
+    /// The supplementary groups, as they were handed in.
+    pub fn groups(&self) -> &[u32]
+        ensures { result.now ≡ self.now.groups }
+    {
+        self.groups.as_slice()
+    }
+
+    /// The capabilities.
+    pub fn caps(&self) -> Caps
+        ensures { result.0 ≡ self.now.caps }
+    {
+        self.caps
+    }
+
+    /// Whether the group is the effective one or a supplementary one.
+    pub fn in_group(&self, gid: u32) -> bool
+        ensures { result ≡ is_in_group self.now gid }
+    {
+        gid == self.egid() || self.groups.contains(&gid)
+    }
+
+    /// A copy of the credentials. Memory comes only where a growth was refused.
+    pub fn copy(&self) -> Result<Creds, AllocError>
+        ensures { IfOk result (λ copied. copied ≡ self.now) }
+    {
+        let Creds {
+            euid,
+            egid,
+            groups,
+            caps,
+        } = self;
+        let copied = Vec::from_slice(*groups.allocator(), groups.as_slice())?;
+        Ok(Creds::new(*euid, *egid, copied, *caps))
+    }
+}
+
+#[cfg(test)]
+mod tests {
+    use super::*;
+    use bitflags::Flags;
+    use std::test::Fail;
+
+    #[test]
+    fn a_copy_equals_its_source(rt: HostRuntime) -> Result<(), Fail> {
+        let groups = vec![in rt.alloc(); 10, 7, 10]?;
+        let creds = Creds::new(300, 30, groups, Caps::SYS_ADMIN.union(Caps::IPC_OWNER));
+        let copied = creds.copy()?;
+        assert_eq!(rt; copied.euid(), 300);
+        assert_eq!(rt; copied.egid(), 30);
+        assert_eq!(rt; copied.groups(), [10, 7, 10].as_slice());
+        assert!(rt; copied.caps() == creds.caps());
+        assert!(rt; copied.in_group(7) && copied.in_group(30) && !copied.in_group(300));
+        Ok(())
+    }
+}

@@ -1,0 +1,9 @@
+//! The credentials of a client: its effective user and group, its supplementary groups and its
+//! capabilities.
+#![tactic(auto)]
+
+mod caps;
+mod creds;
+
+pub use caps::Caps;
+pub use creds::{Creds, GROUPS_MAX};

@@ -1,0 +1,26 @@
+-- The decision on each call, and what it needs of its caller.
+use Rattle.std.specs.Prelude.{ℕ, ◌==◌, Bool, true, false, List, [], if◌then◌else◌}
+use Rattle.ipc_call.specs.declared.calls.Call.{Call}
+use Rattle.ipc_call.specs.declared.calls.Call.TheVariants.{MsgGet}
+use Rattle.ipc_perm.specs.Access.{Need}
+use Rattle.ipc_model.specs.State.{State, creds_at, queue_with_key}
+use Rattle.ipc_model.specs.Decision.{Decision, Refuse, Wait, Serve}
+use Rattle.ipc_model.specs.Queues.{get_queue, needs_on}
+
+-- the needs on the object that the call names
+unfoldable pub needs : State → Call → List Need
+needs s (MsgGet key flags) = if key == 0 then [] else needs_on (queue_with_key s key) flags
+
+-- the decision relation: the credentials are the caller's, by its number
+unfoldable pub decide : State → ℕ → Call → Decision
+decide s client (MsgGet key flags) = get_queue s (creds_at s client) key flags
+
+-- a call that may wait
+abbrev pub can_wait : Call → Bool
+can_wait (MsgGet key flags) = false
+
+-- the call doesn't wait
+abbrev pub goes_on : Decision → Bool
+goes_on (Refuse rule) = true
+goes_on Wait = false
+goes_on (Serve answer new) = true

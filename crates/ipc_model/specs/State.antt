@@ -1,0 +1,44 @@
+-- The state of a namespace (sysvipc(7); POSIX.1-2017 XSH 2.7).
+use Rattle.std.specs.Prelude.{ℕ, ◌==◌, Bool, List, [], Option, option_map, slice_index_or}
+use Rattle.std.specs.List.{list_any}
+use Rattle.ipc_call.specs.declared.limits.Limits.{Limits}
+use Rattle.ipc_call.specs.declared.replies.Waiting.{Waiting}
+use Rattle.ipc_creds.specs.Credentials.{Credentials}
+use Rattle.ipc_perm.specs.declared.perms.Perm.{Perm}
+use Rattle.ipc_model.specs.Table.{Table, empty_table, find_object}
+
+-- a message queue, its msqid_ds (msgctl(2)): permissions, msg_qbytes, msg_lspid and msg_lrpid, msg_stime, msg_rtime and msg_ctime
+pub record Queue : Type 0 where
+  pub perm : Perm
+  pub qbytes : ℕ
+  pub last_sender : ℕ
+  pub last_receiver : ℕ
+  pub send_time : ℕ
+  pub receive_time : ℕ
+  pub change_time : ℕ
+
+-- the clients' credentials by number, the clock in seconds, the queues, and the calls that wait in order of arrival
+pub record State : Type 0 where
+  pub limits : Limits
+  pub clients : List Credentials
+  pub clock : ℕ
+  pub queues : Table Queue
+  pub parked : List Waiting
+
+-- a namespace before its first event
+abbrev pub opening : Limits → List Credentials → State
+opening limits clients = record { limits = limits; clients = clients; clock = 0; queues = empty_table limits.slots limits.first_seq; parked = [] }
+
+-- stands for a client that isn't there
+abbrev pub nobody : Credentials
+nobody = record { euid = 0; egid = 0; groups = []; caps = 0 }
+
+abbrev pub creds_at : State → ℕ → Credentials
+creds_at s client = slice_index_or s.clients client nobody
+
+abbrev pub is_waiting : State → ℕ → Bool
+is_waiting s client = list_any (λ w. w.client == client) s.parked
+
+-- the queue whose ipc_perm holds the key, which isn't 0: its identifier and permissions (msgget(2))
+abbrev pub queue_with_key : State → ℕ → Option (ℕ × Perm)
+queue_with_key s key = option_map (λ found. (found.0, found.1.perm)) (find_object (λ queue. queue.perm.key == key) s.queues)

@@ -1,0 +1,178 @@
+// Who may do what to an object.
+
+ghost use Rattle.std.specs.Prelude.{◌≡◌};
+ghost use Rattle.ipc_creds.specs.Credentials.{is_in_group};
+ghost use Rattle.ipc_perm.specs.Access.{
+  rights,
+  class_of,
+  digit_of,
+  rule_of,
+  ground_of,
+  is_subset,
+  asked_of,
+  is_owner,
+  verdict_on,
+  permits,
+  denial,
+  Permission,
+  control_verdict_on,
+  controls,
+  is_allowed,
+  denied_rule,
+};
+
+use crate::perms::Perm;
+use bitflags::Flags;
+use ipc_call::Rule;
+use ipc_creds::{Caps, Creds};
+
+/// The class of a caller at an object (POSIX.1-2017 XSH 2.7.1). The first that fits decides alone.
+#[derive(Clone, Copy, Debug, PartialEq, Eq)]
+pub enum Class {
+    /// The effective user owns the object or made it.
+    Owner,
+    /// The effective group or a supplementary one is the object's group or its maker's.
+    Group,
+    /// Neither fits.
+    Other,
+}
+
+/// A set of rights (POSIX.1-2017 XSH 2.7.1).
+#[derive(Clone, Copy, Debug, PartialEq, Eq)]
+pub struct Want {
+    /// To read.
+    pub read: bool,
+    /// To alter.
+    pub alter: bool,
+}
+
+/// Why a caller is allowed. Naming it is the project's own. A capability is the ground only where the class or the ownership fails.
+#[derive(Clone, Copy, Debug, PartialEq, Eq)]
+pub enum Ground {
+    /// The owner digit, or the ownership.
+    Owner,
+    /// The group digit.
+    Group,
+    /// The other digit.
+    Other,
+    /// CAP_IPC_OWNER.
+    IpcOwner,
+    /// CAP_SYS_ADMIN.
+    SysAdmin,
+}
+
+/// The decision on one caller and one object.
+#[derive(Clone, Copy, Debug, PartialEq, Eq)]
+pub enum Verdict {
+    /// Allowed, on this ground.
+    Allowed(Ground),
+    /// Denied, by this rule.
+    Denied(Rule),
+}
+
+/// Whether a caller has the wanted rights on an object (POSIX.1-2017 XSH 2.7.1, sysvipc(7)). The
+/// digit of the caller's class decides alone; CAP_IPC_OWNER overrides its denial. A denial names
+/// the class.
+pub fn decide(creds: &Creds, perm: &Perm, want: Want) -> Verdict
+    ensures verdict { result ≡ verdict_on creds.now perm.now want }
+    ensures permits { is_allowed result ≡ permits creds.now perm.now want }
+    ensures denial { denied_rule result ≡ denial creds.now (Permission perm.now want) }
+{
+    let class = deciding_class(creds, perm);
+    if is_within(want, rights_in(digit(class, perm.mode.bits()))) {
+        return Verdict::Allowed(class_ground(class));
+    }
+    if creds.caps().contains(Caps::IPC_OWNER) {
+        return Verdict::Allowed(Ground::IpcOwner);
+    }
+    Verdict::Denied(class_rule(class))
+}
+
+/// Whether a caller may set or remove an object (msgctl(2): EPERM): it owns the object or made it,
+/// or it has CAP_SYS_ADMIN. No permission bit is asked.
+pub fn may_control(creds: &Creds, perm: &Perm) -> Verdict
+    ensures verdict { result ≡ control_verdict_on creds.now perm.now }
+    ensures controls { is_allowed result ≡ controls creds.now perm.now }
+{
+    if owns(creds, perm) {
+        return Verdict::Allowed(Ground::Owner);
+    }
+    if creds.caps().contains(Caps::SYS_ADMIN) {
+        return Verdict::Allowed(Ground::SysAdmin);
+    }
+    Verdict::Denied(Rule::NotOwner)
+}
+
+/// The rights that the flags of a get ask of an object that is there: read for any bit of 0444,
+/// alter for any bit of 0222 (msgget(2)).
+pub fn asked_of_flags(flags: u32) -> Want
+    ensures { result ≡ asked_of flags }
+{
+    Want {
+        read: flags & 0o444 != 0,
+        alter: flags & 0o222 != 0,
+    }
+}
+
+fn owns(creds: &Creds, perm: &Perm) -> bool
+    ensures { result ≡ is_owner creds.now perm.now }
+{
+    perm.uid == creds.euid() || perm.cuid == creds.euid()
+}
+
+fn deciding_class(creds: &Creds, perm: &Perm) -> Class
+    ensures { result ≡ class_of creds.now perm.now }
+{
+    if owns(creds, perm) {
+        Class::Owner
+    } else if creds.in_group(perm.gid) || creds.in_group(perm.cgid) {
+        Class::Group
+    } else {
+        Class::Other
+    }
+}
+
+fn digit(class: Class, mode: u16) -> u16
+    ensures { result ≡ digit_of class mode }
+{
+    match class {
+        Class::Owner => mode >> 6 & 7,
+        Class::Group => mode >> 3 & 7,
+        Class::Other => mode & 7,
+    }
+}
+
+fn rights_in(digit: u16) -> Want
+    ensures { result ≡ rights digit }
+{
+    Want {
+        read: digit & 4 != 0,
+        alter: digit & 2 != 0,
+    }
+}
+
+fn is_within(asked: Want, given: Want) -> bool
+    ensures { result ≡ is_subset asked given }
+{
+    (!asked.read || given.read) && (!asked.alter || given.alter)
+}
+
+fn class_ground(class: Class) -> Ground
+    ensures { result ≡ ground_of class }
+{
+    match class {
+        Class::Owner => Ground::Owner,
+        Class::Group => Ground::Group,
+        Class::Other => Ground::Other,
+    }
+}
+
+fn class_rule(class: Class) -> Rule
+    ensures { result ≡ rule_of class }
+{
+    match class {
+        Class::Owner => Rule::OwnerBits,
+        Class::Group => Rule::GroupBits,
+        Class::Other => Rule::OtherBits,
+    }
+}

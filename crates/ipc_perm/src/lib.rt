@@ -1,0 +1,8 @@
+//! The permissions of an object, and the decision on who may do what to it.
+#![tactic(auto)]
+
+mod access;
+mod perms;
+
+pub use access::{Class, Ground, Verdict, Want, asked_of_flags, decide, may_control};
+pub use perms::{Mode, Perm};
