@@ -1,0 +1,14 @@
+use Rattle.std.proofs.Common.{◌≤◌, Bool, true, false, length, arith}
+use mir.Val.{bool_byte}
+use Rattle.ipc_space.proofs.Parked.{length-parked}
+use Rattle.ipc_space.proofs.namespace.Namespace.most_ended.Goals as goal
+
+at_most_one : (b : Bool) → bool_byte b ≤ 1
+at_most_one true = omega arith
+at_most_one false = omega arith
+
+pub returns-clause-few : goal.returns-clause-few
+returns-clause-few c =
+    let n = c.self.inside in
+    let few : length n.parked.items ≤ length n.clients.items = length-parked (length n.clients.items) n.parked.items c.self.invariant.1 in
+    omega (arith, few, c.self.invariant.0, n.clients.ok.0, n.parked.ok.0, c.len.ensures, c.from.ensures, at_most_one c.can_wait.result)

@@ -1,0 +1,53 @@
+use Rattle.std.proofs.Common.{◌≡◌, ◌+◌, ◌<◌, [], ◌∷◌, ◌++◌, map, length, sym, ap, ◌∙◌, subst, arith}
+use Rattle.ipc_call.specs.declared.replies.JournalRow.TheVariants.{Called}
+use Rattle.ipc_model.specs.State.{State, is_waiting}
+use Rattle.ipc_model.specs.Step.{Event, Stepped}
+use Rattle.ipc_model.specs.History.{History, IsLegalAt, answered_row, rows_by, run, told_ended, told_own, with_event}
+use Rattle.ipc_space.specs.Spaces.{IsOfHistory, history_in}
+use Rattle.ipc_space.proofs.Histories.{IsOfHistory-push, length-events_in, rows_by-entered}
+use Rattle.ipc_space.proofs.spaces.Space.apply.Goals as goal
+use Rattle.ipc_space.proofs.spaces.Space.apply.Goals.{After-tell_others}
+
+event : (c : After-tell_others) → Event
+event c = record { client = c.args.client; now = c.args.now; call = c.args.call }
+
+stepped : (c : After-tell_others) → Stepped
+stepped c = record { state = c.serve.new.self; own = c.in_ok-served.served.own; ended = c.in_ok-served.served.ended.items }
+
+legal : (c : After-tell_others) → IsLegalAt c.self.inside.namespace (event c)
+unfolding event
+legal c = record {
+  known = subst (λ (h : History). c.args.client < length h.clients) (sym c.self.view_is) c.requires.known;
+  free = ap (λ (s : State). is_waiting s c.args.client) (c.self.invariant.state ∙ ap run c.self.view_is) ∙ c.requires.free;
+}
+
+rows : (c : After-tell_others) → c.tell_others.new.journal.rows ≡ c.self.inside.journal.rows ++ rows_by (c.self.inside.events + 1) (event c) (stepped c)
+unfolding event stepped
+rows c =
+    let place = c.self.inside.events + 1 in
+    let own = map answered_row (told_own c.args.client place c.in_ok-served.served.own) in
+    let others = map answered_row (told_ended place 1 c.in_ok-served.served.ended.items) in
+    let called : c.enter.new.self.rows ≡ c.self.inside.journal.rows ++ Called c.args.client c.args.now c.args.call ∷ [] =
+    c.enter.ensures.rows ∙ (λ i. c.reserve.ensures.rows i ++ Called c.args.client c.args.now (c.in_ok-copied.ensures i) ∷ []) in
+    c.tell_others.ensures.rows ∙ ap (λ r. r ++ others) (c.tell_own-own.ensures.rows ∙ ap (λ r. r ++ own) called)
+    ∙ rows_by-entered c.self.inside.journal.rows place (event c) (stepped c)
+
+longer : (c : After-tell_others) → IsOfHistory c.serve.new.self c.tell_others.new.journal.rows (c.self.inside.events + 1)
+    × (history_in c.serve.new.self c.tell_others.new.journal.rows ≡ with_event (history_in c.self.inside.namespace c.self.inside.journal.rows) (event c))
+unfolding event stepped
+longer c =
+    let s = c.self.inside in
+    let steps = c.in_ok-served.ensures.ok in
+    IsOfHistory-push s.namespace s.journal.rows c.tell_others.new.journal.rows s.events (event c) (stepped c) c.self.invariant (legal c) steps c.serve.ensures.limits c.serve.ensures.clients (rows c)
+
+pub overflow_add-self : goal.overflow_add-self
+overflow_add-self c =
+    let s = c.self.inside in
+    omega (arith, c.self.invariant.counted, length-events_in s.journal.rows, c.in_ok-reserve.ensures.fits, ap length c.reserve.ensures.rows)
+
+pub invariant_of-self-2 : goal.invariant_of-self-2
+invariant_of-self-2 c = (longer c).0
+
+pub returns-clause-event : goal.returns-clause-event
+unfolding event
+returns-clause-event c = (longer c).1 ∙ ap (λ (h : History). with_event h (event c)) c.self.view_is

@@ -1,0 +1,9 @@
+-- What the code decides, of what the model decides: the grant is left out.
+use Rattle.ipc_model.specs.Decision.{Decision, Refuse, Wait, Serve}
+use Rattle.ipc_space.specs.declared.decisions.Decided.{Decided}
+use Rattle.ipc_space.specs.declared.decisions.Decided.TheVariants as ways
+
+abbrev pub decided : Decision → Decided
+decided (Refuse rule) = ways.Refuse rule
+decided Wait = ways.Wait
+decided (Serve answer new) = ways.Go

@@ -1,0 +1,37 @@
+-- The history that a state and a journal mean, and the replies of one event.
+use Rattle.std.specs.Prelude.{◌≡◌, ℕ, List, [], ◌∷◌, length, map, Option, option_map}
+use Rattle.ipc_call.specs.declared.replies.Ended.{Ended}
+use Rattle.ipc_call.specs.declared.replies.JournalRow.{JournalRow}
+use Rattle.ipc_call.specs.declared.replies.JournalRow.TheVariants.{Called, Answered}
+use Rattle.ipc_call.specs.declared.replies.Reply.{Reply}
+use Rattle.ipc_call.specs.declared.replies.Reply.TheVariants.{Entered}
+use Rattle.ipc_model.specs.State.{State}
+use Rattle.ipc_model.specs.Step.{Event, Outcome}
+use Rattle.ipc_model.specs.History.{History, IsLegal, run, rows_of, told_ended, reply_of}
+
+abbrev pub event_in : JournalRow → List Event → List Event
+event_in (Called client now call) events = record { client = client; now = now; call = call } ∷ events
+event_in (Answered client place turn rule) events = events
+
+-- the events that a journal's rows tell of
+abbrev pub events_in : List JournalRow → List Event
+events_in [] = []
+events_in (row ∷ rows) = event_in row (events_in rows)
+
+abbrev pub history_in : State → List JournalRow → History
+history_in s rows = record { limits = s.limits; clients = s.clients; events = events_in rows }
+
+-- the state, the journal and the count of events are those of a legal history
+pub record IsOfHistory (s : State) (journal : List JournalRow) (events : ℕ) : Type 0 where
+  pub state : s ≡ run (history_in s journal)
+  pub rows : journal ≡ rows_of (history_in s journal)
+  pub legal : IsLegal (history_in s journal)
+  pub counted : events ≡ length (events_in journal)
+
+-- the reply to an event's own call, where it didn't wait
+abbrev pub own_reply : ℕ → Option Outcome → Option Reply
+own_reply place own = option_map (λ outcome. Entered place 0 outcome) own
+
+-- the replies to the waiting calls that an event ended, each with its client, by turn
+abbrev pub other_replies : ℕ → List Ended → List (ℕ × Reply)
+other_replies place ended = map (λ told. (told.client, reply_of told)) (told_ended place 1 ended)

@@ -1,0 +1,16 @@
+//! A namespace of System V IPC objects that serves its clients' calls one at a time, and the journal
+//! of what it was asked and what it answered.
+#![tactic(auto)]
+
+mod decisions;
+mod journal;
+mod message_calls;
+mod namespace;
+mod queues;
+mod spaces;
+
+pub use ipc_call::JournalRow;
+pub use spaces::{Effects, Space};
+
+#[cfg(test)]
+mod tests;

@@ -1,0 +1,203 @@
+// A namespace with its journal.
+
+ghost use Rattle.std.specs.Prelude.{
+  ◌≡◌,
+  ◌+◌,
+  ◌<◌,
+  ◌≤◌,
+  true,
+  false,
+  [],
+  ◌∷◌,
+  ◌++◌,
+  length,
+  map,
+  vec_len,
+  vec_capacity,
+  IsTrue,
+  IfOk,
+  OnOk,
+  OnErr,
+};
+ghost use Rattle.ipc_call.specs.Limits.{are_in_range};
+ghost use Rattle.ipc_model.specs.State.{is_waiting as waits};
+ghost use Rattle.ipc_model.specs.Step.{Stepped};
+ghost use Rattle.ipc_model.specs.History.{run, rows_of, rows_by, IsLegal, with_event, next_step, told_own, told_ended, answered_row, rule_in};
+ghost use Rattle.ipc_space.specs.Spaces.{own_reply, other_replies};
+
+use crate::journal::Journal;
+use crate::namespace::Namespace;
+use ipc_call::{Call, Ended, JournalRow, Limits, Memory, Outcome, Reply, Rule};
+use ipc_creds::Creds;
+use std::marker::Model;
+
+/// What an event tells the clients.
+#[derive(Debug, Drop)]
+pub struct Effects {
+    /// The reply to the event's own call, with turn 0. None where the call waits.
+    pub own: Option<Reply>,
+    /// The replies to the waiting calls that the event ended, each with its client, by turn from 1.
+    pub others: Vec<(u32, Reply)>,
+}
+
+/// A namespace with its clients and the journal of its events. It is its history: the events that it
+/// has served since it was opened, from which all else follows.
+#[derive(Debug, Drop)]
+pub struct Space {
+    namespace: Namespace,
+    journal: Journal,
+    events: u64,
+}
+
+impl Model for Space {
+    ghost use Rattle.ipc_model.specs.History.{History};
+    ghost use Rattle.ipc_space.specs.Spaces.{history_in, IsOfHistory};
+
+    ghost Value = { History };
+
+    ghost view = { λ s. history_in s.namespace s.journal.rows };
+
+    ghost invariant = { λ s. IsOfHistory s.namespace s.journal.rows s.events };
+}
+
+impl Space {
+    /// A namespace with these limits, each in its range, and 1 to 64 clients, numbered from 0 in the
+    /// order of their credentials. It has no object, no waiting call and an empty journal, and its clock
+    /// is at 0. Memory (ENOMEM) is for an allocation that was refused; as yet none is made.
+    pub fn start(limits: Limits, clients: Vec<Creds>) -> Result<Space, Memory>
+        requires limits { IsTrue (are_in_range limits) }
+        requires some { 1 ≤ vec_len clients }
+        requires few { vec_len clients ≤ 64 }
+        ensures { IfOk result (λ space. space ≡ record { limits = limits; clients = clients.items; events = [] }) }
+    {
+        let alloc = *clients.allocator();
+        Ok(Space {
+            namespace: Namespace::new(limits, clients),
+            journal: Journal::new(alloc),
+            events: 0,
+        })
+    }
+
+    /// Serves a call of a client at a moment in seconds, as the next event. The client is one of the
+    /// namespace, and has no call that waits. Memory (ENOMEM) comes where a growth was refused, and
+    /// then nothing has changed, the clock and the journal included.
+    pub fn apply(&mut self, client: u32, now: u64, call: Call) -> Result<Effects, Memory>
+        requires known { client < length self.old.clients }
+        requires free { waits (run self.old) client ≡ false }
+        ensures event { OnOk result (self.new ≡ with_event self.old (record { client = client; now = now; call = call })) }
+        ensures own { IfOk result (λ effects.
+            effects.own ≡ own_reply (length self.old.events + 1) (next_step self.old (record { client = client; now = now; call = call })).own) }
+        ensures others { IfOk result (λ effects.
+            effects.others.items ≡ other_replies (length self.old.events + 1) (next_step self.old (record { client = client; now = now; call = call })).ended) }
+        ensures err { OnErr result (self.new ≡ self.old) }
+    {
+        let most = self.namespace.most_ended(&call);
+        self.journal.reserve(most + 2)?;
+        let mut others = Vec::with_capacity(self.namespace.alloc(), most)?;
+        let copied = call.copy()?;
+        let served = self.namespace.serve(client, now, call)?;
+        self.events += 1;
+        let place = self.events;
+        let row = JournalRow::Called {
+            client,
+            now,
+            call: copied,
+        };
+        self.journal.enter(row);
+        let own = tell_own(&mut self.journal, client, place, served.own);
+        tell_others(&mut self.journal, &mut others, place, served.ended);
+        Ok(Effects { own, others })
+    }
+
+    /// How many clients there are, at most 64. They are numbered from 0.
+    pub fn clients(&self) -> u32
+        ensures count { result ≡ length self.now.clients }
+        ensures few { result ≤ 64 }
+    {
+        self.namespace.clients()
+    }
+
+    /// Whether a call of the client waits.
+    pub fn is_waiting(&self, client: u32) -> bool
+        ensures { result ≡ waits (run self.now) client }
+    {
+        self.namespace.is_waiting(client)
+    }
+
+    /// The clock in seconds: the latest moment of an event, 0 before the first.
+    pub fn clock(&self) -> u64
+        ensures { result ≡ (run self.now).clock }
+    {
+        self.namespace.clock()
+    }
+
+    /// The journal, oldest row first.
+    pub fn journal(&self) -> &[JournalRow]
+        ensures rows { result.now ≡ rows_of self.now }
+        ensures legal { IsLegal self.now }
+    {
+        self.journal.entries()
+    }
+}
+
+/// Enters how an event's own call ended, and gives the reply. A call that waits has none.
+fn tell_own(journal: &mut Journal, client: u32, place: u64, own: Option<Outcome>) -> Option<Reply>
+    requires { 0 < journal.old.room }
+    ensures rows { journal.new.rows ≡ journal.old.rows ++ map answered_row (told_own client place own) }
+    ensures room { journal.old.room ≤ journal.new.room + 1 }
+    ensures reply { result ≡ own_reply place own }
+{
+    let outcome = own?;
+    journal.enter(answered(client, place, 0, &outcome));
+    Some(Reply::Entered {
+        place,
+        turn: 0,
+        outcome,
+    })
+}
+
+/// Enters how the waiting calls ended that an event ended, and adds the replies to them to an empty list
+/// that has room.
+fn tell_others(journal: &mut Journal, others: &mut Vec<(u32, Reply)>, place: u64, ended: Vec<Ended>)
+    requires few { vec_len ended ≤ 65 }
+    requires journal_room { vec_len ended ≤ journal.old.room }
+    requires empty { others.old.items ≡ [] }
+    requires room { vec_len ended ≤ vec_capacity others.old }
+    ensures rows { journal.new.rows ≡ journal.old.rows ++ map answered_row (told_ended place 1 ended.items) }
+    ensures others { others.new.items ≡ other_replies place ended.items }
+{
+    let mut turn = 1;
+    for completion in ended {
+        let Ended { client, outcome } = completion;
+        journal.enter(answered(client, place, turn, &outcome));
+        let reply = Reply::Entered {
+            place,
+            turn,
+            outcome,
+        };
+        others.push((client, reply)).unwrap();
+        turn += 1;
+    }
+}
+
+/// The row of an answer.
+fn answered(client: u32, place: u64, turn: u32, outcome: &Outcome) -> JournalRow
+    ensures { result ≡ answered_row (record { client = client; place = place; turn = turn; outcome = outcome.now }) }
+{
+    JournalRow::Answered {
+        client,
+        place,
+        turn,
+        rule: refusal(outcome),
+    }
+}
+
+/// The rule that refused the call, None where it was served.
+fn refusal(outcome: &Outcome) -> Option<Rule>
+    ensures { result ≡ rule_in outcome.now }
+{
+    match outcome {
+        Ok(_) => None,
+        Err(rule) => Some(*rule),
+    }
+}
