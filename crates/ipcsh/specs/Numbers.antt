@@ -1,0 +1,36 @@
+-- Numbers in a script: decimal, octal after 0, hexadecimal after 0x, as C writes them (POSIX.1-2017 XSH strtoul).
+use Rattle.std.specs.Prelude.{ℕ, ◌==◌, ◌^◌, ◌-◌, List, [], ◌∷◌, Option, Some, None, if◌then◌else◌, nat_le, nat_lt, option_and_then}
+use Rattle.std.specs.List.{list_all}
+use Rattle.std.specs.Char.{digit_value}
+use Rattle.std.specs.Str.Parse.{digits_value}
+
+-- the number that these digits of a base write
+abbrev pub numeral : ℕ → List ℕ → Option ℕ
+numeral base digits = if list_all (λ c. nat_lt (digit_value c) base) digits then Some (digits_value base digits) else None
+
+-- behind 0x (byte 120) a digit at least has to stand
+abbrev pub hexadecimal : List ℕ → Option ℕ
+hexadecimal [] = None
+hexadecimal (c ∷ cs) = numeral 16 (c ∷ cs)
+
+abbrev pub behind_zero : List ℕ → Option ℕ
+behind_zero [] = Some 0
+behind_zero (c ∷ cs) = if c == 120 then hexadecimal cs else numeral 8 (c ∷ cs)
+
+-- the number that a word writes: the digit 0 is byte 48
+abbrev pub number_of : List ℕ → Option ℕ
+number_of [] = None
+number_of (c ∷ cs) = if c == 48 then behind_zero cs else numeral 10 (c ∷ cs)
+
+abbrev pub at_most : ℕ → ℕ → Option ℕ
+at_most most n = if nat_le n most then Some n else None
+
+-- the number that a word writes, where it is at most so much
+unfoldable pub number_within : ℕ → List ℕ → Option ℕ
+number_within most word = option_and_then (at_most most) (number_of word)
+
+abbrev pub number_32 : List ℕ → Option ℕ
+number_32 word = number_within (2 ^ 32 - 1) word
+
+abbrev pub number_64 : List ℕ → Option ℕ
+number_64 word = number_within (2 ^ 64 - 1) word
