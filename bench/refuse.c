@@ -1,0 +1,39 @@
+/* Preloaded into a program: refuses the allocation whose number, from 1, is in REFUSE. After it all are granted. */
+#define _GNU_SOURCE
+#include <dlfcn.h>
+#include <errno.h>
+#include <stddef.h>
+#include <stdlib.h>
+#include <unistd.h>
+
+static long left = -1;
+
+static int refused(void)
+{
+    if (left < 0) {
+        const char *number = getenv("REFUSE");
+        left = number ? atol(number) : 0;
+    }
+    if (left == 0 || --left != 0)
+        return 0;
+    if (write(2, "refused\n", 8) != 8)
+        _exit(99);
+    errno = ENOMEM;
+    return 1;
+}
+
+void *malloc(size_t size)
+{
+    static void *(*next)(size_t);
+    if (!next)
+        next = (void *(*)(size_t))dlsym(RTLD_NEXT, "malloc");
+    return refused() ? NULL : next(size);
+}
+
+void *realloc(void *old, size_t size)
+{
+    static void *(*next)(void *, size_t);
+    if (!next)
+        next = (void *(*)(void *, size_t))dlsym(RTLD_NEXT, "realloc");
+    return refused() ? NULL : next(old, size);
+}
