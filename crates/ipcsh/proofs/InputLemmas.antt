@@ -11,9 +11,6 @@ use Rattle.ipcsh.specs.Runs.{LeadTo}
 use Rattle.ipcsh.specs.Session.{Session, fresh_session}
 use Rattle.ipcsh.proofs.LineLemmas.{kept_whole, kept_last, kept_more, split_feed, split_byte, complete_more}
 
-start : Printed
-start = record { session = fresh_session; output = [] }
-
 -- a line that was answered leads on
 pub LeadTo-line : (lines : List (Option (List ℕ))) (s : Session) (line : Option (List ℕ)) (new : Session) (front old rows : List ℕ)
     → LeadTo lines (record { session = s; output = front ++ old }) → Answers s line new old rows
@@ -109,9 +106,6 @@ Takes-byte old mid new bytes i b within is before byte =
     let joined : (text ++ take i bytes) ++ b ∷ [] ≡ text ++ take (i + 1) bytes =
     append_assoc text (take i bytes) (b ∷ []) ∙ ap (λ (bs : List ℕ). text ++ bs) (ap (λ (x : ℕ). take i bytes ++ x ∷ []) is ∙ sym (take_more bytes i 0 within)) in
     subst (λ (bs : List ℕ). HasRead bs written new) joined (byte (text ++ take i bytes) written (before text written h))
-
-pub Takes-none : (i : ScriptInput) → Takes i [] i
-Takes-none i = λ text written h. subst (λ (bs : List ℕ). HasRead bs written i) (sym (append-nil text)) h
 
 pub Takes-all : (old new : ScriptInput) (bytes : List ℕ) (n : ℕ) → length bytes ≤ n → Takes old (take n bytes) new → Takes old bytes new
 Takes-all old new bytes n all h = subst (λ (bs : List ℕ). Takes old bs new) (take_all n bytes all) h

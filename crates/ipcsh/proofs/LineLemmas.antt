@@ -1,8 +1,8 @@
 -- Lines whose bytes come one after the other.
-use Rattle.std.proofs.Common.{◌≡◌, ℕ, ◌+◌, ◌-◌, ◌<◌, ◌≤◌, ◌⊎◌, Bool, true, false, cond, List, [], ◌∷◌, ◌++◌, length, take, arith, refl, ap, sym, zero, suc, inl, inr, ◌∙◌, length-append, append_assoc}
+use Rattle.std.proofs.Common.{◌≡◌, ℕ, ◌-◌, ◌<◌, ◌≤◌, ◌⊎◌, Bool, true, false, cond, List, [], ◌∷◌, ◌++◌, length, take, arith, refl, ap, sym, zero, suc, inl, inr, ◌∙◌, length-append, append_assoc}
 use Rattle.std.proofs.lemmas.Bool.Decides.{nat_tests}
 use Rattle.std.proofs.lemmas.Grind.{common_steps}
-use Rattle.std.proofs.lemmas.List.{append-nil, length-map, length-take-le, map-append, take-append-le, take_all}
+use Rattle.std.proofs.lemmas.List.{append-nil, length-take-le, map-append, take-append-le, take_all}
 use Rattle.std.proofs.lemmas.Bool.{cases_lt}
 use Rattle.std.specs.Prelude.{◌==◌, map, Option, None, slice_index}
 use Rattle.ipcsh.specs.Lines.{Split, complete_lines, last_lines, lines_of, onto, onto_first, split, whole_line, within_limit, without_return}
@@ -121,26 +121,3 @@ complete_more a b =
       map whole_line grew.0 ++ last,
       ap (λ (t : List (List ℕ)). map whole_line t ++ last) grew.1 ∙ ap (λ (t : List (Option (List ℕ))). t ++ last) (map-append whole_line (split a).whole grew.0) ∙ append_assoc (complete_lines a) (map whole_line grew.0) last,
     )
-
--- a text has at most as many lines as bytes
-
-abbrev lines_in : Split → ℕ
-lines_in s = length s.whole + length (last_lines s.rest)
-
-lines_in_first : (b n : ℕ) (lines : List (List ℕ)) (rest : List ℕ) → length lines + length (last_lines rest) ≤ n → lines_in (onto_first b lines rest) ≤ n + 1
-lines_in_first b n [] rest h = omega arith
-lines_in_first b n (line ∷ lines) rest h = omega arith
-
-lines_in_if : (feed : Bool) (b n : ℕ) (s : Split) → lines_in s ≤ n → lines_in (cond feed (record { whole = [] ∷ s.whole; rest = s.rest }) (onto_first b s.whole s.rest)) ≤ n + 1
-lines_in_if true b n s h = omega arith
-lines_in_if false b n s h = lines_in_first b n s.whole s.rest h
-
-lines_in-le-length : (text : List ℕ) → lines_in (split text) ≤ length text
-lines_in-le-length [] = omega arith
-lines_in-le-length (b ∷ bs) = let more = lines_in_if (b == 10) b (length bs) (split bs) (lines_in-le-length bs) in omega (arith, more)
-
-pub count_whole : (text : List ℕ) → length (lines_of text) ≤ length text
-count_whole text =
-    let sizes = length-append (complete_lines text) (last_lines (split text).rest) in
-    let wholes = length-map (split text).whole whole_line in
-    omega (arith, sizes, wholes, lines_in-le-length text)

@@ -53,8 +53,8 @@ const INPUT_MAX: usize = 16_777_216;
 /// How many bytes are asked for at once.
 const PIECE: usize = 65536;
 
-/// Runs a script in the language of `docs/LANGUAGE.md`, the project's own: reads it to its end, makes its calls in one namespace, and writes a row for each
-/// reply. The rows of the lines that have come are written before more input is asked for. Nothing is
+/// Runs a script in the language of `docs/LANGUAGE.md`, the project's own: reads it to its end, makes
+/// its calls in one namespace, and writes a row for each reply. The rows of the lines that have come are written before more input is asked for. Nothing is
 /// read behind the end of the input, nor behind byte 16777217.
 pub fn run<R: Read, W: Write>(
     alloc: Global,
