@@ -10,13 +10,28 @@ pub const IPC_CREAT: u32 = 0o1000;
 /// Flag of a get call: with `IPC_CREAT`, fail where the key has an object already (msgget(2)).
 pub const IPC_EXCL: u32 = 0o2000;
 
-/// One call of a client, with its arguments, as POSIX.1-2017 XSI IPC has it. Flag bits that a call doesn't know are ignored.
+/// The kinds of objects. Each kind has keys, slots and identifiers of its own (sysvipc(7)).
+#[derive(Clone, Copy, Debug, PartialEq, Eq)]
+pub enum Kind {
+    /// Message queues (msgget(2)).
+    Queue,
+    /// Semaphore sets (semget(2)).
+    Sems,
+    /// Shared memory segments (shmget(2)).
+    Segment,
+}
+
+/// One call of a client, with its arguments, as POSIX.1-2017 XSI IPC has it. Flag bits that a call doesn't
+/// know are ignored.
 #[derive(Debug, Drop, PartialEq)]
 pub enum Call {
     /// The queue of a key (msgget(2)). Key 0 is IPC_PRIVATE and makes a new queue each time. Of the
     /// flags, `IPC_CREAT` and `IPC_EXCL` are known, the low nine bits are the mode of a new queue,
     /// and of a queue that is there they ask for read (0444) and alter (0222).
     MsgGet { key: u32, flags: u32 },
+    /// Removes the object of an identifier, for its owner, its creator or CAP_SYS_ADMIN (IPC_RMID of
+    /// msgctl(2), semctl(2) and shmctl(2)).
+    IpcRmid { kind: Kind, id: u32 },
 }
 
 impl Call {
@@ -28,6 +43,10 @@ impl Call {
             Call::MsgGet { key, flags } => Ok(Call::MsgGet {
                 key: *key,
                 flags: *flags,
+            }),
+            Call::IpcRmid { kind, id } => Ok(Call::IpcRmid {
+                kind: *kind,
+                id: *id,
             }),
         }
     }
@@ -44,6 +63,9 @@ mod tests {
             key: 5,
             flags: IPC_CREAT | 0o600,
         };
+        assert!(rt; call.copy()? == call);
+        let (kind, id) = (Kind::Segment, 32768);
+        let call = Call::IpcRmid { kind, id };
         assert!(rt; call.copy()? == call);
         Ok(())
     }

@@ -7,11 +7,13 @@ use std::alloc::AllocError;
 /// Memory was refused (ENOMEM 12). It is no rule: what answers it has changed nothing.
 pub type Memory = AllocError;
 
-/// What a served call gives (the return values of msgget(2)).
+/// What a served call gives (the return values of msgget(2) and msgctl(2)).
 #[derive(Debug, Drop, PartialEq)]
 pub enum Answer {
     /// The identifier of an object, at most 2147483647.
     Id(u32),
+    /// The call was carried out, and there is nothing to tell.
+    Done,
 }
 
 /// How a call ended: served with an answer, or refused by a rule.
@@ -49,8 +51,8 @@ pub struct Ended {
     pub outcome: Outcome,
 }
 
-/// A row of the journal, which is the project's own. The rows of one event stand together: `Called`, then an `Answered` for each
-/// of its replies in order of turn.
+/// A row of the journal, which is the project's own. The rows of one event stand together: `Called`, then
+/// an `Answered` for each of its replies in order of turn.
 #[derive(Debug, Drop, PartialEq)]
 pub enum JournalRow {
     /// A client, counted from 0, called at a moment in seconds.

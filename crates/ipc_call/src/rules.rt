@@ -19,6 +19,9 @@ pub enum Rule {
     OtherBits,
     /// The key has an object, and both `IPC_CREAT` and `IPC_EXCL` are given.
     KeyExists,
+    /// The identifier names no object now. That one of a removed object is told so too, and not EIDRM, is
+    /// the project's own.
+    BadId,
     /// Each slot of the kind holds an object or is retired.
     NoSlot,
 }
@@ -33,6 +36,7 @@ pub fn errno(rule: Rule) -> u16
         Rule::NoKey => 2,
         Rule::OwnerBits | Rule::GroupBits | Rule::OtherBits => 13,
         Rule::KeyExists => 17,
+        Rule::BadId => 22,
         Rule::NoSlot => 28,
     }
 }
@@ -47,6 +51,7 @@ pub fn error_name(rule: Rule) -> &'static str
         Rule::NoKey => "ENOENT",
         Rule::OwnerBits | Rule::GroupBits | Rule::OtherBits => "EACCES",
         Rule::KeyExists => "EEXIST",
+        Rule::BadId => "EINVAL",
         Rule::NoSlot => "ENOSPC",
     }
 }
@@ -63,6 +68,7 @@ pub fn rule_name(rule: Rule) -> &'static str
         Rule::GroupBits => "group-bits",
         Rule::OtherBits => "other-bits",
         Rule::KeyExists => "key-exists",
+        Rule::BadId => "bad-id",
         Rule::NoSlot => "no-slot",
     }
 }

@@ -1,7 +1,8 @@
+pub mod Controls
 pub mod Decide
 pub mod Decision
 pub mod History
+pub mod Made
 pub mod Queues
 pub mod State
 pub mod Step
-pub mod Table

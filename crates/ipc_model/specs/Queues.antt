@@ -5,7 +5,7 @@ use Rattle.ipc_call.specs.declared.replies.Answer.TheVariants.{Id}
 use Rattle.ipc_creds.specs.Credentials.{Credentials}
 use Rattle.ipc_perm.specs.declared.perms.Perm.{Perm}
 use Rattle.ipc_perm.specs.Access.{Need, Permission, asked_of, denial}
-use Rattle.ipc_model.specs.Table.{next_id, with_object}
+use Rattle.ipc_ids.specs.Table.{next_id, with_object}
 use Rattle.ipc_model.specs.State.{Queue, State, queue_with_key}
 use Rattle.ipc_model.specs.Decision.{Decision, Refuse, Serve, check, by_checks}
 

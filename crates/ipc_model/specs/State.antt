@@ -1,11 +1,11 @@
 -- The state of a namespace (sysvipc(7); POSIX.1-2017 XSH 2.7).
-use Rattle.std.specs.Prelude.{ℕ, ◌==◌, Bool, List, [], Option, option_map, slice_index_or}
+use Rattle.std.specs.Prelude.{ℕ, ◌==◌, Bool, not, ◌&&◌, List, [], Option, option_map, slice_index_or}
 use Rattle.std.specs.List.{list_any}
 use Rattle.ipc_call.specs.declared.limits.Limits.{Limits}
 use Rattle.ipc_call.specs.declared.replies.Waiting.{Waiting}
 use Rattle.ipc_creds.specs.Credentials.{Credentials}
 use Rattle.ipc_perm.specs.declared.perms.Perm.{Perm}
-use Rattle.ipc_model.specs.Table.{Table, empty_table, find_object}
+use Rattle.ipc_ids.specs.Table.{Table, empty_table, find_object}
 
 -- a message queue, its msqid_ds (msgctl(2)): permissions, msg_qbytes, msg_lspid and msg_lrpid, msg_stime, msg_rtime and msg_ctime
 pub record Queue : Type 0 where
@@ -39,6 +39,10 @@ creds_at s client = slice_index_or s.clients client nobody
 abbrev pub is_waiting : State → ℕ → Bool
 is_waiting s client = list_any (λ w. w.client == client) s.parked
 
--- the queue whose ipc_perm holds the key, which isn't 0: its identifier and permissions (msgget(2))
+-- its ipc_perm holds the key, which isn't 0: 0 is IPC_PRIVATE, and finds no queue (msgget(2))
+abbrev pub has_key : ℕ → Queue → Bool
+has_key key queue = not (key == 0) && queue.perm.key == key
+
+-- the queue of the key: its identifier and permissions
 abbrev pub queue_with_key : State → ℕ → Option (ℕ × Perm)
-queue_with_key s key = option_map (λ found. (found.0, found.1.perm)) (find_object (λ queue. queue.perm.key == key) s.queues)
+queue_with_key s key = option_map (λ found. (found.0, found.1.perm)) (find_object (has_key key) s.queues)

@@ -7,7 +7,7 @@ use Rattle.ipc_call.specs.declared.replies.Waiting.{Waiting}
 use Rattle.ipc_call.specs.declared.replies.Ended.{Ended}
 use Rattle.ipc_call.specs.declared.rules.Rule.{Rule}
 use Rattle.std.specs.Prelude.{Result}
-use Rattle.ipc_model.specs.Table.{least_from}
+use Rattle.ipc_ids.specs.Table.{least_from}
 use Rattle.ipc_model.specs.State.{State}
 use Rattle.ipc_model.specs.Decision.{Decision, Refuse, Wait, Serve}
 use Rattle.ipc_model.specs.Decide.{decide, goes_on}

@@ -67,10 +67,12 @@ ground_of Other = grounds.Other
 -- what a call needs of its caller
 pub data Need : Type 0 where
   Permission : (perm : Perm) (want : Want) → Need
+  Control : (perm : Perm) → Need
 
 -- the rule of a need that fails, and None where it is met
 abbrev pub denial : Credentials → Need → Option Rule
 denial c (Permission p want) = if permits c p want then None else Some (rule_of (class_of c p))
+denial c (Control p) = if controls c p then None else Some NotOwner
 
 -- the verdict with its ground: a capability only where the class or the ownership fails
 abbrev pub verdict_on : Credentials → Perm → Want → Verdict

@@ -15,6 +15,7 @@ ghost use Rattle.ipc_perm.specs.Access.{
   permits,
   denial,
   Permission,
+  Control,
   control_verdict_on,
   controls,
   is_allowed,
@@ -46,7 +47,8 @@ pub struct Want {
     pub alter: bool,
 }
 
-/// Why a caller is allowed. Naming it is the project's own. A capability is the ground only where the class or the ownership fails.
+/// Why a caller is allowed. Naming it is the project's own. A capability is the ground only where the class
+/// or the ownership fails.
 #[derive(Clone, Copy, Debug, PartialEq, Eq)]
 pub enum Ground {
     /// The owner digit, or the ownership.
@@ -93,6 +95,7 @@ pub fn decide(creds: &Creds, perm: &Perm, want: Want) -> Verdict
 pub fn may_control(creds: &Creds, perm: &Perm) -> Verdict
     ensures verdict { result ≡ control_verdict_on creds.now perm.now }
     ensures controls { is_allowed result ≡ controls creds.now perm.now }
+    ensures denial { denied_rule result ≡ denial creds.now (Control perm.now) }
 {
     if owns(creds, perm) {
         return Verdict::Allowed(Ground::Owner);

@@ -1,6 +1,8 @@
+pub mod Deciding
 pub mod Histories
-pub mod Laws
-pub mod Least
+pub mod Keeping
+pub mod Keyed
+pub mod Naming
 pub mod Parked
+pub mod Quiet
 pub mod Settling
-pub mod Tables

@@ -3,7 +3,7 @@ use Rattle.std.proofs.Common.{◌≡◌, ℕ, zero, suc, ◌+◌, ◌<◌, true,
 use Rattle.ipc_call.specs.declared.replies.Ended.{Ended}
 use Rattle.ipc_model.specs.State.{State}
 use Rattle.ipc_model.specs.Step.{and_then, end_at, first_ready, is_ready, settle, settle_from, settled}
-use Rattle.ipc_space.proofs.Least.{least_found}
+use Rattle.ipc_ids.proofs.Least.{least_found}
 
 settle-none : (n : ℕ) (s : State) → first_ready s ≡ None → settle n s ≡ record { state = s; ended = [] }
 settle-none zero s none = refl

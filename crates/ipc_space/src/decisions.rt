@@ -21,6 +21,6 @@ pub fn can_wait(call: &Call) -> bool
     ensures { result ≡ may_wait call.now }
 {
     match call {
-        Call::MsgGet { .. } => false,
+        Call::MsgGet { .. } | Call::IpcRmid { .. } => false,
     }
 }

@@ -2,8 +2,10 @@
 //! of what it was asked and what it answered.
 #![tactic(auto)]
 
+mod control_calls;
 mod decisions;
 mod journal;
+pub mod laws;
 mod message_calls;
 mod namespace;
 mod queues;

@@ -76,6 +76,7 @@ impl Namespace {
     fn make_queue(&mut self, client: u32, key: u32, flags: u32) -> Result<Answer, Memory>
         requires known { client < length self.old.clients }
         requires go { decided (make_queue_by self.old (creds_at self.old client) key flags) ≡ Decided.Go }
+        requires free { queue_of_key self.old key ≡ None }
         ensures served { IfOk result (λ answer. make_queue_by self.old (creds_at self.old client) key flags ≡ Serve answer self.new) }
         ensures parked { self.new.parked ≡ self.old.parked }
         ensures limits { self.new.limits ≡ self.old.limits }

@@ -249,6 +249,7 @@ impl Namespace {
         let creds = &self.clients[client as usize];
         match call {
             Call::MsgGet { key, flags } => self.decide_get_queue(creds, *key, *flags),
+            Call::IpcRmid { kind, id } => self.decide_remove(creds, *kind, *id),
         }
     }
 
@@ -268,6 +269,7 @@ impl Namespace {
     {
         match call {
             Call::MsgGet { key, flags } => self.grant_get_queue(client, key, flags),
+            Call::IpcRmid { kind, id } => Ok(self.grant_remove(client, kind, id)),
         }
     }
 }

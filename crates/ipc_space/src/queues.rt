@@ -2,21 +2,23 @@
 
 ghost use Rattle.std.specs.Prelude.{
   ◌≡◌,
-  ◌+◌,
-  ◌*◌,
   ◌≤◌,
-  ◌<◌,
-  ◌==◌,
   Some,
+  None,
   OnOk,
   OnErr,
+  IsSome,
   option_map,
 };
-ghost use Rattle.ipc_model.specs.Table.{empty_table, find_object, next_id as id_of_next, with_object};
+ghost use Rattle.std.specs.FinMap as map;
+ghost use Rattle.ipc_ids.specs.Table.{empty_table, find_object, next_id as id_of_next, with_object, without_object};
+ghost use Rattle.ipc_model.specs.State.{has_key};
+ghost use Rattle.ipc_space.specs.Queues.{with_key};
 
 use ipc_call::Memory;
+use ipc_ids::{InsertFault, Keys, Slots};
 use ipc_perm::Perm;
-use std::alloc::Global;
+use std::alloc::{AllocError, Global};
 use std::marker::Model;
 
 /// A message queue, its msqid_ds (msgctl(2)).
@@ -82,29 +84,27 @@ impl Queue {
     }
 }
 
-/// The queues of a namespace in order of slot. No queue is removed, so a queue's slot is its place.
+/// The queues of a namespace, by identifier and by key.
 #[derive(Debug, Drop)]
 pub struct Queues {
-    slots: u32,
-    first_seq: u16,
-    queues: Vec<Queue>,
+    slots: Slots<Queue>,
+    keys: Keys,
 }
 
 impl Model for Queues {
-    ghost use Rattle.std.specs.Prelude.{◌<◌, ◌≤◌, vec_len};
     ghost use Rattle.std.specs.FinMap as map;
     ghost use Rattle.std.specs.Coded.{codes};
     ghost use Rattle.ipc_model.specs.State.{Queue as QueueValue};
-    ghost use Rattle.ipc_model.specs.Table.{Table};
-    ghost use Rattle.ipc_space.specs.Queues.{table_of};
+    ghost use Rattle.ipc_ids.specs.Table.{Table};
+    ghost use Rattle.ipc_space.specs.Queues.{AreKeyed};
 
     ghost Value = { Table QueueValue };
 
     ghost coded = { Prim.hlevel (codes, map.code) };
 
-    ghost view = { λ t. table_of t.slots t.first_seq t.queues.items };
+    ghost view = { λ q. q.slots };
 
-    ghost invariant = { λ t. (t.slots ≤ 32768) × (t.first_seq < 65536) × (vec_len t.queues ≤ t.slots) };
+    ghost invariant = { λ q. AreKeyed q.slots q.keys };
 }
 
 impl Queues {
@@ -114,53 +114,76 @@ impl Queues {
         ensures { result ≡ empty_table slots first_seq }
     {
         Queues {
-            slots,
-            first_seq,
-            queues: Vec::new(alloc),
+            slots: Slots::new(alloc, slots, first_seq),
+            keys: Keys::new(alloc),
         }
     }
 
-    /// The queue of a key in the lowest slot: its identifier and permissions.
+    /// The queue of a key: its identifier and permissions. None for key 0.
     pub fn find(&self, key: u32) -> Option<(u32, Perm)>
-        ensures { result ≡ option_map (λ found. (found.0, found.1.perm)) (find_object (λ queue. queue.perm.key == key) self.now) }
+        ensures { result ≡ option_map (λ found. (found.0, found.1.perm)) (find_object (has_key key) self.now) }
     {
-        for (slot, queue) in self.queues.iter().enumerate() {
-            let perm = queue.perm();
-            if perm.key == key {
-                return Some((self.id_at(slot), perm));
-            }
-        }
-        None
+        let id = self.keys.find(key)?;
+        let perm = self.perm(id)?;
+        Some((id, perm))
     }
 
-    /// The identifier of the next new queue, None where each slot holds one.
+    /// The permissions of the queue of an identifier.
+    pub fn perm(&self, id: u32) -> Option<Perm>
+        ensures { result ≡ option_map (λ queue. queue.perm) (map.get self.now.objects id) }
+    {
+        let queue = self.slots.get(id)?;
+        Some(queue.perm())
+    }
+
+    /// The identifier of the next new queue, None where each slot holds one or is retired.
     pub fn next_id(&self) -> Option<u32>
         ensures { result ≡ id_of_next self.now }
     {
-        let slot = self.queues.len();
-        if slot < self.slots as usize {
-            Some(self.id_at(slot))
-        } else {
-            None
-        }
+        self.slots.next_id()
     }
 
-    /// Puts a queue at the next identifier, which is handed in as it was answered. Memory comes where a
-    /// growth was refused, and then nothing has changed.
+    /// Puts a queue, whose key no other has, at the next identifier, which is handed in as it was answered.
+    /// Memory comes where a growth was refused, and then nothing has changed.
     pub fn insert(&mut self, id: u32, queue: Queue) -> Result<(), Memory>
-        requires { id_of_next self.old ≡ Some id }
+        requires next { id_of_next self.old ≡ Some id }
+        requires free { find_object (has_key queue.perm.key) self.old ≡ None }
         ensures ok { OnOk result (self.new ≡ with_object self.old id queue) }
         ensures err { OnErr result (self.new ≡ self.old) }
     {
-        self.queues.push(queue)?;
-        Ok(())
+        let key = queue.perm().key;
+        bind_key(&mut self.keys, key, id)?;
+        match self.slots.try_insert(queue) {
+            Ok(_) => Ok(()),
+            Err(InsertFault::NoSlot(_)) => unreachable!(),
+            Err(InsertFault::Memory(_)) => {
+                self.keys.unbind(key);
+                Err(AllocError)
+            }
+        }
     }
 
-    /// The identifier of a slot.
-    fn id_at(&self, slot: usize) -> u32
-        requires { slot < 32768 }
-        ensures { result ≡ self.now.first_seq * 32768 + slot }
+    /// Takes out the queue of an identifier, which there is, and frees its key. It takes no memory.
+    pub fn remove(&mut self, id: u32)
+        requires { IsSome (map.get self.old.objects id) }
+        ensures { self.new ≡ without_object self.old id }
     {
-        u32::from(self.first_seq) * 32768 + slot as u32
+        let Some(queue) = self.slots.remove(id) else {
+            unreachable!()
+        };
+        self.keys.unbind(queue.perm().key);
     }
+}
+
+/// Binds the key of a new queue, unless it is 0. Memory comes where a growth was refused, and then nothing
+/// has changed.
+fn bind_key(keys: &mut Keys, key: u32, id: u32) -> Result<(), Memory>
+    requires { map.get keys.old key ≡ None }
+    ensures ok { OnOk result (keys.new ≡ with_key keys.old key id) }
+    ensures err { OnErr result (keys.new ≡ keys.old) }
+{
+    if key == 0 {
+        return Ok(());
+    }
+    keys.bind(key, id)
 }

@@ -2,7 +2,7 @@
 
 use super::{Effects, JournalRow, Space};
 use bitflags::Flags;
-use ipc_call::{Answer, Call, Limits, Outcome, Reply, Rule};
+use ipc_call::{Answer, Call, Kind, Limits, Outcome, Reply, Rule};
 use ipc_creds::{Caps, Creds};
 use std::process::Abort;
 use std::test::Fail;
@@ -25,6 +25,19 @@ fn space_with(rt: &(impl Abort + AllocGlobal), limits: Limits) -> Result<Space, 
     Ok(space)
 }
 
+fn call_at(
+    rt: &impl Abort,
+    space: &mut Space,
+    client: u32,
+    now: u64,
+    call: Call,
+) -> Result<Effects, Fail> {
+    assert!(rt; client < space.clients());
+    assert!(rt; !space.is_waiting(client));
+    let effects = space.apply(client, now, call)?;
+    Ok(effects)
+}
+
 fn call_msgget(
     rt: &impl Abort,
     space: &mut Space,
@@ -33,10 +46,15 @@ fn call_msgget(
     key: u32,
     flags: u32,
 ) -> Result<Effects, Fail> {
-    assert!(rt; client < space.clients());
-    assert!(rt; !space.is_waiting(client));
-    let effects = space.apply(client, now, Call::MsgGet { key, flags })?;
-    Ok(effects)
+    call_at(rt, space, client, now, Call::MsgGet { key, flags })
+}
+
+fn outcome_in(rt: &impl Abort, effects: Effects) -> Result<Outcome, Fail> {
+    assert_eq!(rt; effects.others.len(), 0);
+    match effects.own {
+        Some(Reply::Entered { outcome, .. }) => Ok(outcome),
+        _ => Err(Fail::from("no reply")),
+    }
 }
 
 fn outcome_of(
@@ -47,11 +65,31 @@ fn outcome_of(
     flags: u32,
 ) -> Result<Outcome, Fail> {
     let effects = call_msgget(rt, space, client, 0, key, flags)?;
-    assert_eq!(rt; effects.others.len(), 0);
-    match effects.own {
-        Some(Reply::Entered { outcome, .. }) => Ok(outcome),
-        _ => Err(Fail::from("no reply")),
-    }
+    outcome_in(rt, effects)
+}
+
+fn outcome_of_removal(
+    rt: &impl Abort,
+    space: &mut Space,
+    client: u32,
+    kind: Kind,
+    id: u32,
+) -> Result<Outcome, Fail> {
+    let effects = call_at(rt, space, client, 0, Call::IpcRmid { kind, id })?;
+    outcome_in(rt, effects)
+}
+
+#[test]
+fn a_removed_queue_is_gone(rt: HostRuntime) -> Result<(), Fail> {
+    let mut space = space_with(&rt, Limits::default())?;
+    let _ = outcome_of(&rt, &mut space, ALICE, 5, 0o1666)?;
+    let denied = outcome_of_removal(&rt, &mut space, DAVE, Kind::Queue, 0)?;
+    assert_eq!(rt; denied, Err(Rule::NotOwner));
+    let removed = outcome_of_removal(&rt, &mut space, ALICE, Kind::Queue, 0)?;
+    assert_eq!(rt; removed, Ok(Answer::Done));
+    let stale = outcome_of_removal(&rt, &mut space, ALICE, Kind::Queue, 0)?;
+    assert_eq!(rt; stale, Err(Rule::BadId));
+    Ok(())
 }
 
 #[test]

@@ -1,7 +1,5 @@
--- What the words behind a directive or a client's name say; None where they aren't in the grammar.
+-- What the words behind a directive say; None where they aren't in the grammar.
 use Rattle.std.specs.Prelude.{ℕ, List, [], ◌∷◌, length, nat_le, codes, bytes_eq, bit_or, Option, Some, None, if◌then◌else◌, option_map, option_and_then}
-use Rattle.ipc_call.specs.declared.calls.Call.{Call}
-use Rattle.ipc_call.specs.declared.calls.Call.TheVariants.{MsgGet}
 use Rattle.ipc_creds.specs.Credentials.{Credentials, cap_ipc_owner, cap_sys_admin, cap_sys_resource}
 use Rattle.ipc_call.specs.declared.limits.Limit.{Limit}
 use Rattle.ipcsh.specs.Names.{name_of}
@@ -91,15 +89,3 @@ unfoldable pub clock_of : List (List ℕ) → Option ℕ
 clock_of [] = None
 clock_of (value ∷ []) = number_64 value
 clock_of (value ∷ more ∷ others) = None
-
--- KEY FLAGS
-abbrev pub msgget_of : List (List ℕ) → Option Call
-msgget_of [] = None
-msgget_of (key ∷ []) = None
-msgget_of (key ∷ flags ∷ []) = number_32 key >>= λ k. option_map (λ f. MsgGet k f) (number_32 flags)
-msgget_of (key ∷ flags ∷ more ∷ others) = None
-
--- the call that the words behind a client's name make
-unfoldable pub call_of : List (List ℕ) → Option Call
-call_of [] = None
-call_of (word ∷ words) = if bytes_eq word (codes "msgget") then msgget_of words else None

@@ -1,3 +1,4 @@
+pub mod Calls
 pub mod Grammar
 pub mod Inputs
 pub mod Inside

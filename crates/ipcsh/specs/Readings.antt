@@ -7,7 +7,8 @@ use Rattle.ipcsh.specs.declared.readings.Reading.TheVariants as readings
 use Rattle.ipcsh.specs.declared.readings.Reason.{Reason}
 use Rattle.ipcsh.specs.declared.readings.Reason.TheVariants as reasons
 use Rattle.ipc_call.specs.declared.limits.Limit.{Limit}
-use Rattle.ipcsh.specs.Grammar.{client_of, limit_of, clock_of, call_of}
+use Rattle.ipcsh.specs.Calls.{call_of}
+use Rattle.ipcsh.specs.Grammar.{client_of, limit_of, clock_of}
 use Rattle.ipc_call.specs.Limits.{is_in_range}
 use Rattle.ipcsh.specs.Words.{words_of, is_plain}
 use Rattle.ipcsh.specs.Session.{Session, has_started, waits, client_named}

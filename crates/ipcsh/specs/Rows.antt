@@ -1,6 +1,6 @@
 -- The rows that a script prints (the project's own; the names of errors are those of errno(3)).
 use Rattle.std.specs.Prelude.{ℕ, List, [], ◌++◌, codes, decimal, Option, Some, None, Ok, Err, unwrap_or, slice_get, flat_map}
-use Rattle.ipc_call.specs.declared.replies.Answer.TheVariants.{Id}
+use Rattle.ipc_call.specs.declared.replies.Answer.TheVariants.{Id, Done}
 use Rattle.ipc_call.specs.declared.replies.Reply.{Reply}
 use Rattle.ipc_call.specs.declared.replies.Reply.TheVariants.{Entered, Memory}
 use Rattle.ipc_call.specs.declared.rules.Rule.{Rule}
@@ -28,6 +28,7 @@ rule_text rule =
 
 abbrev pub outcome_text : Outcome → List ℕ
 outcome_text (Ok (Id id)) = codes "id " ++ (decimal id ++ codes "\n")
+outcome_text (Ok Done) = codes "ok\n"
 outcome_text (Err rule) = rule_text rule
 
 -- PLACE.TURN NAME, with a space behind each

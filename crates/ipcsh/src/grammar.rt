@@ -1,8 +1,8 @@
-// What the words behind a directive or a client's name say.
+// What the words behind a directive say.
 
 ghost use Rattle.std.specs.Prelude.{◌≡◌, ◌≤◌, [], codes, option_map, vec_len, IfOk, IfSome, IsTrue};
-ghost use Rattle.ipcsh.specs.Grammar.{call_of as call_words, capability_list as capabilities_words, capability_named as capability_word, client_of as client_line, client_words as client_parts, clock_of as clock_words};
-ghost use Rattle.ipcsh.specs.Grammar.{group_list as groups_words, limit_of as limit_words, msgget_of as msgget_words, option_text as text_of_option, optional, options_of as options_words};
+ghost use Rattle.ipcsh.specs.Grammar.{capability_list as capabilities_words, capability_named as capability_word, client_of as client_line, client_words as client_parts, clock_of as clock_words};
+ghost use Rattle.ipcsh.specs.Grammar.{group_list as groups_words, limit_of as limit_words, option_text as text_of_option, optional, options_of as options_words};
 ghost use Rattle.ipc_call.specs.Limits.{is_in_range};
 ghost use Rattle.ipcsh.specs.Words.{words_of};
 
@@ -11,7 +11,7 @@ use crate::numbers::{number, number_32};
 use crate::settings::{limit_named, value_of};
 use crate::words::{split_field, split_word};
 use bitflags::Flags;
-use ipc_call::{Call, Limit};
+use ipc_call::Limit;
 use ipc_creds::{Caps, Creds, GROUPS_MAX};
 use std::alloc::{AllocError, Global};
 
@@ -177,29 +177,4 @@ pub(crate) fn clock_of(words: &[u8]) -> Option<u64>
         return None;
     }
     number(value, u64::MAX)
-}
-
-/// The call that the words make.
-#[tactic(auto, unfolding(crate::specs::Grammar::call_of))]
-pub(crate) fn call_of(words: &[u8]) -> Option<Call>
-    ensures { result ≡ call_words (words_of words.now) }
-{
-    let (word, words) = split_word(words)?;
-    match word {
-        b"msgget" => msgget_of(words),
-        _ => None,
-    }
-}
-
-fn msgget_of(words: &[u8]) -> Option<Call>
-    ensures { result ≡ msgget_words (words_of words.now) }
-{
-    let (key, words) = split_word(words)?;
-    let (flags, words) = split_word(words)?;
-    if split_word(words).is_some() {
-        return None;
-    }
-    let key = number_32(key)?;
-    let flags = number_32(flags)?;
-    Some(Call::MsgGet { key, flags })
 }

@@ -2,6 +2,7 @@
 //! row for each reply.
 #![tactic(auto)]
 
+mod calls;
 mod grammar;
 mod input;
 mod lines;

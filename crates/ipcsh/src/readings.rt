@@ -19,7 +19,8 @@ ghost use Rattle.ipcsh.specs.Readings.{
 ghost use Rattle.ipcsh.specs.Session.{client_named as client_with};
 ghost use Rattle.ipcsh.specs.Grammar.{client_of as client_in, limit_of as limit_in, clock_of as clock_in};
 
-use crate::grammar::{call_of, client_of, clock_of, limit_of};
+use crate::calls::call_of;
+use crate::grammar::{client_of, clock_of, limit_of};
 use crate::lines::Line;
 use crate::names::Name;
 use crate::session::{CLIENTS_MAX, Session};

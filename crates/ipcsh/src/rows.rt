@@ -52,6 +52,7 @@ fn print_outcome(rows: &mut String, outcome: &Outcome) -> Result<(), Memory>
 {
     match outcome {
         Ok(Answer::Id(id)) => write!(rows, "id {id}\n"),
+        Ok(Answer::Done) => rows.push_str("ok\n"),
         Err(rule) => print_rule(rows, *rule),
     }
 }

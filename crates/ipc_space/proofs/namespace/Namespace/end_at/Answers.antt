@@ -8,7 +8,7 @@ use Rattle.ipc_model.specs.Decision.{Serve}
 use Rattle.ipc_model.specs.Decide.{can_wait, decide}
 use Rattle.ipc_model.specs.Step.{ended_by, without}
 use Rattle.ipc_space.specs.Namespace.{AreParked}
-use Rattle.ipc_space.proofs.Laws.{end_at-left, goes, goes-decided, is_ready-left, refused}
+use Rattle.ipc_space.proofs.Deciding.{end_at-left, goes, goes-decided, is_ready-left, refused}
 use Rattle.ipc_space.proofs.Parked.{AreParked-remove, parked_at}
 use Rattle.ipc_space.proofs.namespace.Namespace.end_at.Goals as goal
 use Rattle.ipc_space.proofs.namespace.Namespace.end_at.Goals.{After-remove-client}

@@ -5,7 +5,7 @@ use Rattle.ipc_call.specs.declared.replies.Waiting.{Waiting}
 use Rattle.ipc_model.specs.Decide.{can_wait, decide}
 use Rattle.ipc_model.specs.State.{State}
 use Rattle.ipc_space.specs.Namespace.{AreParked}
-use Rattle.ipc_space.proofs.Laws.{goes, goes-decided, only_parkable}
+use Rattle.ipc_space.proofs.Deciding.{goes, goes-decided, only_parkable}
 use Rattle.ipc_space.proofs.Parked.{AreParked-push}
 use Rattle.ipc_space.proofs.namespace.Namespace.enter.Goals as goal
 use Rattle.ipc_space.proofs.namespace.Namespace.enter.Goals.{In_ok-push-in-Wait}

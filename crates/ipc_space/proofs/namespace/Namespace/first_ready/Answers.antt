@@ -3,8 +3,8 @@ use Rattle.std.proofs.lemmas.Option.{slice_get-get_or}
 use Rattle.ipc_model.specs.State.{State}
 use Rattle.ipc_model.specs.Step.{is_ready}
 use Rattle.ipc_space.specs.Namespace.{AreParked}
-use Rattle.ipc_space.proofs.Laws.{goes, goes-true, is_ready-decided}
-use Rattle.ipc_space.proofs.Least.{least_none, least_some}
+use Rattle.ipc_space.proofs.Deciding.{goes, goes-true, is_ready-decided}
+use Rattle.ipc_ids.proofs.Least.{least_none, least_some}
 use Rattle.ipc_space.proofs.Parked.{parked_at}
 use Rattle.ipc_space.proofs.namespace.Namespace.first_ready.Goals as goal
 

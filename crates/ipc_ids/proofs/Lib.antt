@@ -1,0 +1,10 @@
+pub mod Changes
+pub mod Entries
+pub mod Free
+pub mod Identifiers
+pub mod Ids
+pub mod Least
+pub mod Places
+pub mod Searches
+pub mod Sound
+pub mod Tables

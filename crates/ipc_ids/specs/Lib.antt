@@ -1,0 +1,4 @@
+pub mod Faults
+pub mod Lends
+pub mod Slots
+pub mod Table

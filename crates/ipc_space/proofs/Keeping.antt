@@ -1,0 +1,150 @@
+-- What no event undoes: the tables stay sound, and an identifier that was used stays used.
+use Rattle.std.proofs.Common.{◌≡◌, ℕ, zero, suc, Bool, true, false, not, cond, length, refl, sym, subst, Option, Some, None}
+use Rattle.std.specs.Prelude.{◌==◌, ◌&&◌, slice_get, option_map}
+use Rattle.std.specs.FinMap as map
+use Rattle.std.proofs.lemmas.Option.{none-some}
+use Rattle.ipc_call.specs.declared.calls.Call.{Call}
+use Rattle.ipc_call.specs.declared.calls.Call.TheVariants.{MsgGet, IpcRmid}
+use Rattle.ipc_call.specs.declared.calls.Kind.{Kind}
+use Rattle.ipc_call.specs.declared.calls.Kind.TheVariants as kinds
+use Rattle.ipc_call.specs.declared.replies.Answer.{Answer}
+use Rattle.ipc_call.specs.declared.replies.Answer.TheVariants.{Done}
+use Rattle.ipc_call.specs.declared.replies.Waiting.{Waiting}
+use Rattle.ipc_call.specs.declared.rules.Rule.{Rule}
+use Rattle.ipc_call.specs.declared.rules.Rule.TheVariants.{NoKey, KeyExists}
+use Rattle.ipc_creds.specs.Credentials.{Credentials}
+use Rattle.ipc_perm.specs.declared.perms.Perm.{Perm}
+use Rattle.ipc_perm.specs.Access.{Control, Permission, asked_of, denial}
+use Rattle.ipc_ids.specs.Table.{IsSound, WasUsed, next_id, without_object}
+use Rattle.ipc_ids.proofs.Sound.{IsSound-new, IsSound-without, WasUsed-with, WasUsed-without, next_id-fresh}
+use Rattle.ipc_model.specs.State.{Queue, State, creds_at, queue_with_key}
+use Rattle.ipc_model.specs.Decision.{Decision, Refuse, Wait, Serve, by_check, check}
+use Rattle.ipc_model.specs.Queues.{get_queue, get_found, make_queue, with_queue, new_queue, asks_to_make, asks_alone}
+use Rattle.ipc_model.specs.Controls.{perm_of, remove_found}
+use Rattle.ipc_model.specs.Decide.{decide}
+use Rattle.ipc_model.specs.Step.{Event, Moved, at_moment, end_at, end_waiting, ended_by, first_ready, settle, settle_from, settled, state_by, step, without}
+
+-- the second state may come after the first
+pub record Follows (s t : State) : Type 0 where
+  pub sound : IsSound s.queues → IsSound t.queues
+  pub used : IsSound s.queues → (id : ℕ) → WasUsed s.queues id → WasUsed t.queues id
+
+pub Follows-same : (s t : State) → t.queues ≡ s.queues → Follows s t
+Follows-same s t same = record {
+  sound = λ sound. subst (λ q. IsSound q) (sym same) sound;
+  used = λ sound id was. subst (λ q. WasUsed q id) (sym same) was;
+}
+
+pub Follows-on : (s t u : State) → Follows s t → Follows t u → Follows s u
+Follows-on s t u first second = record {
+  sound = λ sound. second.sound (first.sound sound);
+  used = λ sound id was. second.used (first.sound sound) id (first.used sound id was);
+}
+
+-- a grant leaves the calls that wait, and its state may follow
+unfoldable pub Keeps : State → Decision → Type 0
+Keeps s (Refuse rule) = Unit {0}
+Keeps s Wait = Unit {0}
+Keeps s (Serve answer new) = (new.parked ≡ s.parked) × Follows s new
+
+Keeps-if : (s : State) (b : Bool) (x y : Decision) → Keeps s x → Keeps s y → Keeps s (cond b x y)
+Keeps-if s true x y p q = p
+Keeps-if s false x y p q = q
+
+Keeps-check : (s : State) (o : Option Rule) (d : Decision) → Keeps s d → Keeps s (by_check o d)
+unfolding Keeps
+Keeps-check s None d p = p
+Keeps-check s (Some rule) d p = tt
+
+Keeps-same : (s : State) (answer : Answer) → Keeps s (Serve answer s)
+unfolding Keeps
+Keeps-same s answer = (refl, Follows-same s s refl)
+
+Keeps-with_queue : (s : State) (queue : Queue) (id : Option ℕ) → id ≡ next_id s.queues → Keeps s (with_queue s queue id)
+unfolding Keeps
+Keeps-with_queue s queue None is = tt
+Keeps-with_queue s queue (Some id) is = (
+  refl,
+  record {
+    sound = λ sound. IsSound-new s.queues sound id queue (next_id-fresh s.queues sound.few id (sym is));
+    used = λ sound j was. WasUsed-with s.queues id queue j was;
+  },
+)
+
+Keeps-make_queue : (s : State) (c : Credentials) (key flags : ℕ) → Keeps s (make_queue s c key flags)
+Keeps-make_queue s c key flags = Keeps-with_queue s (new_queue s c key flags) (next_id s.queues) refl
+
+Keeps-get_found : (s : State) (c : Credentials) (key flags : ℕ) (found : Option (ℕ × Perm)) → Keeps s (get_found s c key flags found)
+Keeps-get_found s c key flags None = Keeps-check s (check (asks_to_make flags) NoKey) _ (Keeps-make_queue s c key flags)
+Keeps-get_found s c key flags (Some found) =
+    Keeps-check s (check (not (asks_to_make flags && asks_alone flags)) KeyExists) _ (Keeps-check s (denial c (Permission found.1 (asked_of flags))) _ (Keeps-same s _))
+
+Keeps-get_queue : (s : State) (c : Credentials) (key flags : ℕ) → Keeps s (get_queue s c key flags)
+Keeps-get_queue s c key flags =
+    Keeps-if s (key == 0) _ _ (Keeps-make_queue s c 0 flags) (Keeps-get_found s c key flags (queue_with_key s key))
+
+with_perm : (o : Option Queue) (perm : Perm) → Some perm ≡ option_map (λ (queue : Queue). queue.perm) o → (queue : Queue) × (o ≡ Some queue)
+with_perm None perm is = absurd (none-some perm (sym is))
+with_perm (Some queue) perm is = (queue, refl)
+
+Keeps-removed : (s : State) (answer : Answer) (id : ℕ) (queue : Queue) → map.get s.queues.objects id ≡ Some queue → Keeps s (Serve answer (record s { queues = without_object s.queues id }))
+unfolding Keeps
+Keeps-removed s answer id queue there = (
+  refl,
+  record {
+    sound = λ sound. IsSound-without s.queues sound id queue there;
+    used = λ sound j was. WasUsed-without s.queues sound id queue there j was;
+  },
+)
+
+Keeps-remove_found : (s : State) (c : Credentials) (kind : Kind) (id : ℕ) (perm : Option Perm) → perm ≡ perm_of s kind id → Keeps s (remove_found s c kind id perm)
+unfolding Keeps
+Keeps-remove_found s c kind id None is = tt
+Keeps-remove_found s c kinds.Sems id (Some perm) is = absurd (none-some perm (sym is))
+Keeps-remove_found s c kinds.Segment id (Some perm) is = absurd (none-some perm (sym is))
+Keeps-remove_found s c kinds.Queue id (Some perm) is =
+    let there = with_perm (map.get s.queues.objects id) perm is in Keeps-check s (denial c (Control perm)) _ (Keeps-removed s Done id there.0 there.1)
+
+-- each call
+pub Keeps-decide : (s : State) (client : ℕ) (call : Call) → Keeps s (decide s client call)
+unfolding decide
+Keeps-decide s client (MsgGet key flags) = Keeps-get_queue s (creds_at s client) key flags
+Keeps-decide s client (IpcRmid kind id) = Keeps-remove_found s (creds_at s client) kind id (perm_of s kind id) refl
+
+Follows-state_by : (s : State) (client : ℕ) (call : Call) (d : Decision) → Keeps s d → Follows s (state_by s client call d)
+unfolding Keeps
+Follows-state_by s client call (Refuse rule) keeps = Follows-same s s refl
+Follows-state_by s client call Wait keeps = Follows-same s (state_by s client call Wait) refl
+Follows-state_by s client call (Serve answer new) keeps = keeps.1
+
+Follows-ended_by : (s : State) (client : ℕ) (d : Decision) → Keeps s d → Follows s (ended_by s client d).state
+unfolding Keeps
+Follows-ended_by s client (Refuse rule) keeps = Follows-same s s refl
+Follows-ended_by s client Wait keeps = Follows-same s s refl
+Follows-ended_by s client (Serve answer new) keeps = keeps.1
+
+Follows-end_waiting : (s : State) (place : ℕ) (w : Option Waiting) → Follows s (end_waiting s place w).state
+Follows-end_waiting s place None = Follows-same s s refl
+Follows-end_waiting s place (Some w) =
+    let rest = without s place in
+    Follows-on s rest (ended_by rest w.client (decide rest w.client w.call)).state (Follows-same s rest refl) (Follows-ended_by rest w.client (decide rest w.client w.call) (Keeps-decide rest w.client w.call))
+
+Follows-settle_from : (go : State → Moved) → ((t : State) → Follows t (go t).state) → (s : State) (place : Option ℕ) → Follows s (settle_from go s place).state
+Follows-settle_from go goes s None = Follows-same s s refl
+Follows-settle_from go goes s (Some place) =
+    let ended = (end_at s place).state in Follows-on s ended (go ended).state (Follows-end_waiting s place (slice_get s.parked place)) (goes ended)
+
+Follows-settle : (n : ℕ) (s : State) → Follows s (settle n s).state
+Follows-settle zero s = Follows-same s s refl
+Follows-settle (suc n) s = Follows-settle_from (settle n) (Follows-settle n) s (first_ready s)
+
+pub Follows-settled : (s : State) → Follows s (settled s).state
+Follows-settled s = Follows-settle (length s.parked) s
+
+-- the state after an event may follow the one before it
+pub Follows-step : (s : State) (e : Event) → Follows s (step s e).state
+Follows-step s e =
+    let now = at_moment s e.now in
+    let d = decide now e.client e.call in
+    let entered = state_by now e.client e.call d in
+    Follows-on s now (settled entered).state (Follows-same s now refl) (Follows-on now entered (settled entered).state (Follows-state_by now e.client e.call d (Keeps-decide now e.client e.call)) (Follows-settled entered))
