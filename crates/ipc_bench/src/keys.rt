@@ -1,0 +1,75 @@
+// Measurements of the table of keys.
+
+use crate::measuring::{BATCH, Numbers, Run, key_of};
+use ipc_ids::Keys;
+use std::alloc::{AllocError, Global};
+use std::io;
+use std::time::Instant;
+
+/// Binds the key of a number to that number.
+fn bind_number(keys: &mut Keys, number: u32) -> Result<(), AllocError> {
+    let key = key_of(number);
+    if key != 0 && keys.find(key).is_none() {
+        keys.bind(key, number)?;
+    }
+    Ok(())
+}
+
+/// The keys of so many numbers, each bound.
+fn bound(alloc: Global, size: u32) -> Result<Keys, AllocError> {
+    let mut keys = Keys::new(alloc);
+    for number in 0..size {
+        bind_number(&mut keys, number)?;
+    }
+    Ok(keys)
+}
+
+/// Looks up keys that are bound.
+pub fn find(rt: &HostRuntime, size: u32, calls: u32) -> io::Result<Run> {
+    let keys = bound(rt.alloc(), size)?;
+    let mut numbers = Numbers::new();
+    let mut run = Run::new(calls);
+    let start = Instant::now(rt)?;
+    for _ in 0..calls {
+        let id = keys.find(key_of(numbers.below(size)));
+        run.add_answer(id.unwrap_or(u32::MAX));
+    }
+    run.add_time(rt, start)?;
+    Ok(run)
+}
+
+/// Unbinds and binds again batch by batch, and counts the time of the first or of the second.
+fn unbind_and_bind(rt: &HostRuntime, size: u32, calls: u32, is_unbind: bool) -> io::Result<Run> {
+    let mut keys = bound(rt.alloc(), size)?;
+    let mut numbers = Numbers::new();
+    let mut run = Run::new(calls / BATCH * BATCH);
+    for _ in 0..calls / BATCH {
+        let first = numbers.below(size);
+        let start = Instant::now(rt)?;
+        for step in 0..BATCH {
+            keys.unbind(key_of(first.wrapping_add(step) % size.max(1)));
+        }
+        let middle = Instant::now(rt)?;
+        for step in 0..BATCH {
+            bind_number(&mut keys, first.wrapping_add(step) % size.max(1))?;
+        }
+        let end = Instant::now(rt)?;
+        if is_unbind {
+            run.add_time_between(start, middle);
+        } else {
+            run.add_time_between(middle, end);
+        }
+        run.add_answer(keys.find(key_of(first)).unwrap_or(u32::MAX));
+    }
+    Ok(run)
+}
+
+/// Unbinds keys.
+pub fn unbind(rt: &HostRuntime, size: u32, calls: u32) -> io::Result<Run> {
+    unbind_and_bind(rt, size, calls, true)
+}
+
+/// Looks keys up that aren't bound, and binds them.
+pub fn bind(rt: &HostRuntime, size: u32, calls: u32) -> io::Result<Run> {
+    unbind_and_bind(rt, size, calls, false)
+}

@@ -1,0 +1,122 @@
+// Measurements of the table of slots.
+
+use crate::measuring::{BATCH, Numbers, Run};
+use ipc_ids::{InsertFault, Slots};
+use std::alloc::AllocError;
+use std::io;
+use std::time::Instant;
+
+/// The most slots that a table has, and so the least distance of two identifiers of one slot.
+const SLOTS: u32 = 32_768;
+
+/// Puts a number into the lowest usable slot, and gives its identifier.
+fn insert_number(table: &mut Slots<u32>, number: u32) -> Result<u32, AllocError> {
+    match table.try_insert(number) {
+        Ok(id) => Ok(id),
+        Err(InsertFault::NoSlot(_) | InsertFault::Memory(_)) => Err(AllocError),
+    }
+}
+
+/// A table with so many numbers, and their identifiers by slot.
+#[derive(Debug, Drop)]
+struct Filled {
+    table: Slots<u32>,
+    ids: Vec<u32>,
+}
+
+impl Filled {
+    fn new(rt: &HostRuntime, size: u32) -> Result<Filled, AllocError> {
+        let alloc = rt.alloc();
+        let mut table = Slots::new(alloc, SLOTS, 0);
+        let mut ids = Vec::new(alloc);
+        for number in 0..size {
+            ids.push(insert_number(&mut table, number)?)?;
+        }
+        Ok(Filled { table, ids })
+    }
+
+    /// The identifier of the number in a slot.
+    fn id_of(&self, slot: u32) -> u32 {
+        self.ids.get(slot as usize).copied().unwrap_or(u32::MAX)
+    }
+
+    /// Removes so many numbers, from the slot of a first one on.
+    fn remove_batch(&mut self, first: u32, size: u32) {
+        for step in 0..BATCH {
+            let id = self.id_of(first.wrapping_add(step) % size.max(1));
+            let _ = self.table.remove(id);
+        }
+    }
+
+    /// Fills the lowest usable slots.
+    fn insert_batch(&mut self) -> Result<(), AllocError> {
+        for number in 0..BATCH {
+            let id = insert_number(&mut self.table, number)?;
+            let slot = (id % SLOTS) as usize;
+            if let Some(own) = self.ids.get_mut(slot) {
+                *own = id;
+            }
+        }
+        Ok(())
+    }
+}
+
+/// Looks up the objects of identifiers.
+pub fn get(rt: &HostRuntime, size: u32, calls: u32) -> io::Result<Run> {
+    let filled = Filled::new(rt, size)?;
+    let mut numbers = Numbers::new();
+    let mut run = Run::new(calls);
+    let start = Instant::now(rt)?;
+    for _ in 0..calls {
+        // A table that only grew has an object's slot for its identifier.
+        let object = filled.table.get(numbers.below(size));
+        run.add_answer(object.copied().unwrap_or(u32::MAX));
+    }
+    run.add_time(rt, start)?;
+    Ok(run)
+}
+
+/// Asks for the next identifier, with a batch of slots vacant.
+pub fn next_id(rt: &HostRuntime, size: u32, calls: u32) -> io::Result<Run> {
+    let mut filled = Filled::new(rt, size)?;
+    filled.remove_batch(0, size);
+    let mut run = Run::new(calls);
+    let start = Instant::now(rt)?;
+    for _ in 0..calls {
+        run.add_answer(filled.table.next_id().unwrap_or(u32::MAX));
+    }
+    run.add_time(rt, start)?;
+    Ok(run)
+}
+
+/// Removes and inserts again batch by batch, and counts the time of the first or of the second.
+fn remove_and_insert(rt: &HostRuntime, size: u32, calls: u32, is_remove: bool) -> io::Result<Run> {
+    let mut filled = Filled::new(rt, size)?;
+    let mut numbers = Numbers::new();
+    let mut run = Run::new(calls / BATCH * BATCH);
+    for _ in 0..calls / BATCH {
+        let first = numbers.below(size);
+        let start = Instant::now(rt)?;
+        filled.remove_batch(first, size);
+        let middle = Instant::now(rt)?;
+        filled.insert_batch()?;
+        let end = Instant::now(rt)?;
+        if is_remove {
+            run.add_time_between(start, middle);
+        } else {
+            run.add_time_between(middle, end);
+        }
+        run.add_answer(filled.id_of(first));
+    }
+    Ok(run)
+}
+
+/// Removes objects.
+pub fn remove(rt: &HostRuntime, size: u32, calls: u32) -> io::Result<Run> {
+    remove_and_insert(rt, size, calls, true)
+}
+
+/// Inserts objects into the lowest usable slots, which are those of objects that were removed.
+pub fn insert(rt: &HostRuntime, size: u32, calls: u32) -> io::Result<Run> {
+    remove_and_insert(rt, size, calls, false)
+}
