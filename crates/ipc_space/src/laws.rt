@@ -1,5 +1,5 @@
-//! What is true of every history of a namespace, whoever calls what in which order. Each law is a function that does
-//! nothing: what it ensures is the law.
+//! What is true of every history of a namespace, whoever calls what in which order. Each law is a function
+//! that does nothing: what it ensures is the law.
 
 ghost use Rattle.std.specs.Prelude.{◌≡◌, ◌==◌, true, [], Some, Err};
 ghost use Rattle.std.specs.List.{IsDistinct};
@@ -10,9 +10,9 @@ ghost use Rattle.ipc_model.specs.Step.{Event, Stepped, at_moment};
 ghost use Rattle.ipc_model.specs.History.{History, IsLegal, run, next_step};
 ghost use Rattle.ipc_model.specs.Made.{made};
 
-/// No identifier is given to two objects of one kind: of the objects of a kind that the events of a history made,
-/// each has another identifier than all before it. A get that finds its key makes none. That an identifier is
-/// never used again is the project's own.
+/// No identifier is given to two objects of one kind: of the objects of a kind that the events of a history
+/// made, each has another identifier than all before it. A get that finds its key makes none. That an
+/// identifier is never used again is the project's own.
 pub fn ids_once()
     ensures { (kind : KindOf) (h : History) → are_in_range h.limits ≡ true → IsLegal h → IsDistinct (λ a b. a == b) (made kind h) }
 {}

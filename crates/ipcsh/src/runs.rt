@@ -54,8 +54,9 @@ const INPUT_MAX: usize = 16_777_216;
 const PIECE: usize = 65536;
 
 /// Runs a script in the language of `docs/LANGUAGE.md`, the project's own: reads it to its end, makes
-/// its calls in one namespace, and writes a row for each reply. The rows of the lines that have come are written before more input is asked for. Nothing is
-/// read behind the end of the input, nor behind byte 16777217.
+/// its calls in one namespace, and writes a row for each reply. The rows of the lines that have come are
+/// written before more input is asked for. Nothing is read behind the end of the input, nor behind byte
+/// 16777217.
 pub fn run<R: Read, W: Write>(
     alloc: Global,
     reader: &mut R,

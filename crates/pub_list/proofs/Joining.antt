@@ -1,0 +1,107 @@
+-- A client's seat while it tries to join.
+use Rattle.std.proofs.Common.{◌≡◌, ◌≢◌, ℕ, ◌+◌, ◌<◌, ◌≤◌, List, [], ◌∷◌, length, sym, ap, ◌∙◌, subst, ⊎_elim, arith, Some}
+use mathlib.Core.Option.{none}
+use Rattle.atomic_table.specs.Table.{Me, step}
+use Rattle.atomic_table.specs.declared.shared.Seat.{Seat}
+use Rattle.pub_rule.specs.declared.walk.Walk.{Walk}
+use Rattle.pub_rule.specs.declared.walk.View.{View}
+use Rattle.pub_rule.specs.declared.walk.Role.TheVariants as roles
+use Rattle.pub_rule.specs.Lists.{IsOn, IsListOf, link_to, head_of}
+use Rattle.pub_rule.specs.Rule.{blank}
+use Rattle.pub_rule.specs.Steps.{client_of, with_list, with_stored, with_walk, failed, joined, head_loaded, head_exchanged}
+use Rattle.pub_rule.proofs.Clients.{at_most}
+use Rattle.pub_list.specs.Fresh.{IsFresh}
+use Rattle.pub_list.specs.Joined.{IsJoined, seen, told, tries}
+
+pub record Trying {T W : Type 0} (client clients head : ℕ) (seat : Seat T (View W)) : Type 0 where
+  pub role : seat.me.0.walk.role ≡ roles.Fresh client
+  pub empty : seat.me.1 ≡ []
+  pub told : told seat ≡ []
+  pub link : head ≡ link_to (seen seat)
+  pub listed : IsListOf clients (seen seat)
+  pub off : ¬ IsOn client (seen seat)
+  pub tried : tries seat ≤ length (seen seat)
+  pub small : client < clients
+
+-- so the list that it loaded has fewer than all clients
+pub fewer : {T W : Type 0} (client clients head : ℕ) (seat : Seat T (View W)) → Trying client clients head seat → tries seat < clients
+fewer client clients head seat t = let tried = t.tried in let small = t.small in
+    let all = at_most clients (client ∷ seen seat) ((t.off, t.listed.0), λ c h. ⊎_elim (λ e. omega arith) (t.listed.1 c) h) in omega arith
+
+-- the first load
+module _ {T W : Type 0} where
+  pub begins : (client clients slots word k : ℕ) (old new : Seat T (View W)) → IsFresh client old → old.table_id.slots ≡ slots → slots ≡ clients + 1
+      → head_loaded (step slots word 0 0 none) old.me k new.me → Trying client clients k new
+  begins client clients slots word k old new fresh at sized did = let was : old.me.0.walk ≡ blank (roles.Fresh client) = fresh.0 in let view : new.me.0.walk ≡ with_list did.0 old.me.0.walk = ap (λ (m : Me T (View W)). m.0.walk) did.1 in
+      let now : seen new ≡ did.0 = ap (λ (v : Walk). v.list) view in let still = λ (v : Walk). v.role in let role : old.me.0.walk.role ≡ roles.Fresh client = ap still was in let none_tried : old.me.0.walk.tries ≡ 0 = ap (λ (v : Walk). v.tries) was in
+      let small = fresh.2 in record {
+        role = ap still view ∙ role;
+        empty = ap (λ (m : Me T (View W)). m.1) did.1 ∙ fresh.1;
+        told = ap (λ (v : Walk). v.known) view ∙ ap (λ (v : Walk). v.known) was;
+        link = did.2 ∙ ap link_to (sym now);
+        listed = subst (IsListOf clients) (sym now) (subst (λ (z : ℕ). IsListOf z did.0) (omega arith) did.3.clients);
+        off = subst (λ (l : List ℕ). ¬ IsOn client l) (sym now) (did.3.unjoined client role);
+        tried = let few = ap (λ (v : Walk). v.tries) view in omega arith;
+        small = omega arith;
+      }
+
+-- one try: the seat was old, mid after the store, and is new
+module _ {T W : Type 0} (client clients slots word head number found : ℕ) (old mid new : Seat T (View W)) (t : Trying client clients head old) (sized : slots ≡ clients + 1)
+    (stored : mid.me ≡ (with_walk (with_stored head old.me.0.walk) old.me.0, old.me.1)) (did : head_exchanged (step slots word head number none) mid.me found new.me) where
+  abbrev before : mid.me.0.walk ≡ with_stored head old.me.0.walk
+  before = ap (λ (m : Me T (View W)). m.0.walk) stored
+
+  abbrev was_fresh : mid.me.0.walk.role ≡ roles.Fresh client
+  was_fresh = ap (λ (v : Walk). v.role) before ∙ t.role
+
+  pub tries_again : found ≢ head → Trying client clients found new × (tries new ≡ tries old + 1)
+  tries_again other = let went = did.1 other in let view : new.me.0.walk ≡ failed went.0 mid.me.0.walk = ap (λ (m : Me T (View W)). m.0.walk) went.1 in let now : seen new ≡ went.0 = ap (λ (v : Walk). v.list) view in
+      let count : tries new ≡ tries old + 1 = ap (λ (v : Walk). v.tries) view ∙ ap (λ (v : Walk). v.tries + 1) before in
+      let saw = went.3 in let tried = saw.tried in let size = ap length now in let same = ap (λ (v : Walk). v.tries) view in (
+        record {
+          role = ap (λ (v : Walk). v.role) view ∙ was_fresh;
+          empty = ap (λ (m : Me T (View W)). m.1) went.1 ∙ (ap (λ (m : Me T (View W)). m.1) stored ∙ t.empty);
+          told = ap (λ (v : Walk). v.known) view ∙ (ap (λ (v : Walk). v.known) before ∙ t.told);
+          link = went.2 ∙ ap link_to (sym now);
+          listed = subst (IsListOf clients) (sym now) (subst (λ (z : ℕ). IsListOf z went.0) (omega arith) saw.clients);
+          off = subst (λ (l : List ℕ). ¬ IsOn client l) (sym now) (saw.unjoined client was_fresh);
+          tried = omega arith;
+          small = t.small;
+        },
+        count,
+      )
+
+  module _ (hit : found ≡ head) where
+    abbrev view_now : new.me.0.walk ≡ joined mid.me.0.walk
+    view_now = ap (λ (m : Me T (View W)). m.0.walk) (did.0 hit).0
+
+    abbrev itself : client_of mid.me.0.walk.role ≡ client
+    itself = ap client_of was_fresh
+
+    abbrev list_now : seen new ≡ client ∷ seen old
+    list_now = ap (λ (v : Walk). v.list) view_now ∙ (ap (λ (c : ℕ). c ∷ mid.me.0.walk.list) itself ∙ ap (λ (v : Walk). client ∷ v.list) before)
+
+    abbrev listed_now : IsListOf clients (seen new)
+    listed_now = subst (IsListOf clients) (sym (ap (λ (v : Walk). v.list) view_now)) (subst (λ (z : ℕ). IsListOf z (joined mid.me.0.walk).list) (omega arith) (did.0 hit).1.clients)
+
+    pub is_joined : new.table_id.slots ≡ slots → IsJoined client new
+    is_joined at = let small = t.small in record {
+      role = ap (λ (v : Walk). v.role) view_now ∙ ap (λ (c : ℕ). roles.Joined c) itself;
+      empty = ap (λ (m : Me T (View W)). m.1) (did.0 hit).0 ∙ (ap (λ (m : Me T (View W)). m.1) stored ∙ t.empty);
+      small = omega arith;
+      listed = λ c h. let below = listed_now.1 c h in omega arith;
+      others = λ c h. absurd (subst (IsOn c) (none_told ∙ t.told) h);
+    }
+      where
+        none_told : told new ≡ told old
+        none_told = ap (λ (v : Walk). v.known) view_now ∙ ap (λ (v : Walk). v.known) before
+
+    pub knows_itself : (head_of (seen new) ≡ Some client) × IsListOf clients (seen new)
+    knows_itself = (ap head_of list_now, listed_now)
+
+    pub few_tries : (1 ≤ tries new) × (tries new ≤ clients)
+    few_tries = let tried = (did.0 hit).1.tried in let all = at_most clients (seen new) listed_now in let count : tries new ≡ mid.me.0.walk.tries + 1 = ap (λ (v : Walk). v.tries) view_now in
+        let size : length (seen new) ≡ length (joined mid.me.0.walk).list = ap (λ (v : Walk). length v.list) view_now in (omega arith, omega arith)
+
+    pub told_none : told new ≡ []
+    told_none = ap (λ (v : Walk). v.known) view_now ∙ (ap (λ (v : Walk). v.known) before ∙ t.told)

@@ -1,0 +1,13 @@
+//! A publication list: clients join it without waiting, and each walks the records of those that joined.
+//!
+//! It follows flat combining (Hendler, Incze, Shavit, Tzafrir 2010) over the rule of `pub_rule`. No call
+//! waits for another thread, and none but `List::new` takes memory.
+#![tactic(auto)]
+
+mod fresh;
+mod joined;
+mod lists;
+
+pub use fresh::Fresh;
+pub use joined::Joined;
+pub use lists::List;

@@ -1,0 +1,4 @@
+pub mod Clients
+pub mod Kept
+pub mod Numbers
+pub mod Tables

@@ -1,0 +1,82 @@
+-- The rule of the table.
+use Rattle.std.specs.Prelude.{◌≡◌, ◌⊎◌, ℕ, ◌+◌, ◌<◌, List, [], ◌∷◌, ◌++◌, map, length, slice_index, slice_set, replicate}
+use Rattle.std.proofs.Common.{ap, ◌∙◌, ⊎_elim, inl, inr, length-append, get_or-set_other}
+use mathlib.Core.Option.{Option, some}
+use lib.ListN.{get_elem?, length-map, length-replicate}
+use Rattle.atomic_table.specs.Table.{State}
+use Rattle.pub_rule.specs.declared.walk.Walk.{Walk}
+use Rattle.pub_rule.specs.declared.walk.View.{View}
+use Rattle.pub_rule.specs.declared.walk.Role.{Role}
+use Rattle.pub_rule.specs.declared.walk.Role.TheVariants.{Maker}
+use Rattle.pub_rule.specs.declared.served.Slot.{Slot}
+use Rattle.pub_rule.specs.declared.served.Slot.TheVariants as slots
+use Rattle.pub_rule.specs.Words.{head_word, next_word}
+use Rattle.pub_rule.specs.Walk.{Walks}
+
+-- the words that the list uses
+abbrev pub IsListWord : ℕ → ℕ → Type 0
+IsListWord n i = (i ≡ head_word) ⊎ ((q : ℕ) × (q < n) × (i ≡ next_word q))
+
+-- the half of a view that is about the list, and the other
+abbrev pub walk_of : {W : Type 0} → View W → Walk
+walk_of v = v.walk
+
+abbrev pub work_of : {W : Type 0} → View W → W
+work_of v = v.work
+
+module _ {T W : Type 0} where
+  module _ (n : ℕ) (serves : List ℕ → List (Option T) → List W → Type 0) where
+    -- what the words of the list are doesn't matter to it
+    abbrev pub IsDeaf : Type 0
+    IsDeaf = (words : List ℕ) (homes : List (Option T)) (works : List W) (i x : ℕ) → IsListWord n i → serves words homes works → serves (slice_set words i x) homes works
+
+    -- there is a slot for each client and one more
+    abbrev pub IsDeep : Type 0
+    IsDeep = (words : List ℕ) (homes : List (Option T)) (works : List W) → serves words homes works → length homes ≡ n + 1
+
+    -- it lets a seat be split
+    abbrev pub LetsSplit : ℕ → W → W → W → Type 0
+    LetsSplit id v left right = (words : List ℕ) (homes : List (Option T)) (works : List W) → serves words homes works → get_elem? works id ≡ some v → serves words homes (slice_set works id left ++ right ∷ [])
+
+    -- it lets two seats be merged
+    abbrev pub LetsMerge : ℕ → W → ℕ → W → W → W → Type 0
+    LetsMerge id v other w both spent = (words : List ℕ) (homes : List (Option T)) (works : List W) → serves words homes works → get_elem? works id ≡ some v → ¬ (other ≡ id) → get_elem? (slice_set works id both) other ≡ some w
+        → serves words homes (slice_set (slice_set works id both) other spent)
+
+    -- The rule: the list is as it must be, and so is what is served
+    pub record Ruled (s : State T (View W)) : Type 0 where
+      pub walks : Walks n s.words (map walk_of s.views)
+      pub works : serves s.words s.homes (map work_of s.views)
+
+-- the slots of n clients, which are empty, and that of the state
+abbrev pub slots_of : {C R S : Type 0} → ℕ → S → List (Slot C R S)
+slots_of n state = replicate n slots.Empty ++ slots.State state ∷ []
+
+-- nobody is served: each word but those of the list is 0, each slot is at home, and the state has no event
+pub record AtRest {E C R S : Type 0} (history : S → List E) (n : ℕ) (words : List ℕ) (homes : List (Option (Slot C R S))) : Type 0 where
+  pub state : S
+  pub new : history state ≡ []
+  pub at_home : homes ≡ map some (slots_of n state)
+  pub zero : (i : ℕ) → ¬ IsListWord n i → slice_index words i ≡ 0
+
+module _ {E C R S : Type 0} (history : S → List E) (n : ℕ) (words : List ℕ) (homes : List (Option (Slot C R S))) where
+  pub deaf_at_rest : (works : List (Unit {0})) (i x : ℕ) → IsListWord n i → AtRest history n words homes → AtRest history n (slice_set words i x) homes
+  deaf_at_rest works i x listed r = record {
+    state = r.state;
+    new = r.new;
+    at_home = r.at_home;
+    zero = λ k other. get_or-set_other words i k x 0 (λ same. other (⊎_elim (λ e. inl (same ∙ e)) (λ t. inr (t.0, t.1, same ∙ t.2)) listed)) ∙ r.zero k other;
+  }
+
+  pub deep_at_rest : (works : List (Unit {0})) → AtRest history n words homes → length homes ≡ n + 1
+  deep_at_rest works r = ap length r.at_home ∙ (length-map (slots_of n r.state) (λ (x : Slot C R S). some x) ∙ (length-append (replicate n slots.Empty) (slots.State r.state ∷ []) ∙ ap (λ (k : ℕ). k + 1) (length-replicate n slots.Empty)))
+
+-- a view of the list that knows nothing but its role
+abbrev pub blank : Role → Walk
+blank role = record { role = role; list = []; known = []; stored = 0; tries = 0 }
+
+abbrev pub opening_walk : Walk
+opening_walk = blank (Maker 0)
+
+abbrev pub opening_view : {W : Type 0} → W → View W
+opening_view w = record { walk = opening_walk; work = w }

@@ -1,0 +1,19 @@
+//! The rule of a publication list: what holds of its words, its slots and its clients' views between any two
+//! steps.
+//!
+//! It follows flat combining (Hendler, Incze, Shavit, Tzafrir 2010): each client has a publication record of
+//! its own, and the records of those that joined form a list from one head word.
+#![tactic(auto)]
+
+pub mod laws;
+mod rule;
+mod served;
+mod steps;
+mod walk;
+mod words;
+
+pub use rule::{Half, Listed, Resting};
+pub use served::{Served, Slot};
+pub use steps::{ExchangeHead, LoadHead, LoadNext, MergeToken, SplitClient, SplitToken, StoreNext};
+pub use walk::{Role, View, Walk};
+pub use words::{head_word, lock_word, next_word, state_word, word_count};

@@ -1,0 +1,59 @@
+//! The rule of the table, in two halves: that of the list, and one beside it.
+ghost use Rattle.std.specs.Prelude.{ℕ, List};
+ghost use mathlib.Core.Option.{Option};
+ghost use Rattle.pub_rule.specs.Rule.{IsDeaf, IsDeep};
+
+use crate::served::{Served, Slot};
+use crate::walk::View;
+use atomic_table::TableRule;
+use std::marker::PhantomData;
+
+/// The half of a rule that speaks of what is served: of the words that aren't the list's, of what lies in the
+/// slots, and of what seats know of it. The laws of the list hold beside any such half. It is the project's
+/// own.
+pub trait Half<T, W> {
+    // what it says for so many clients of the words, of the slots at home and of what the seats know
+    ghost serves: { ℕ → List ℕ → List (Option T) → List W → Type 0 };
+
+    // what the first seat knows
+    ghost first: { W };
+
+    // it doesn't look at the words of the list
+    ghost deaf: { (n : ℕ) → IsDeaf n (serves n) };
+
+    // there is a slot for each client and one more
+    ghost deep: { (n : ℕ) → IsDeep n (serves n) };
+}
+
+/// The rule of a publication list beside the half `P`; its key is the number of clients. From the head word
+/// the next words give a list of distinct clients, exactly those that joined (flat combining: Hendler, Incze,
+/// Shavit, Tzafrir 2010).
+pub struct Listed<P> {
+    half: PhantomData<P>,
+}
+
+impl<T, W, P: Half<T, W>> TableRule<T, View<W>, u64> for Listed<P> {
+    ghost use Rattle.pub_rule.specs.Rule.{Ruled, opening_view};
+
+    ghost holds = { λ n. Ruled n (P.serves n) };
+
+    ghost first = { λ n. opening_view P.first };
+}
+
+/// Nobody is served: each word but the list's is 0, each client's slot is empty, and the state has no event.
+/// It is the project's own.
+pub struct Resting<S> {
+    served: PhantomData<S>,
+}
+
+impl<S: Served> Half<Slot<S::Call, S::Reply, S>, ()> for Resting<S> {
+    ghost use Rattle.pub_rule.specs.Rule.{AtRest, deaf_at_rest, deep_at_rest};
+
+    ghost serves = { λ n words homes works. AtRest S.history n words homes };
+
+    ghost first = { tt };
+
+    ghost deaf = { deaf_at_rest S.history };
+
+    ghost deep = { deep_at_rest S.history };
+}
