@@ -3,11 +3,13 @@
 #![tactic(auto)]
 
 mod calls;
+mod items;
 mod limits;
 mod replies;
 mod rules;
 
 pub use calls::{Call, IPC_CREAT, IPC_EXCL, Kind};
+pub use items::Items;
 pub use limits::{Limit, Limits};
 pub use replies::{Answer, Ended, JournalRow, Memory, Outcome, Reply, Waiting};
 pub use rules::{Rule, errno, error_name, rule_name};

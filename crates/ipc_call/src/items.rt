@@ -1,0 +1,93 @@
+// A list that a call carries.
+
+ghost use Rattle.std.specs.Prelude.{◌≡◌, IfOk, length};
+
+use crate::replies::Memory;
+use std::marker::Model;
+
+/// A list of plain values that a call or an answer carries: the bytes of a text, operations, groups.
+/// Two of them are equal where their lists are. The type is the project's own.
+#[derive(Debug, Drop)]
+pub struct Items<T> {
+    items: Vec<T>,
+}
+
+impl<T> Model for Items<T> {
+    ghost use Rattle.std.specs.Prelude.{List};
+
+    ghost Value = { List T };
+
+    ghost view = { λ list. list.items.items };
+}
+
+impl<T> Items<T> {
+    /// The list of the vector's elements, in their order.
+    pub fn new(items: Vec<T>) -> Items<T>
+        ensures { result ≡ items.items }
+    {
+        Items { items }
+    }
+
+    /// The elements in a vector, in their order.
+    pub fn into_vec(self) -> Vec<T>
+        ensures { result.items ≡ self }
+    {
+        self.items
+    }
+
+    /// The elements in their order.
+    pub fn as_slice(&self) -> &[T]
+        ensures { result.now ≡ self.now }
+    {
+        self.items.as_slice()
+    }
+
+    /// How many elements there are.
+    pub fn len(&self) -> usize
+        ensures { result ≡ length self.now }
+    {
+        self.items.len()
+    }
+}
+
+impl<T: Copy> Items<T> {
+    /// A copy of the list. Memory comes only where a growth was refused.
+    pub fn copy(&self) -> Result<Items<T>, Memory>
+        ensures { IfOk result (λ copied. copied ≡ self.now) }
+    {
+        let alloc = *self.items.allocator();
+        Ok(Items::new(Vec::from_slice(alloc, self.items.as_slice())?))
+    }
+}
+
+impl<T: PartialEq> PartialEq for Items<T> {
+    ghost use Rattle.std.specs.Cmp.Lexicographic.{pointwise, lists_per};
+
+    ghost eq = { λ x y. pointwise T.eq x y };
+
+    ghost laws = { lists_per T.laws };
+
+    fn eq(&self, other: &Items<T>) -> bool {
+        self.items == other.items
+    }
+}
+
+#[cfg(test)]
+mod tests {
+    use super::*;
+    use std::test::Fail;
+
+    #[test]
+    fn a_copy_equals_its_source_alone(rt: HostRuntime) -> Result<(), Fail> {
+        let text = Items::new(vec![in rt.alloc(); 104u8, 0, 255]?);
+        let copied = text.copy()?;
+        assert!(rt; copied == text);
+        assert_eq!(rt; copied.len(), 3);
+        assert_eq!(rt; copied.as_slice(), [104, 0, 255].as_slice());
+        assert!(rt; copied != Items::new(vec![in rt.alloc(); 104u8, 0]?));
+        assert!(rt; copied != Items::new(vec![in rt.alloc(); 104u8, 0, 254]?));
+        let bytes = copied.into_vec();
+        assert_eq!(rt; bytes.as_slice(), [104, 0, 255].as_slice());
+        Ok(())
+    }
+}

@@ -1,0 +1,4 @@
+mod Chosen
+mod Places
+mod Room
+mod Selection

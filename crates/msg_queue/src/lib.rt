@@ -1,0 +1,11 @@
+//! A message queue: its messages in their order, which of them a receiver takes, and whether
+//! there is room for another (msgop(2), msgctl(2)).
+#![tactic(auto)]
+
+mod messages;
+mod queues;
+#[cfg(test)]
+mod tests;
+
+pub use messages::Message;
+pub use queues::Queue;
