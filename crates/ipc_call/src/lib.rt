@@ -11,5 +11,7 @@ mod rules;
 pub use calls::{Call, IPC_CREAT, IPC_EXCL, Kind};
 pub use items::Items;
 pub use limits::{Limit, Limits};
-pub use replies::{Answer, Ended, JournalRow, Memory, Outcome, Reply, Waiting};
+pub use replies::{
+    Answer, Ended, JournalRow, Memory, Outcome, QueueStatus, Reply, Status, Waiting,
+};
 pub use rules::{Rule, errno, error_name, rule_name};

@@ -7,6 +7,41 @@ use std::alloc::AllocError;
 /// Memory was refused (ENOMEM 12). It is no rule: what answers it has changed nothing.
 pub type Memory = AllocError;
 
+/// The state of a queue (msqid_ds of msgctl(2)).
+#[derive(Clone, Copy, Debug, PartialEq, Eq)]
+pub struct QueueStatus {
+    pub key: u32,
+    pub uid: u32,
+    pub gid: u32,
+    pub cuid: u32,
+    pub cgid: u32,
+    /// The nine bits.
+    pub mode: u16,
+    /// The bytes of the texts of all messages.
+    pub cbytes: u64,
+    /// How many messages there are.
+    pub qnum: u64,
+    /// The most bytes that the queue may hold.
+    pub qbytes: u64,
+    /// The process that sent last, the number of its client plus 1, and 0 where none did.
+    pub lspid: u32,
+    /// The process that received last.
+    pub lrpid: u32,
+    /// When a client sent last, in seconds, 0 where none did.
+    pub stime: u64,
+    /// When a client received last.
+    pub rtime: u64,
+    /// When the queue was made or set last.
+    pub ctime: u64,
+}
+
+/// The state of an object, by its kind (msgctl(2)).
+#[derive(Clone, Copy, Debug, PartialEq, Eq)]
+pub enum Status {
+    /// Of a message queue.
+    Queue(QueueStatus),
+}
+
 /// What a served call gives (the return values of msgget(2) and msgctl(2)).
 #[derive(Debug, Drop, PartialEq)]
 pub enum Answer {

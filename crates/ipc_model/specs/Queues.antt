@@ -21,6 +21,7 @@ asks_alone flags = not (bit_and flags 1024 == 0)
 abbrev pub new_queue : State → Credentials → ℕ → ℕ → Queue
 new_queue s c key flags = record {
   perm = record { key = key; uid = c.euid; gid = c.egid; cuid = c.euid; cgid = c.egid; mode = flags % 512 };
+  messages = [];
   qbytes = s.limits.msg_mnb;
   last_sender = 0;
   last_receiver = 0;

@@ -6,10 +6,13 @@ use Rattle.ipc_call.specs.declared.replies.Waiting.{Waiting}
 use Rattle.ipc_creds.specs.Credentials.{Credentials}
 use Rattle.ipc_perm.specs.declared.perms.Perm.{Perm}
 use Rattle.ipc_ids.specs.Table.{Table, empty_table, find_object}
+use Rattle.msg_queue.specs.declared.messages.Message.{Message}
 
--- a message queue, its msqid_ds (msgctl(2)): permissions, msg_qbytes, msg_lspid and msg_lrpid, msg_stime, msg_rtime and msg_ctime
+-- a message queue, its msqid_ds (msgctl(2)): permissions, messages, msg_qbytes, msg_lspid and msg_lrpid, msg_stime, msg_rtime
+-- and msg_ctime
 pub record Queue : Type 0 where
   pub perm : Perm
+  pub messages : List Message
   pub qbytes : ℕ
   pub last_sender : ℕ
   pub last_receiver : ℕ

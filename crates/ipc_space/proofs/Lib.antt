@@ -1,7 +1,6 @@
 pub mod Deciding
 pub mod Histories
 pub mod Keeping
-pub mod Keyed
 pub mod Naming
 pub mod Parked
 pub mod Quiet

@@ -8,7 +8,6 @@ mod journal;
 pub mod laws;
 mod message_calls;
 mod namespace;
-mod queues;
 mod spaces;
 
 pub use ipc_call::JournalRow;

@@ -9,8 +9,8 @@ ghost use Rattle.ipc_space.specs.Decisions.{decided};
 
 use crate::decisions::Decided;
 use crate::namespace::Namespace;
-use crate::queues::Queue;
 use ipc_call::{Answer, IPC_CREAT, IPC_EXCL, Memory, Rule};
+use ipc_control::Queue;
 use ipc_creds::Creds;
 use ipc_perm::{Mode, Perm, Verdict, asked_of_flags, decide};
 
@@ -112,7 +112,7 @@ impl Namespace {
             cgid: creds.egid(),
             mode: Mode::from_low_bits(flags),
         };
-        Queue::new(perm, self.limits.msg_mnb, self.clock)
+        Queue::new(self.alloc(), perm, self.limits.msg_mnb, self.clock)
     }
 }
 

@@ -40,8 +40,8 @@ ghost use Rattle.ipc_model.specs.Step.{
 ghost use Rattle.ipc_space.specs.Decisions.{decided};
 
 use crate::decisions::{Decided, can_wait};
-use crate::queues::Queues;
 use ipc_call::{Answer, Call, Ended, Limits, Memory, Outcome, Waiting};
+use ipc_control::Queues;
 use ipc_creds::Creds;
 use std::alloc::Global;
 use std::marker::Model;

@@ -8,26 +8,29 @@ ghost use Rattle.std.specs.Prelude.{
   OnOk,
   OnErr,
   IsSome,
+  IfSome,
+  [],
   option_map,
 };
 ghost use Rattle.std.specs.FinMap as map;
 ghost use Rattle.ipc_ids.specs.Table.{empty_table, find_object, next_id as id_of_next, with_object, without_object};
 ghost use Rattle.ipc_model.specs.State.{has_key};
-ghost use Rattle.ipc_space.specs.Queues.{with_key};
+ghost use Rattle.ipc_model.specs.Controls.{status_of_queue, with_settings};
+ghost use Rattle.ipc_control.specs.Queues.{with_key};
 
-use ipc_call::Memory;
+use ipc_call::{Memory, QueueStatus, Status};
 use ipc_ids::{InsertFault, Keys, Slots};
-use ipc_perm::Perm;
+use ipc_perm::{Mode, Perm};
+use msg_queue::Queue as Messages;
 use std::alloc::{AllocError, Global};
 use std::marker::Model;
 
-/// A message queue, its msqid_ds (msgctl(2)).
+/// A message queue, its msqid_ds (msgctl(2)), with its messages.
 #[derive(Debug, Drop)]
 pub struct Queue {
     perm: Perm,
-    /// The bytes that it may hold.
-    qbytes: u32,
-    /// The client that sent last and that received last, 0 for none.
+    messages: Messages,
+    /// The process that sent last and that received last, 0 for none.
     last_sender: u32,
     last_receiver: u32,
     /// When a client sent last, received last and changed it last, in seconds, 0 for never.
@@ -37,13 +40,15 @@ pub struct Queue {
 }
 
 impl Model for Queue {
+    ghost use Rattle.msg_queue.specs.Queues.{contents};
     ghost use Rattle.ipc_model.specs.State.{Queue as QueueValue};
 
     ghost Value = { QueueValue };
 
     ghost view = { λ q. record {
       perm = q.perm;
-      qbytes = q.qbytes;
+      messages = contents q.messages;
+      qbytes = q.messages.qbytes;
       last_sender = q.last_sender;
       last_receiver = q.last_receiver;
       send_time = q.send_time;
@@ -53,10 +58,11 @@ impl Model for Queue {
 }
 
 impl Queue {
-    /// A queue that was made now, in seconds, and holds at most so many bytes.
-    pub fn new(perm: Perm, qbytes: u32, now: u64) -> Queue
+    /// A queue without messages that was made now, in seconds, and holds at most so many bytes.
+    pub fn new(alloc: Global, perm: Perm, qbytes: u32, now: u64) -> Queue
         ensures { result ≡ record {
           perm = perm;
+          messages = [];
           qbytes = qbytes;
           last_sender = 0;
           last_receiver = 0;
@@ -67,7 +73,7 @@ impl Queue {
     {
         Queue {
             perm,
-            qbytes,
+            messages: Messages::new(alloc, u64::from(qbytes)),
             last_sender: 0,
             last_receiver: 0,
             send_time: 0,
@@ -77,10 +83,46 @@ impl Queue {
     }
 
     /// Its ipc_perm.
-    fn perm(&self) -> Perm
+    pub fn perm(&self) -> Perm
         ensures { result ≡ self.now.perm }
     {
         self.perm
+    }
+
+    /// Its state, as IPC_STAT tells it (msgctl(2)).
+    pub fn status(&self) -> Status
+        ensures { result ≡ status_of_queue self.now }
+    {
+        Status::Queue(QueueStatus {
+            key: self.perm.key,
+            uid: self.perm.uid,
+            gid: self.perm.gid,
+            cuid: self.perm.cuid,
+            cgid: self.perm.cgid,
+            mode: self.perm.mode.bits(),
+            cbytes: self.messages.bytes(),
+            qnum: self.messages.count() as u64,
+            qbytes: self.messages.qbytes(),
+            lspid: self.last_sender,
+            lrpid: self.last_receiver,
+            stime: self.send_time,
+            rtime: self.receive_time,
+            ctime: self.change_time,
+        })
+    }
+
+    /// Sets its owner, the low nine bits of its mode, and its msg_qbytes where that is given, at a moment in
+    /// seconds (IPC_SET of msgctl(2)). Key, creator, messages and the other times stay.
+    pub fn set(&mut self, uid: u32, gid: u32, mode: u32, qbytes: Option<u64>, now: u64)
+        ensures { self.new ≡ with_settings self.old now uid gid mode qbytes }
+    {
+        self.perm.uid = uid;
+        self.perm.gid = gid;
+        self.perm.mode = Mode::from_low_bits(mode);
+        if let Some(qbytes) = qbytes {
+            self.messages.set_qbytes(qbytes);
+        }
+        self.change_time = now;
     }
 }
 
@@ -96,7 +138,7 @@ impl Model for Queues {
     ghost use Rattle.std.specs.Coded.{codes};
     ghost use Rattle.ipc_model.specs.State.{Queue as QueueValue};
     ghost use Rattle.ipc_ids.specs.Table.{Table};
-    ghost use Rattle.ipc_space.specs.Queues.{AreKeyed};
+    ghost use Rattle.ipc_control.specs.Queues.{AreKeyed};
 
     ghost Value = { Table QueueValue };
 
@@ -136,6 +178,14 @@ impl Queues {
         Some(queue.perm())
     }
 
+    /// The state of the queue of an identifier (IPC_STAT of msgctl(2)).
+    pub fn status(&self, id: u32) -> Option<Status>
+        ensures { result ≡ option_map (λ queue. status_of_queue queue) (map.get self.now.objects id) }
+    {
+        let queue = self.slots.get(id)?;
+        Some(queue.status())
+    }
+
     /// The identifier of the next new queue, None where each slot holds one or is retired.
     pub fn next_id(&self) -> Option<u32>
         ensures { result ≡ id_of_next self.now }
@@ -161,6 +211,19 @@ impl Queues {
                 Err(AllocError)
             }
         }
+    }
+
+    /// Sets the owner, the mode and the msg_qbytes of the queue of an identifier, which there is, at a moment
+    /// in seconds (IPC_SET of msgctl(2)). It takes no memory.
+    pub fn set(&mut self, id: u32, uid: u32, gid: u32, mode: u32, qbytes: Option<u64>, now: u64)
+        requires { IsSome (map.get self.old.objects id) }
+        ensures { IfSome (map.get self.old.objects id)
+            (λ queue. self.new ≡ with_object self.old id (with_settings queue now uid gid mode qbytes)) }
+    {
+        let Some(queue) = self.slots.get_mut(id) else {
+            unreachable!()
+        };
+        queue.set(uid, gid, mode, qbytes, now);
     }
 
     /// Takes out the queue of an identifier, which there is, and frees its key. It takes no memory.

@@ -3,9 +3,9 @@ use Rattle.std.specs.FinMap as map
 use Rattle.ipc_perm.specs.declared.perms.Perm.{Perm}
 use Rattle.ipc_ids.specs.Table.{Table, without_object}
 use Rattle.ipc_model.specs.State.{Queue}
-use Rattle.ipc_space.specs.Queues.{AreKeyed}
-use Rattle.ipc_space.proofs.Keyed.{AreKeyed-gone}
-use Rattle.ipc_space.proofs.queues.Queues.remove.Goals as goal
+use Rattle.ipc_control.specs.Queues.{AreKeyed}
+use Rattle.ipc_control.proofs.Keyed.{AreKeyed-gone}
+use Rattle.ipc_control.proofs.queues.Queues.remove.Goals as goal
 
 pub invariant_of-self : goal.invariant_of-self
 invariant_of-self c =

@@ -4,8 +4,8 @@ use Rattle.std.specs.FinMap as map
 use Rattle.ipc_perm.specs.declared.perms.Perm.{Perm}
 use Rattle.ipc_ids.specs.Table.{Table, find_object}
 use Rattle.ipc_model.specs.State.{Queue, has_key}
-use Rattle.ipc_space.proofs.Keyed.{found-none, found-some}
-use Rattle.ipc_space.proofs.queues.Queues.find.Goals as goal
+use Rattle.ipc_control.proofs.Keyed.{found-none, found-some}
+use Rattle.ipc_control.proofs.queues.Queues.find.Goals as goal
 
 pub returns-in_err-id : goal.returns-in_err-id
 returns-in_err-id c =

@@ -6,9 +6,9 @@ use Rattle.std.proofs.lemmas.Option.{same_Some}
 use Rattle.ipc_ids.specs.Table.{Table, find_object, next_id, with_object}
 use Rattle.ipc_ids.proofs.Sound.{IsFresh, next_id-fresh}
 use Rattle.ipc_model.specs.State.{Queue, has_key}
-use Rattle.ipc_space.specs.Queues.{AreKeyed, with_key}
-use Rattle.ipc_space.proofs.Keyed.{AreKeyed-new, unbound-again, unbound-where}
-use Rattle.ipc_space.proofs.queues.Queues.insert.Goals as goal
+use Rattle.ipc_control.specs.Queues.{AreKeyed, with_key}
+use Rattle.ipc_control.proofs.Keyed.{AreKeyed-new, unbound-again, unbound-where}
+use Rattle.ipc_control.proofs.queues.Queues.insert.Goals as goal
 
 -- of a sound table that is the one before the call: the key is free, and the identifier fresh
 module _ (queues now : Table Queue) (keys : map.FinMap nat_cmp ℕ) (are : AreKeyed queues keys) (same : queues ≡ now) where

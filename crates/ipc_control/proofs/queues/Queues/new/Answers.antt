@@ -1,9 +1,9 @@
 use Rattle.std.proofs.Common.{sym, subst}
 use Rattle.ipc_ids.specs.Table.{Table, empty_table}
 use Rattle.ipc_model.specs.State.{Queue}
-use Rattle.ipc_space.specs.Queues.{AreKeyed}
-use Rattle.ipc_space.proofs.Keyed.{AreKeyed-empty}
-use Rattle.ipc_space.proofs.queues.Queues.new.Goals as goal
+use Rattle.ipc_control.specs.Queues.{AreKeyed}
+use Rattle.ipc_control.proofs.Keyed.{AreKeyed-empty}
+use Rattle.ipc_control.proofs.queues.Queues.new.Goals as goal
 
 pub invariant_of-result : goal.invariant_of-result
 invariant_of-result c =

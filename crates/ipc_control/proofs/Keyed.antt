@@ -9,9 +9,9 @@ use Rattle.std.proofs.lemmas.Option.{none-some, same_Some}
 use Rattle.ipc_perm.specs.declared.perms.Perm.{Perm}
 use Rattle.ipc_ids.specs.Table.{Table, empty_table, find_object, with_object, without_object}
 use Rattle.ipc_ids.proofs.Searches.{find_object-none, find_object-some}
-use Rattle.ipc_ids.proofs.Sound.{IsFresh, IsSound-empty, IsSound-new, IsSound-without, get-insert-other, get-insert-same, get-remove-other, get-remove-same}
+use Rattle.ipc_ids.proofs.Sound.{IsFresh, IsSound-change, IsSound-empty, IsSound-new, IsSound-without, get-insert-other, get-insert-same, get-remove-other, get-remove-same}
 use Rattle.ipc_model.specs.State.{Queue, has_key}
-use Rattle.ipc_space.specs.Queues.{AreKeyed, with_key}
+use Rattle.ipc_control.specs.Queues.{AreKeyed, with_key}
 
 has_key-from : (key : ℕ) (queue : Queue) → (key ≡ 0 → ⊥) → queue.perm.key ≡ key → has_key key queue ≡ true
 has_key-from key queue nonzero same = rw (ne_eqb key 0 nonzero) (eq-eqb queue.perm.key key same)
@@ -136,6 +136,28 @@ module _ (queues : Table Queue) (keys : map.FinMap nat_cmp ℕ) (are : AreKeyed 
       (λ (zero : queue.perm.key ≡ 0). rw (eq-eqb queue.perm.key 0 zero) (AreKeyed-private id queue fresh zero))
       (λ (nonzero : queue.perm.key ≡ 0 → ⊥). rw (ne_eqb queue.perm.key 0 nonzero) (AreKeyed-bound id queue fresh nonzero free))
       (cases_eq queue.perm.key 0)
+
+  -- a queue that changes, and keeps its key
+  pub AreKeyed-changed : (id : ℕ) (old new : Queue) → map.get queues.objects id ≡ Some old → new.perm.key ≡ old.perm.key → AreKeyed (with_object queues id new) keys
+  AreKeyed-changed id old new there same_key = record {
+    sound = IsSound-change queues are.sound id new old there;
+    private = are.private;
+    bound = λ k j is.
+      let held = are.bound k j is in
+      ⊎_elim
+      (λ (same : j ≡ id).
+        let at : old ≡ held.0 = same_Some old held.0 (sym there ∙ ap (λ n. map.get queues.objects n) (sym same) ∙ held.1) in
+        (new, ap (λ n. map.get (map.insert queues.objects id new) n) same ∙ get-insert-same queues.objects id new, same_key ∙ ap (λ (q : Queue). q.perm.key) at ∙ held.2))
+      (λ (ne : j ≡ id → ⊥). (held.0, get-insert-other queues.objects id new j ne ∙ held.1, held.2))
+      (cases_eq j id);
+    keyed = λ j other is has. ⊎_elim
+      (λ (same : j ≡ id).
+        let at : new ≡ other = same_Some new other (sym (get-insert-same queues.objects id new) ∙ ap (λ n. map.get (map.insert queues.objects id new) n) (sym same) ∙ is) in
+        let key : other.perm.key ≡ old.perm.key = ap (λ (q : Queue). q.perm.key) (sym at) ∙ same_key in
+        ap (λ n. map.get keys n) key ∙ are.keyed id old there (λ zero. has (key ∙ zero)) ∙ ap (λ (n : ℕ). Some n) (sym same))
+      (λ (ne : j ≡ id → ⊥). are.keyed j other (sym (get-insert-other queues.objects id new j ne) ∙ is) has)
+      (cases_eq j id);
+  }
 
   -- a queue that leaves
   pub AreKeyed-gone : (id : ℕ) (queue : Queue) → map.get queues.objects id ≡ Some queue → AreKeyed (without_object queues id) (map.remove keys queue.perm.key)
