@@ -28,10 +28,32 @@ pub enum Call {
     /// The queue of a key (msgget(2)). Key 0 is IPC_PRIVATE and makes a new queue each time. Of the
     /// flags, `IPC_CREAT` and `IPC_EXCL` are known, the low nine bits are the mode of a new queue,
     /// and of a queue that is there they ask for read (0444) and alter (0222).
-    MsgGet { key: u32, flags: u32 },
+    MsgGet {
+        key: u32,
+        flags: u32,
+    },
+    /// Tells the state of the object of an identifier (IPC_STAT of msgctl(2)).
+    IpcStat {
+        kind: Kind,
+        id: u32,
+    },
+    /// Sets the owner and the mode of the object of an identifier, and where it is given the `msg_qbytes` of
+    /// a queue, for its owner, its creator or CAP_SYS_ADMIN (IPC_SET of msgctl(2)). Of the mode the low nine
+    /// bits count. That `msg_qbytes` may be left as it is, is the project's own.
+    IpcSet {
+        kind: Kind,
+        id: u32,
+        uid: u32,
+        gid: u32,
+        mode: u32,
+        qbytes: Option<u64>,
+    },
     /// Removes the object of an identifier, for its owner, its creator or CAP_SYS_ADMIN (IPC_RMID of
     /// msgctl(2), semctl(2) and shmctl(2)).
-    IpcRmid { kind: Kind, id: u32 },
+    IpcRmid {
+        kind: Kind,
+        id: u32,
+    },
 }
 
 impl Call {
@@ -43,6 +65,25 @@ impl Call {
             Call::MsgGet { key, flags } => Ok(Call::MsgGet {
                 key: *key,
                 flags: *flags,
+            }),
+            Call::IpcStat { kind, id } => Ok(Call::IpcStat {
+                kind: *kind,
+                id: *id,
+            }),
+            Call::IpcSet {
+                kind,
+                id,
+                uid,
+                gid,
+                mode,
+                qbytes,
+            } => Ok(Call::IpcSet {
+                kind: *kind,
+                id: *id,
+                uid: *uid,
+                gid: *gid,
+                mode: *mode,
+                qbytes: *qbytes,
             }),
             Call::IpcRmid { kind, id } => Ok(Call::IpcRmid {
                 kind: *kind,

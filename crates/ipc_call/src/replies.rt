@@ -49,6 +49,8 @@ pub enum Answer {
     Id(u32),
     /// The call was carried out, and there is nothing to tell.
     Done,
+    /// The state of an object.
+    Status(Status),
 }
 
 /// How a call ended: served with an answer, or refused by a rule.

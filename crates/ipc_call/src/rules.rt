@@ -9,6 +9,8 @@ ghost use Rattle.ipc_call.specs.Rules.{number_of, name_of_error, name_of_rule};
 pub enum Rule {
     /// The caller neither owns nor made the object and lacks CAP_SYS_ADMIN.
     NotOwner,
+    /// A `msg_qbytes` above MSGMNB is asked for, and the caller lacks CAP_SYS_RESOURCE.
+    NeedsResource,
     /// The key has no object, and `IPC_CREAT` isn't given.
     NoKey,
     /// The caller is in the owner class, and the owner digit lacks a right that is asked.
@@ -22,6 +24,8 @@ pub enum Rule {
     /// The identifier names no object now. That one of a removed object is told so too, and not EIDRM, is
     /// the project's own.
     BadId,
+    /// `msg_qbytes` is given for an object that is no queue.
+    BadArgument,
     /// Each slot of the kind holds an object or is retired.
     NoSlot,
 }
@@ -33,10 +37,12 @@ pub fn errno(rule: Rule) -> u16
 {
     match rule {
         Rule::NotOwner => 1,
+        Rule::NeedsResource => 1,
         Rule::NoKey => 2,
         Rule::OwnerBits | Rule::GroupBits | Rule::OtherBits => 13,
         Rule::KeyExists => 17,
         Rule::BadId => 22,
+        Rule::BadArgument => 22,
         Rule::NoSlot => 28,
     }
 }
@@ -48,10 +54,12 @@ pub fn error_name(rule: Rule) -> &'static str
 {
     match rule {
         Rule::NotOwner => "EPERM",
+        Rule::NeedsResource => "EPERM",
         Rule::NoKey => "ENOENT",
         Rule::OwnerBits | Rule::GroupBits | Rule::OtherBits => "EACCES",
         Rule::KeyExists => "EEXIST",
         Rule::BadId => "EINVAL",
+        Rule::BadArgument => "EINVAL",
         Rule::NoSlot => "ENOSPC",
     }
 }
@@ -63,12 +71,14 @@ pub fn rule_name(rule: Rule) -> &'static str
 {
     match rule {
         Rule::NotOwner => "not-owner",
+        Rule::NeedsResource => "needs-resource",
         Rule::NoKey => "no-key",
         Rule::OwnerBits => "owner-bits",
         Rule::GroupBits => "group-bits",
         Rule::OtherBits => "other-bits",
         Rule::KeyExists => "key-exists",
         Rule::BadId => "bad-id",
+        Rule::BadArgument => "bad-argument",
         Rule::NoSlot => "no-slot",
     }
 }

@@ -143,20 +143,20 @@ module _ (queues : Table Queue) (keys : map.FinMap nat_cmp ℕ) (are : AreKeyed 
     sound = IsSound-change queues are.sound id new old there;
     private = are.private;
     bound = λ k j is.
-      let held = are.bound k j is in
-      ⊎_elim
-      (λ (same : j ≡ id).
+        let held = are.bound k j is in
+        ⊎_elim
+        (λ (same : j ≡ id).
         let at : old ≡ held.0 = same_Some old held.0 (sym there ∙ ap (λ n. map.get queues.objects n) (sym same) ∙ held.1) in
         (new, ap (λ n. map.get (map.insert queues.objects id new) n) same ∙ get-insert-same queues.objects id new, same_key ∙ ap (λ (q : Queue). q.perm.key) at ∙ held.2))
-      (λ (ne : j ≡ id → ⊥). (held.0, get-insert-other queues.objects id new j ne ∙ held.1, held.2))
-      (cases_eq j id);
+        (λ (ne : j ≡ id → ⊥). (held.0, get-insert-other queues.objects id new j ne ∙ held.1, held.2))
+        (cases_eq j id);
     keyed = λ j other is has. ⊎_elim
-      (λ (same : j ≡ id).
+        (λ (same : j ≡ id).
         let at : new ≡ other = same_Some new other (sym (get-insert-same queues.objects id new) ∙ ap (λ n. map.get (map.insert queues.objects id new) n) (sym same) ∙ is) in
         let key : other.perm.key ≡ old.perm.key = ap (λ (q : Queue). q.perm.key) (sym at) ∙ same_key in
         ap (λ n. map.get keys n) key ∙ are.keyed id old there (λ zero. has (key ∙ zero)) ∙ ap (λ (n : ℕ). Some n) (sym same))
-      (λ (ne : j ≡ id → ⊥). are.keyed j other (sym (get-insert-other queues.objects id new j ne) ∙ is) has)
-      (cases_eq j id);
+        (λ (ne : j ≡ id → ⊥). are.keyed j other (sym (get-insert-other queues.objects id new j ne) ∙ is) has)
+        (cases_eq j id);
   }
 
   -- a queue that leaves

@@ -8,14 +8,13 @@ ghost use Rattle.std.specs.Prelude.{
   OnOk,
   OnErr,
   IsSome,
-  IfSome,
   [],
   option_map,
 };
 ghost use Rattle.std.specs.FinMap as map;
 ghost use Rattle.ipc_ids.specs.Table.{empty_table, find_object, next_id as id_of_next, with_object, without_object};
 ghost use Rattle.ipc_model.specs.State.{has_key};
-ghost use Rattle.ipc_model.specs.Controls.{status_of_queue, with_settings};
+ghost use Rattle.ipc_model.specs.Controls.{status_of_queue, with_change, with_settings};
 ghost use Rattle.ipc_control.specs.Queues.{with_key};
 
 use ipc_call::{Memory, QueueStatus, Status};
@@ -217,8 +216,7 @@ impl Queues {
     /// in seconds (IPC_SET of msgctl(2)). It takes no memory.
     pub fn set(&mut self, id: u32, uid: u32, gid: u32, mode: u32, qbytes: Option<u64>, now: u64)
         requires { IsSome (map.get self.old.objects id) }
-        ensures { IfSome (map.get self.old.objects id)
-            (λ queue. self.new ≡ with_object self.old id (with_settings queue now uid gid mode qbytes)) }
+        ensures { self.new ≡ with_change self.old id (λ queue. with_settings queue now uid gid mode qbytes) (map.get self.old.objects id) }
     {
         let Some(queue) = self.slots.get_mut(id) else {
             unreachable!()

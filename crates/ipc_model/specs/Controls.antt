@@ -1,20 +1,20 @@
--- Controls of an object of any kind (msgctl(2), semctl(2), shmctl(2)): IPC_RMID; of IPC_STAT what it tells, and of IPC_SET
--- what it leaves.
-use Rattle.std.specs.Prelude.{ℕ, ◌%◌, List, [], ◌∷◌, length, map, Option, Some, None, option_map, unwrap_or}
+-- Controls of an object of any kind: IPC_STAT, IPC_SET and IPC_RMID (msgctl(2), semctl(2), shmctl(2)).
+use Rattle.std.specs.Prelude.{ℕ, ◌%◌, nat_le, Bool, true, false, is_none, if◌then◌else◌, List, [], ◌∷◌, length, map, Option, Some, None, option_map, unwrap_or}
 use Rattle.std.specs.FinMap as finite
 use Rattle.ipc_call.specs.declared.calls.Kind.{Kind}
 use Rattle.ipc_call.specs.declared.calls.Kind.TheVariants as kinds
-use Rattle.ipc_call.specs.declared.rules.Rule.TheVariants.{BadId}
+use Rattle.ipc_call.specs.declared.rules.Rule.TheVariants.{BadId, BadArgument}
 use Rattle.ipc_call.specs.declared.replies.Answer.TheVariants.{Done}
+use Rattle.ipc_call.specs.declared.replies.Answer.TheVariants.{Status as StatusAnswer}
 use Rattle.ipc_call.specs.declared.replies.Status.{Status}
 use Rattle.ipc_call.specs.declared.replies.Status.TheVariants as statuses
 use Rattle.ipc_creds.specs.Credentials.{Credentials}
 use Rattle.ipc_perm.specs.declared.perms.Perm.{Perm}
-use Rattle.ipc_perm.specs.Access.{Need, Control, denial}
-use Rattle.ipc_ids.specs.Table.{without_object}
+use Rattle.ipc_perm.specs.Access.{Need, Permission, Control, Resource, denial}
+use Rattle.ipc_ids.specs.Table.{Table, with_object, without_object}
 use Rattle.msg_queue.specs.Messages.{bytes_of}
 use Rattle.ipc_model.specs.State.{Queue, State}
-use Rattle.ipc_model.specs.Decision.{Decision, Refuse, Serve, by_checks}
+use Rattle.ipc_model.specs.Decision.{Decision, Refuse, Serve, check, by_checks}
 
 -- the permissions of the object of the identifier; there are no semaphore sets and no segments yet
 abbrev pub perm_of : State → Kind → ℕ → Option Perm
@@ -26,6 +26,11 @@ perm_of s kinds.Segment id = None
 abbrev pub needs_of_control : Option Perm → List Need
 needs_of_control None = []
 needs_of_control (Some perm) = Control perm ∷ []
+
+-- what a look at the object needs
+abbrev pub needs_of_stat : Option Perm → List Need
+needs_of_stat None = []
+needs_of_stat (Some perm) = Permission perm (record { read = true; alter = false }) ∷ []
 
 -- the object leaves, and its key is free
 abbrev pub without : State → Kind → ℕ → State
@@ -66,3 +71,52 @@ with_settings queue now uid gid mode qbytes = record queue {
   qbytes = unwrap_or qbytes queue.qbytes;
   change_time = now;
 }
+
+abbrev pub status_of : State → Kind → ℕ → Option Status
+status_of s kinds.Queue id = option_map (λ queue. status_of_queue queue) (finite.get s.queues.objects id)
+status_of s kinds.Sems id = None
+status_of s kinds.Segment id = None
+
+abbrev pub tell_status : State → Option Status → Decision
+tell_status s None = Refuse BadId
+tell_status s (Some status) = Serve (StatusAnswer status) s
+
+abbrev pub stat_found : State → Credentials → Option Perm → Option Status → Decision
+stat_found s c None status = Refuse BadId
+stat_found s c (Some perm) status = by_checks (map (denial c) (needs_of_stat (Some perm))) (tell_status s status)
+
+abbrev pub stat_object : State → Credentials → Kind → ℕ → Decision
+stat_object s c kind id = stat_found s c (perm_of s kind id) (status_of s kind id)
+
+-- a msg_qbytes above MSGMNB needs CAP_SYS_RESOURCE
+abbrev pub is_within : State → Option ℕ → Bool
+is_within s None = true
+is_within s (Some qbytes) = nat_le qbytes s.limits.msg_mnb
+
+abbrev pub needs_of_set : State → Option Perm → Option ℕ → List Need
+needs_of_set s None qbytes = []
+needs_of_set s (Some perm) qbytes = if is_within s qbytes then Control perm ∷ [] else Control perm ∷ Resource ∷ []
+
+-- the queue of the identifier changes
+abbrev pub with_change : Table Queue → ℕ → (Queue → Queue) → Option Queue → Table Queue
+with_change t id change None = t
+with_change t id change (Some queue) = with_object t id (change queue)
+
+abbrev pub with_set : State → Kind → ℕ → ℕ → ℕ → ℕ → Option ℕ → State
+with_set s kinds.Queue id uid gid mode qbytes =
+    record s { queues = with_change s.queues id (λ queue. with_settings queue s.clock uid gid mode qbytes) (finite.get s.queues.objects id) }
+with_set s kinds.Sems id uid gid mode qbytes = s
+with_set s kinds.Segment id uid gid mode qbytes = s
+
+abbrev pub set_found : State → Credentials → Kind → ℕ → ℕ → ℕ → ℕ → Option ℕ → Option Perm → Decision
+set_found s c kind id uid gid mode qbytes None = Refuse BadId
+set_found s c kind id uid gid mode qbytes (Some perm) = by_checks (map (denial c) (needs_of_set s (Some perm) qbytes)) (Serve Done (with_set s kind id uid gid mode qbytes))
+
+-- msg_qbytes is of queues alone
+abbrev pub takes_qbytes : Kind → Option ℕ → Bool
+takes_qbytes kinds.Queue qbytes = true
+takes_qbytes kinds.Sems qbytes = is_none qbytes
+takes_qbytes kinds.Segment qbytes = is_none qbytes
+
+abbrev pub set_object : State → Credentials → Kind → ℕ → ℕ → ℕ → ℕ → Option ℕ → Decision
+set_object s c kind id uid gid mode qbytes = by_checks (check (takes_qbytes kind qbytes) BadArgument ∷ []) (set_found s c kind id uid gid mode qbytes (perm_of s kind id))

@@ -2,10 +2,10 @@
 use Rattle.std.specs.Prelude.{ℕ, Bool, true, false, List, [], ◌∷◌, ◌++◌, Option, Some, None, Ok, Err, if◌then◌else◌}
 use Rattle.std.specs.FinMap as finite
 use Rattle.ipc_call.specs.declared.calls.Call.{Call}
-use Rattle.ipc_call.specs.declared.calls.Call.TheVariants.{MsgGet, IpcRmid}
+use Rattle.ipc_call.specs.declared.calls.Call.TheVariants.{MsgGet, IpcStat, IpcSet, IpcRmid}
 use Rattle.ipc_call.specs.declared.calls.Kind.{Kind}
 use Rattle.ipc_call.specs.declared.calls.Kind.TheVariants as kinds
-use Rattle.ipc_call.specs.declared.replies.Answer.TheVariants.{Id, Done}
+use Rattle.ipc_call.specs.declared.replies.Answer.TheVariants.{Id, Done, Status}
 use Rattle.ipc_model.specs.State.{State, opening}
 use Rattle.ipc_model.specs.Step.{Event, Outcome, step}
 use Rattle.ipc_model.specs.History.{History}
@@ -21,12 +21,15 @@ abbrev pub is_get_of : Kind → Call → Bool
 is_get_of kinds.Queue (MsgGet key flags) = true
 is_get_of kinds.Sems (MsgGet key flags) = false
 is_get_of kinds.Segment (MsgGet key flags) = false
+is_get_of kind (IpcStat other id) = false
+is_get_of kind (IpcSet other id uid gid mode qbytes) = false
 is_get_of kind (IpcRmid other id) = false
 
 -- the identifier in an answer, unless there was such an object before
 abbrev pub new_in : State → Kind → Option Outcome → List ℕ
 new_in s kind (Some (Ok (Id id))) = if has_object s kind id then [] else id ∷ []
 new_in s kind (Some (Ok Done)) = []
+new_in s kind (Some (Ok (Status status))) = []
 new_in s kind (Some (Err rule)) = []
 new_in s kind None = []
 

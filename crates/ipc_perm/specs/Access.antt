@@ -2,8 +2,8 @@
 use Rattle.std.specs.Prelude.{ℕ, Bool, true, false, not, ◌&&◌, ◌||◌, ◌==◌, ◌/◌, ◌%◌, bit_and, [], ◌∷◌, Option, Some, None, if◌then◌else◌}
 use Rattle.std.specs.List.{list_any}
 use Rattle.ipc_call.specs.declared.rules.Rule.{Rule}
-use Rattle.ipc_call.specs.declared.rules.Rule.TheVariants.{OwnerBits, GroupBits, OtherBits, NotOwner}
-use Rattle.ipc_creds.specs.Credentials.{Credentials, is_in_group, has_capability, cap_ipc_owner, cap_sys_admin}
+use Rattle.ipc_call.specs.declared.rules.Rule.TheVariants.{OwnerBits, GroupBits, OtherBits, NotOwner, NeedsResource}
+use Rattle.ipc_creds.specs.Credentials.{Credentials, is_in_group, has_capability, cap_ipc_owner, cap_sys_admin, cap_sys_resource}
 use Rattle.ipc_perm.specs.declared.perms.Perm.{Perm}
 use Rattle.ipc_perm.specs.declared.access.Class.{Class}
 use Rattle.ipc_perm.specs.declared.access.Class.TheVariants.{Owner, Group, Other}
@@ -68,11 +68,13 @@ ground_of Other = grounds.Other
 pub data Need : Type 0 where
   Permission : (perm : Perm) (want : Want) → Need
   Control : (perm : Perm) → Need
+  Resource : Need
 
 -- the rule of a need that fails, and None where it is met
 abbrev pub denial : Credentials → Need → Option Rule
 denial c (Permission p want) = if permits c p want then None else Some (rule_of (class_of c p))
 denial c (Control p) = if controls c p then None else Some NotOwner
+denial c Resource = if has_capability c cap_sys_resource then None else Some NeedsResource
 
 -- the verdict with its ground: a capability only where the class or the ownership fails
 abbrev pub verdict_on : Credentials → Perm → Want → Verdict

@@ -1,22 +1,23 @@
 -- Laws of the decision, by cases over the calls: one line for each call.
-use Rattle.std.proofs.Common.{◌≡◌, ℕ, ◌<◌, Bool, true, false, List, length, get_or, refl, sym, ap, ◌∙◌, cond, Option, Some, None}
+use Rattle.std.proofs.Common.{◌≡◌, ℕ, ◌<◌, Bool, true, false, List, [], ◌∷◌, map, length, get_or, refl, sym, ap, ◌∙◌, cond, Option, Some, None}
 use Rattle.std.specs.Prelude.{not, ◌==◌, ◌&&◌, option_map, slice_get, unwrap_or}
 use Rattle.std.proofs.lemmas.Bool.{false≢true, true≢false}
 use Rattle.std.proofs.lemmas.Option.{slice_get-get_or}
 use Rattle.ipc_call.specs.declared.calls.Call.{Call}
-use Rattle.ipc_call.specs.declared.calls.Call.TheVariants.{MsgGet, IpcRmid}
+use Rattle.ipc_call.specs.declared.calls.Call.TheVariants.{MsgGet, IpcStat, IpcSet, IpcRmid}
 use Rattle.ipc_call.specs.declared.calls.Kind.{Kind}
 use Rattle.ipc_call.specs.declared.replies.Waiting.{Waiting}
 use Rattle.ipc_call.specs.declared.rules.Rule.{Rule}
-use Rattle.ipc_call.specs.declared.rules.Rule.TheVariants.{NoKey, KeyExists}
+use Rattle.ipc_call.specs.declared.rules.Rule.TheVariants.{NoKey, KeyExists, BadArgument}
+use Rattle.ipc_call.specs.declared.replies.Status.{Status}
 use Rattle.ipc_creds.specs.Credentials.{Credentials}
 use Rattle.ipc_perm.specs.declared.perms.Perm.{Perm}
-use Rattle.ipc_perm.specs.Access.{Control, Permission, asked_of, denial}
+use Rattle.ipc_perm.specs.Access.{Control, Need, Permission, asked_of, denial}
 use Rattle.ipc_ids.specs.Table.{next_id}
 use Rattle.ipc_model.specs.State.{Queue, State, creds_at, queue_with_key}
-use Rattle.ipc_model.specs.Decision.{Decision, Refuse, Wait, Serve, by_check, check}
+use Rattle.ipc_model.specs.Decision.{Decision, Refuse, Wait, Serve, by_check, by_checks, check}
 use Rattle.ipc_model.specs.Queues.{get_queue, get_found, make_queue, with_queue, new_queue, asks_to_make, asks_alone}
-use Rattle.ipc_model.specs.Controls.{perm_of, remove_found, remove_object}
+use Rattle.ipc_model.specs.Controls.{needs_of_set, perm_of, remove_found, remove_object, set_found, set_object, stat_found, stat_object, status_of, takes_qbytes, tell_status}
 use Rattle.ipc_model.specs.Decide.{decide, can_wait, goes_on}
 use Rattle.ipc_model.specs.Step.{at_moment, end_at, end_waiting, ended_by, is_ready, without}
 use Rattle.ipc_space.specs.declared.decisions.Decided.{Decided}
@@ -65,22 +66,51 @@ goes_on-remove_found s c kind id (Some perm) = goes_on-check (denial c (Control 
 pub goes_on-remove_object : (s : State) (c : Credentials) (kind : Kind) (id : ℕ) → goes_on (remove_object s c kind id) ≡ true
 goes_on-remove_object s c kind id = goes_on-remove_found s c kind id (perm_of s kind id)
 
+goes_on-tell_status : (s : State) (status : Option Status) → goes_on (tell_status s status) ≡ true
+goes_on-tell_status s None = refl
+goes_on-tell_status s (Some status) = refl
+
+goes_on-stat_found : (s : State) (c : Credentials) (perm : Option Perm) (status : Option Status) → goes_on (stat_found s c perm status) ≡ true
+goes_on-stat_found s c None status = refl
+goes_on-stat_found s c (Some perm) status = goes_on-check (denial c (Permission perm (record { read = true; alter = false }))) _ (goes_on-tell_status s status)
+
+goes_on-stat_object : (s : State) (c : Credentials) (kind : Kind) (id : ℕ) → goes_on (stat_object s c kind id) ≡ true
+goes_on-stat_object s c kind id = goes_on-stat_found s c (perm_of s kind id) (status_of s kind id)
+
+goes_on-denials : (c : Credentials) (needs : List Need) (d : Decision) → goes_on d ≡ true → goes_on (by_checks (map (denial c) needs) d) ≡ true
+goes_on-denials c [] d p = p
+goes_on-denials c (need ∷ needs) d p = goes_on-check (denial c need) _ (goes_on-denials c needs d p)
+
+goes_on-set_found : (s : State) (c : Credentials) (kind : Kind) (id uid gid mode : ℕ) (qbytes : Option ℕ) (perm : Option Perm) → goes_on (set_found s c kind id uid gid mode qbytes perm) ≡ true
+goes_on-set_found s c kind id uid gid mode qbytes None = refl
+goes_on-set_found s c kind id uid gid mode qbytes (Some perm) = goes_on-denials c (needs_of_set s (Some perm) qbytes) _ refl
+
+goes_on-set_object : (s : State) (c : Credentials) (kind : Kind) (id uid gid mode : ℕ) (qbytes : Option ℕ) → goes_on (set_object s c kind id uid gid mode qbytes) ≡ true
+goes_on-set_object s c kind id uid gid mode qbytes = goes_on-check (check (takes_qbytes kind qbytes) BadArgument) _ (goes_on-set_found s c kind id uid gid mode qbytes (perm_of s kind id))
+
 -- only a call of a kind that may wait is made to wait
 pub only_parkable : (s : State) (client : ℕ) (call : Call) → goes_on (decide s client call) ≡ false → can_wait call ≡ true
 unfolding decide
 only_parkable s client (MsgGet key flags) waits = absurd (true≢false (sym (goes_on-get_queue s (creds_at s client) key flags) ∙ waits))
+only_parkable s client (IpcStat kind id) waits = absurd (true≢false (sym (goes_on-stat_object s (creds_at s client) kind id) ∙ waits))
+only_parkable s client (IpcSet kind id uid gid mode qbytes) waits = absurd (true≢false (sym (goes_on-set_object s (creds_at s client) kind id uid gid mode qbytes) ∙ waits))
 only_parkable s client (IpcRmid kind id) waits = absurd (true≢false (sym (goes_on-remove_object s (creds_at s client) kind id) ∙ waits))
 
 -- a call that may wait is decided alike with and without its own place in the list
 ready_alike : (s : State) (place client : ℕ) (call : Call) → can_wait call ≡ true → goes_on (decide (without s place) client call) ≡ goes_on (decide s client call)
 unfolding decide
 ready_alike s place client (MsgGet key flags) can = absurd (false≢true can)
+ready_alike s place client (IpcStat kind id) can = absurd (false≢true can)
+ready_alike s place client (IpcSet kind id uid gid mode qbytes) can = absurd (false≢true can)
 ready_alike s place client (IpcRmid kind id) can = absurd (false≢true can)
 
 -- a call is decided alike at each moment, but for what it is granted
 pub clock_alike : (s : State) (now client : ℕ) (call : Call) → goes_on (decide (at_moment s now) client call) ≡ goes_on (decide s client call)
 unfolding decide
 clock_alike s now client (MsgGet key flags) = goes_on-get_queue (at_moment s now) (creds_at s client) key flags ∙ sym (goes_on-get_queue s (creds_at s client) key flags)
+clock_alike s now client (IpcStat kind id) = goes_on-stat_object (at_moment s now) (creds_at s client) kind id ∙ sym (goes_on-stat_object s (creds_at s client) kind id)
+clock_alike s now client (IpcSet kind id uid gid mode qbytes) =
+    goes_on-set_object (at_moment s now) (creds_at s client) kind id uid gid mode qbytes ∙ sym (goes_on-set_object s (creds_at s client) kind id uid gid mode qbytes)
 clock_alike s now client (IpcRmid kind id) = goes_on-remove_object (at_moment s now) (creds_at s client) kind id ∙ sym (goes_on-remove_object s (creds_at s client) kind id)
 
 pub is_ready-at : (s : State) (place : ℕ) (w : Waiting) → slice_get s.parked place ≡ Some w → can_wait w.call ≡ true → is_ready s place ≡ goes_on (decide s w.client w.call)

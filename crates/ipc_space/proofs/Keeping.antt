@@ -1,26 +1,27 @@
 -- What no event undoes: the tables stay sound, and an identifier that was used stays used.
-use Rattle.std.proofs.Common.{◌≡◌, ℕ, zero, suc, Bool, true, false, not, cond, length, refl, sym, subst, Option, Some, None}
+use Rattle.std.proofs.Common.{◌≡◌, ℕ, zero, suc, Bool, true, false, not, cond, List, [], ◌∷◌, map, length, refl, sym, subst, Option, Some, None}
 use Rattle.std.specs.Prelude.{◌==◌, ◌&&◌, slice_get, option_map}
-use Rattle.std.specs.FinMap as map
+use Rattle.std.specs.FinMap as finite
 use Rattle.std.proofs.lemmas.Option.{none-some}
 use Rattle.ipc_call.specs.declared.calls.Call.{Call}
-use Rattle.ipc_call.specs.declared.calls.Call.TheVariants.{MsgGet, IpcRmid}
+use Rattle.ipc_call.specs.declared.calls.Call.TheVariants.{MsgGet, IpcStat, IpcSet, IpcRmid}
 use Rattle.ipc_call.specs.declared.calls.Kind.{Kind}
 use Rattle.ipc_call.specs.declared.calls.Kind.TheVariants as kinds
 use Rattle.ipc_call.specs.declared.replies.Answer.{Answer}
 use Rattle.ipc_call.specs.declared.replies.Answer.TheVariants.{Done}
 use Rattle.ipc_call.specs.declared.replies.Waiting.{Waiting}
 use Rattle.ipc_call.specs.declared.rules.Rule.{Rule}
-use Rattle.ipc_call.specs.declared.rules.Rule.TheVariants.{NoKey, KeyExists}
+use Rattle.ipc_call.specs.declared.rules.Rule.TheVariants.{NoKey, KeyExists, BadArgument}
+use Rattle.ipc_call.specs.declared.replies.Status.{Status}
 use Rattle.ipc_creds.specs.Credentials.{Credentials}
 use Rattle.ipc_perm.specs.declared.perms.Perm.{Perm}
-use Rattle.ipc_perm.specs.Access.{Control, Permission, asked_of, denial}
+use Rattle.ipc_perm.specs.Access.{Control, Need, Permission, asked_of, denial}
 use Rattle.ipc_ids.specs.Table.{IsSound, WasUsed, next_id, without_object}
-use Rattle.ipc_ids.proofs.Sound.{IsSound-new, IsSound-without, WasUsed-with, WasUsed-without, next_id-fresh}
+use Rattle.ipc_ids.proofs.Sound.{IsSound-change, IsSound-new, IsSound-without, WasUsed-with, WasUsed-without, next_id-fresh}
 use Rattle.ipc_model.specs.State.{Queue, State, creds_at, queue_with_key}
-use Rattle.ipc_model.specs.Decision.{Decision, Refuse, Wait, Serve, by_check, check}
+use Rattle.ipc_model.specs.Decision.{Decision, Refuse, Wait, Serve, by_check, by_checks, check}
 use Rattle.ipc_model.specs.Queues.{get_queue, get_found, make_queue, with_queue, new_queue, asks_to_make, asks_alone}
-use Rattle.ipc_model.specs.Controls.{perm_of, remove_found}
+use Rattle.ipc_model.specs.Controls.{needs_of_set, perm_of, remove_found, set_found, stat_found, status_of, takes_qbytes, tell_status, with_change, with_set, with_settings}
 use Rattle.ipc_model.specs.Decide.{decide}
 use Rattle.ipc_model.specs.Step.{Event, Moved, at_moment, end_at, end_waiting, ended_by, first_ready, settle, settle_from, settled, state_by, step, without}
 
@@ -87,7 +88,7 @@ with_perm : (o : Option Queue) (perm : Perm) → Some perm ≡ option_map (λ (q
 with_perm None perm is = absurd (none-some perm (sym is))
 with_perm (Some queue) perm is = (queue, refl)
 
-Keeps-removed : (s : State) (answer : Answer) (id : ℕ) (queue : Queue) → map.get s.queues.objects id ≡ Some queue → Keeps s (Serve answer (record s { queues = without_object s.queues id }))
+Keeps-removed : (s : State) (answer : Answer) (id : ℕ) (queue : Queue) → finite.get s.queues.objects id ≡ Some queue → Keeps s (Serve answer (record s { queues = without_object s.queues id }))
 unfolding Keeps
 Keeps-removed s answer id queue there = (
   refl,
@@ -103,12 +104,47 @@ Keeps-remove_found s c kind id None is = tt
 Keeps-remove_found s c kinds.Sems id (Some perm) is = absurd (none-some perm (sym is))
 Keeps-remove_found s c kinds.Segment id (Some perm) is = absurd (none-some perm (sym is))
 Keeps-remove_found s c kinds.Queue id (Some perm) is =
-    let there = with_perm (map.get s.queues.objects id) perm is in Keeps-check s (denial c (Control perm)) _ (Keeps-removed s Done id there.0 there.1)
+    let there = with_perm (finite.get s.queues.objects id) perm is in Keeps-check s (denial c (Control perm)) _ (Keeps-removed s Done id there.0 there.1)
+
+Keeps-tell_status : (s : State) (status : Option Status) → Keeps s (tell_status s status)
+unfolding Keeps
+Keeps-tell_status s None = tt
+Keeps-tell_status s (Some status) = (refl, Follows-same s s refl)
+
+Keeps-stat_found : (s : State) (c : Credentials) (perm : Option Perm) (status : Option Status) → Keeps s (stat_found s c perm status)
+unfolding Keeps
+Keeps-stat_found s c None status = tt
+Keeps-stat_found s c (Some perm) status = Keeps-check s (denial c (Permission perm (record { read = true; alter = false }))) _ (Keeps-tell_status s status)
+
+Keeps-denials : (s : State) (c : Credentials) (needs : List Need) (d : Decision) → Keeps s d → Keeps s (by_checks (map (denial c) needs) d)
+Keeps-denials s c [] d p = p
+Keeps-denials s c (need ∷ needs) d p = Keeps-check s (denial c need) _ (Keeps-denials s c needs d p)
+
+Follows-changed : (s : State) (id : ℕ) (change : Queue → Queue) (o : Option Queue) → o ≡ finite.get s.queues.objects id → Follows s (record s { queues = with_change s.queues id change o })
+Follows-changed s id change None is = Follows-same s s refl
+Follows-changed s id change (Some queue) is = record {
+  sound = λ sound. IsSound-change s.queues sound id (change queue) queue (sym is);
+  used = λ sound j was. WasUsed-with s.queues id (change queue) j was;
+}
+
+Keeps-with_set : (s : State) (answer : Answer) (kind : Kind) (id uid gid mode : ℕ) (qbytes : Option ℕ) → Keeps s (Serve answer (with_set s kind id uid gid mode qbytes))
+unfolding Keeps
+Keeps-with_set s answer kinds.Queue id uid gid mode qbytes = (refl, Follows-changed s id (λ queue. with_settings queue s.clock uid gid mode qbytes) (finite.get s.queues.objects id) refl)
+Keeps-with_set s answer kinds.Sems id uid gid mode qbytes = (refl, Follows-same s s refl)
+Keeps-with_set s answer kinds.Segment id uid gid mode qbytes = (refl, Follows-same s s refl)
+
+Keeps-set_found : (s : State) (c : Credentials) (kind : Kind) (id uid gid mode : ℕ) (qbytes : Option ℕ) (perm : Option Perm) → Keeps s (set_found s c kind id uid gid mode qbytes perm)
+unfolding Keeps
+Keeps-set_found s c kind id uid gid mode qbytes None = tt
+Keeps-set_found s c kind id uid gid mode qbytes (Some perm) = Keeps-denials s c (needs_of_set s (Some perm) qbytes) _ (Keeps-with_set s Done kind id uid gid mode qbytes)
 
 -- each call
 pub Keeps-decide : (s : State) (client : ℕ) (call : Call) → Keeps s (decide s client call)
 unfolding decide
 Keeps-decide s client (MsgGet key flags) = Keeps-get_queue s (creds_at s client) key flags
+Keeps-decide s client (IpcStat kind id) = Keeps-stat_found s (creds_at s client) (perm_of s kind id) (status_of s kind id)
+Keeps-decide s client (IpcSet kind id uid gid mode qbytes) =
+    Keeps-check s (check (takes_qbytes kind qbytes) BadArgument) _ (Keeps-set_found s (creds_at s client) kind id uid gid mode qbytes (perm_of s kind id))
 Keeps-decide s client (IpcRmid kind id) = Keeps-remove_found s (creds_at s client) kind id (perm_of s kind id) refl
 
 Follows-state_by : (s : State) (client : ℕ) (call : Call) (d : Decision) → Keeps s d → Follows s (state_by s client call d)

@@ -6,10 +6,10 @@ use Rattle.std.specs.List.{AllByRecursion, IsDistinct}
 use Rattle.std.proofs.lemmas.Bool.{true≢false, ne_eqb}
 use Rattle.std.proofs.lemmas.Option.{none-some}
 use Rattle.ipc_call.specs.declared.calls.Call.{Call}
-use Rattle.ipc_call.specs.declared.calls.Call.TheVariants.{MsgGet, IpcRmid}
+use Rattle.ipc_call.specs.declared.calls.Call.TheVariants.{MsgGet, IpcStat, IpcSet, IpcRmid}
 use Rattle.ipc_call.specs.declared.calls.Kind.{Kind}
 use Rattle.ipc_call.specs.declared.calls.Kind.TheVariants as kinds
-use Rattle.ipc_call.specs.declared.replies.Answer.TheVariants.{Id, Done}
+use Rattle.ipc_call.specs.declared.replies.Answer.TheVariants.{Id, Done, Status}
 use Rattle.ipc_call.specs.declared.rules.Rule.{Rule}
 use Rattle.ipc_call.specs.declared.rules.Rule.TheVariants.{NoKey, KeyExists}
 use Rattle.ipc_creds.specs.Credentials.{Credentials}
@@ -38,6 +38,7 @@ unfoldable pub NamesFresh : State → Decision → Type 0
 NamesFresh s (Refuse rule) = Unit {0}
 NamesFresh s Wait = Unit {0}
 NamesFresh s (Serve Done new) = Unit {0}
+NamesFresh s (Serve (Status status) new) = Unit {0}
 NamesFresh s (Serve (Id id) new) = map.contains_key s.queues.objects id ≡ false → IsFresh s.queues id × WasUsed new.queues id
 
 NamesFresh-if : (s : State) (b : Bool) (x y : Decision) → NamesFresh s x → NamesFresh s y → NamesFresh s (cond b x y)
@@ -94,6 +95,7 @@ unfolding NamesFresh Keeps
 named-in s (Refuse rule) client call names keeps sound = tt
 named-in s Wait client call names keeps sound = tt
 named-in s (Serve Done new) client call names keeps sound = tt
+named-in s (Serve (Status status) new) client call names keeps sound = tt
 named-in s (Serve (Id id) new) client call names keeps sound = all-unless _ (map.contains_key s.queues.objects id) id (λ absent.
     let fresh = names absent in
     (fresh-unused s.queues id fresh.0, (Follows-settled new).used (keeps.1.sound sound) id fresh.1))
@@ -105,10 +107,16 @@ named-by kinds.Queue s client now (MsgGet key flags) sound =
     let here = at_moment s now in
     let d = get_queue here (creds_at s client) key flags in
     named-in here d client (MsgGet key flags) (NamesFresh-get_queue here (creds_at s client) key flags sound.few) (Keeps-decide here client (MsgGet key flags)) sound
+named-by kinds.Queue s client now (IpcStat other id) sound = tt
+named-by kinds.Queue s client now (IpcSet other id uid gid mode qbytes) sound = tt
 named-by kinds.Queue s client now (IpcRmid other id) sound = tt
 named-by kinds.Sems s client now (MsgGet key flags) sound = tt
+named-by kinds.Sems s client now (IpcStat other id) sound = tt
+named-by kinds.Sems s client now (IpcSet other id uid gid mode qbytes) sound = tt
 named-by kinds.Sems s client now (IpcRmid other id) sound = tt
 named-by kinds.Segment s client now (MsgGet key flags) sound = tt
+named-by kinds.Segment s client now (IpcStat other id) sound = tt
+named-by kinds.Segment s client now (IpcSet other id uid gid mode qbytes) sound = tt
 named-by kinds.Segment s client now (IpcRmid other id) sound = tt
 
 used-later : (kind : Kind) (s t : State) → Follows s t → IsSound s.queues → (id : ℕ) → IsUsed s kind id → IsUsed t kind id
@@ -154,6 +162,7 @@ unfolding IsDistinct
 distinct-in s kind None = tt
 distinct-in s kind (Some (Err rule)) = tt
 distinct-in s kind (Some (Ok Done)) = tt
+distinct-in s kind (Some (Ok (Status status))) = tt
 distinct-in s kind (Some (Ok (Id id))) = distinct-unless (has_object s kind id) id
 
 distinct-where : (b : Bool) (xs : List ℕ) → IsDistinct eqb xs → IsDistinct eqb (if b then xs else [])

@@ -1,18 +1,124 @@
-// The controls of objects of any kind: IPC_RMID (msgctl(2), semctl(2), shmctl(2)).
+// The controls of objects of any kind: IPC_STAT, IPC_SET and IPC_RMID (msgctl(2), semctl(2), shmctl(2)).
 
-ghost use Rattle.std.specs.Prelude.{◌≡◌, ◌<◌, length};
+ghost use Rattle.std.specs.Prelude.{◌≡◌, ℕ, ◌<◌, length};
 ghost use Rattle.ipc_model.specs.State.{creds_at};
 ghost use Rattle.ipc_model.specs.Decision.{Serve};
-ghost use Rattle.ipc_model.specs.Controls.{perm_of as perm_in, remove_object};
+ghost use Rattle.ipc_model.specs.Controls.{is_within as is_within_limit, perm_of as perm_in, remove_object, set_object, stat_object, status_of as status_in};
 ghost use Rattle.ipc_space.specs.Decisions.{decided};
 
 use crate::decisions::Decided;
 use crate::namespace::Namespace;
-use ipc_call::{Answer, Kind, Rule};
-use ipc_creds::Creds;
-use ipc_perm::{Perm, Verdict, may_control};
+use bitflags::Flags;
+use ipc_call::{Answer, Kind, Rule, Status};
+use ipc_creds::{Caps, Creds};
+use ipc_perm::{Perm, Verdict, Want, decide, may_control};
+
+/// The rights that IPC_STAT asks.
+const TO_READ: Want = Want {
+    read: true,
+    alter: false,
+};
 
 impl Namespace {
+    /// The decision on IPC_STAT.
+    pub(super) fn decide_stat(&self, creds: &Creds, kind: Kind, id: u32) -> Decided
+        ensures { result ≡ decided (stat_object self.now creds.now kind id) }
+    {
+        let Some(perm) = self.perm_of(kind, id) else {
+            return Decided::Refuse(Rule::BadId);
+        };
+        if let Verdict::Denied(rule) = decide(creds, &perm, TO_READ) {
+            return Decided::Refuse(rule);
+        }
+        match self.status_of(kind, id) {
+            None => Decided::Refuse(Rule::BadId),
+            Some(_) => Decided::Go,
+        }
+    }
+
+    /// Grants IPC_STAT. It takes no memory.
+    pub(super) fn grant_stat(&self, client: u32, kind: Kind, id: u32) -> Answer
+        requires known { client < length self.now.clients }
+        requires go { decided (stat_object self.now (creds_at self.now client) kind id) ≡ Decided.Go }
+        ensures { stat_object self.now (creds_at self.now client) kind id ≡ Serve result self.now }
+    {
+        match self.status_of(kind, id) {
+            None => unreachable!(),
+            Some(status) => Answer::Status(status),
+        }
+    }
+
+    /// The decision on IPC_SET. `qbytes` is asked before the identifier is looked up.
+    pub(super) fn decide_set(
+        &self,
+        creds: &Creds,
+        kind: Kind,
+        id: u32,
+        qbytes: Option<u64>,
+    ) -> Decided
+        ensures { (uid gid mode : ℕ) → result ≡ decided (set_object self.now creds.now kind id uid gid mode qbytes) }
+    {
+        if kind != Kind::Queue && qbytes.is_some() {
+            return Decided::Refuse(Rule::BadArgument);
+        }
+        let Some(perm) = self.perm_of(kind, id) else {
+            return Decided::Refuse(Rule::BadId);
+        };
+        if let Verdict::Denied(rule) = may_control(creds, &perm) {
+            return Decided::Refuse(rule);
+        }
+        if self.is_within(qbytes) || creds.caps().contains(Caps::SYS_RESOURCE) {
+            Decided::Go
+        } else {
+            Decided::Refuse(Rule::NeedsResource)
+        }
+    }
+
+    /// Grants IPC_SET. It takes no memory.
+    pub(super) fn grant_set(
+        &mut self,
+        client: u32,
+        kind: Kind,
+        id: u32,
+        uid: u32,
+        gid: u32,
+        mode: u32,
+        qbytes: Option<u64>,
+    ) -> Answer
+        requires known { client < length self.old.clients }
+        requires go { decided (set_object self.old (creds_at self.old client) kind id uid gid mode qbytes) ≡ Decided.Go }
+        ensures served { set_object self.old (creds_at self.old client) kind id uid gid mode qbytes ≡ Serve result self.new }
+        ensures parked { self.new.parked ≡ self.old.parked }
+        ensures limits { self.new.limits ≡ self.old.limits }
+        ensures clients { self.new.clients ≡ self.old.clients }
+    {
+        match kind {
+            Kind::Queue => self.queues.set(id, uid, gid, mode, qbytes, self.clock),
+            Kind::Sems | Kind::Segment => unreachable!(),
+        }
+        Answer::Done
+    }
+
+    /// Whether a msg_qbytes that is asked for is at most MSGMNB.
+    fn is_within(&self, qbytes: Option<u64>) -> bool
+        ensures { result ≡ is_within_limit self.now qbytes }
+    {
+        match qbytes {
+            None => true,
+            Some(qbytes) => qbytes <= u64::from(self.limits.msg_mnb),
+        }
+    }
+
+    /// The state of the object of an identifier.
+    fn status_of(&self, kind: Kind, id: u32) -> Option<Status>
+        ensures { result ≡ status_in self.now kind id }
+    {
+        match kind {
+            Kind::Queue => self.queues.status(id),
+            Kind::Sems | Kind::Segment => None,
+        }
+    }
+
     /// The decision on IPC_RMID.
     pub(super) fn decide_remove(&self, creds: &Creds, kind: Kind, id: u32) -> Decided
         ensures { result ≡ decided (remove_object self.now creds.now kind id) }

@@ -21,6 +21,7 @@ pub fn can_wait(call: &Call) -> bool
     ensures { result ≡ may_wait call.now }
 {
     match call {
-        Call::MsgGet { .. } | Call::IpcRmid { .. } => false,
+        Call::MsgGet { .. } | Call::IpcStat { .. } | Call::IpcSet { .. } | Call::IpcRmid { .. } =>
+            false,
     }
 }

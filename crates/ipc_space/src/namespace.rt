@@ -249,6 +249,13 @@ impl Namespace {
         let creds = &self.clients[client as usize];
         match call {
             Call::MsgGet { key, flags } => self.decide_get_queue(creds, *key, *flags),
+            Call::IpcStat { kind, id } => self.decide_stat(creds, *kind, *id),
+            Call::IpcSet {
+                kind,
+                id,
+                qbytes,
+                ..
+            } => self.decide_set(creds, *kind, *id, *qbytes),
             Call::IpcRmid { kind, id } => self.decide_remove(creds, *kind, *id),
         }
     }
@@ -269,6 +276,15 @@ impl Namespace {
     {
         match call {
             Call::MsgGet { key, flags } => self.grant_get_queue(client, key, flags),
+            Call::IpcStat { kind, id } => Ok(self.grant_stat(client, kind, id)),
+            Call::IpcSet {
+                kind,
+                id,
+                uid,
+                gid,
+                mode,
+                qbytes,
+            } => Ok(self.grant_set(client, kind, id, uid, gid, mode, qbytes)),
             Call::IpcRmid { kind, id } => Ok(self.grant_remove(client, kind, id)),
         }
     }

@@ -1,6 +1,9 @@
 -- The rows that a script prints (the project's own; the names of errors are those of errno(3)).
-use Rattle.std.specs.Prelude.{ℕ, List, [], ◌++◌, codes, decimal, Option, Some, None, Ok, Err, unwrap_or, slice_get, flat_map}
-use Rattle.ipc_call.specs.declared.replies.Answer.TheVariants.{Id, Done}
+use Rattle.std.specs.Prelude.{ℕ, ◌-◌, ◌^◌, false, List, [], ◌++◌, codes, decimal, Option, Some, None, Ok, Err, unwrap_or, slice_get, flat_map}
+use Rattle.ipc_call.specs.declared.replies.Answer.TheVariants.{Id, Done, Status}
+use Rattle.ipc_call.specs.declared.replies.Status.TheVariants.{Queue}
+use Rattle.ipc_call.specs.declared.replies.QueueStatus.{QueueStatus}
+use Rattle.std.specs.Fmt.{digits, format_spec, padded_integral}
 use Rattle.ipc_call.specs.declared.replies.Reply.{Reply}
 use Rattle.ipc_call.specs.declared.replies.Reply.TheVariants.{Entered, Memory}
 use Rattle.ipc_call.specs.declared.rules.Rule.{Rule}
@@ -26,9 +29,37 @@ abbrev pub rule_text : Rule → List ℕ
 rule_text rule =
     codes "error " ++ (decimal (number_of rule) ++ (codes " " ++ (name_of_error rule ++ (codes " " ++ (name_of_rule rule ++ codes "\n")))))
 
+-- a key: 0x and eight hexadecimal digits, as {:08x} writes them
+unfoldable pub key_text : ℕ → List ℕ
+key_text key = codes "0x" ++ padded_integral (format_spec 32 0 4 8 (2 ^ 64 - 1)) false [] (digits 16 false key)
+
+-- a mode: four octal digits, as {:04o} writes them
+unfoldable pub mode_text : ℕ → List ℕ
+mode_text mode = padded_integral (format_spec 32 0 4 4 (2 ^ 64 - 1)) false [] (digits 8 false mode)
+
+abbrev pub owners_text : QueueStatus → List ℕ
+owners_text q =
+    codes " uid " ++ (decimal q.uid ++ (codes " gid " ++ (decimal q.gid ++ (codes " cuid " ++ (decimal q.cuid ++ (codes " cgid " ++ decimal q.cgid))))))
+
+abbrev pub access_text : QueueStatus → List ℕ
+access_text q = codes "queue key " ++ (key_text q.key ++ (owners_text q ++ (codes " mode " ++ mode_text q.mode)))
+
+abbrev pub times_text : QueueStatus → List ℕ
+times_text q = codes " stime " ++ (decimal q.stime ++ (codes " rtime " ++ (decimal q.rtime ++ (codes " ctime " ++ (decimal q.ctime ++ codes "\n")))))
+
+abbrev pub contents_text : QueueStatus → List ℕ
+contents_text q =
+    (codes " cbytes " ++ (decimal q.cbytes ++ (codes " qnum " ++ (decimal q.qnum ++ (codes " qbytes " ++ decimal q.qbytes)))))
+    ++ ((codes " lspid " ++ (decimal q.lspid ++ (codes " lrpid " ++ decimal q.lrpid))) ++ times_text q)
+
+-- the state of a queue
+abbrev pub queue_text : QueueStatus → List ℕ
+queue_text q = access_text q ++ contents_text q
+
 abbrev pub outcome_text : Outcome → List ℕ
 outcome_text (Ok (Id id)) = codes "id " ++ (decimal id ++ codes "\n")
 outcome_text (Ok Done) = codes "ok\n"
+outcome_text (Ok (Status (Queue status))) = queue_text status
 outcome_text (Err rule) = rule_text rule
 
 -- PLACE.TURN NAME, with a space behind each

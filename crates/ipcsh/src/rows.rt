@@ -2,10 +2,13 @@
 
 ghost use Rattle.std.specs.Prelude.{◌≡◌, ◌++◌, OnOk, string_bytes};
 ghost use Rattle.ipcsh.specs.Rows.{bad_row, name_of_reason, outcome_text, reply_row, row_head, rule_text, waits_row};
+ghost use Rattle.ipcsh.specs.Rows.{queue_text, access_text, key_text, mode_text, owners_text, contents_text, times_text};
 
 use crate::names::Name;
 use crate::readings::Reason;
-use ipc_call::{Answer, Memory, Outcome, Reply, Rule, errno, error_name, rule_name};
+use ipc_call::{
+    Answer, Memory, Outcome, QueueStatus, Reply, Rule, Status, errno, error_name, rule_name,
+};
 use std::fmt::Write;
 
 /// The row of a bad line, by its number.
@@ -53,8 +56,81 @@ fn print_outcome(rows: &mut String, outcome: &Outcome) -> Result<(), Memory>
     match outcome {
         Ok(Answer::Id(id)) => write!(rows, "id {id}\n"),
         Ok(Answer::Done) => rows.push_str("ok\n"),
+        Ok(Answer::Status(Status::Queue(status))) => print_queue(rows, *status),
         Err(rule) => print_rule(rows, *rule),
     }
+}
+
+fn print_queue(rows: &mut String, status: QueueStatus) -> Result<(), Memory>
+    ensures { OnOk result (string_bytes rows.new ≡ string_bytes rows.old ++ queue_text status) }
+{
+    print_access(rows, status)?;
+    print_contents(rows, status)
+}
+
+fn print_access(rows: &mut String, status: QueueStatus) -> Result<(), Memory>
+    ensures { OnOk result (string_bytes rows.new ≡ string_bytes rows.old ++ access_text status) }
+{
+    rows.push_str("queue key ")?;
+    print_key(rows, status.key)?;
+    print_owners(rows, status)?;
+    rows.push_str(" mode ")?;
+    print_mode(rows, status.mode)
+}
+
+#[tactic(auto, unfolding(crate::specs::Rows::key_text))]
+fn print_key(rows: &mut String, key: u32) -> Result<(), Memory>
+    ensures { OnOk result (string_bytes rows.new ≡ string_bytes rows.old ++ key_text key) }
+{
+    write!(rows, "0x{key:08x}")
+}
+
+#[tactic(auto, unfolding(crate::specs::Rows::mode_text))]
+fn print_mode(rows: &mut String, mode: u16) -> Result<(), Memory>
+    ensures { OnOk result (string_bytes rows.new ≡ string_bytes rows.old ++ mode_text mode) }
+{
+    write!(rows, "{mode:04o}")
+}
+
+fn print_owners(rows: &mut String, status: QueueStatus) -> Result<(), Memory>
+    ensures { OnOk result (string_bytes rows.new ≡ string_bytes rows.old ++ owners_text status) }
+{
+    let QueueStatus {
+        uid,
+        gid,
+        cuid,
+        cgid,
+        ..
+    } = status;
+    write!(rows, " uid {uid} gid {gid} cuid {cuid} cgid {cgid}")
+}
+
+fn print_contents(rows: &mut String, status: QueueStatus) -> Result<(), Memory>
+    ensures { OnOk result (string_bytes rows.new ≡ string_bytes rows.old ++ contents_text status) }
+{
+    let QueueStatus {
+        cbytes,
+        qnum,
+        qbytes,
+        lspid,
+        lrpid,
+        ..
+    } = status;
+    write!(rows, " cbytes {cbytes} qnum {qnum} qbytes {qbytes}")?;
+    write!(rows, " lspid {lspid} lrpid {lrpid}")?;
+    print_times(rows, status)
+}
+
+fn print_times(rows: &mut String, status: QueueStatus) -> Result<(), Memory>
+    ensures { OnOk result (string_bytes rows.new ≡ string_bytes rows.old ++ times_text status) }
+{
+    let QueueStatus {
+        stime,
+        rtime,
+        ctime,
+        ..
+    } = status;
+    write!(rows, " stime {stime} rtime {rtime} ctime {ctime}\n")
 }
 
 fn print_rule(rows: &mut String, rule: Rule) -> Result<(), Memory>

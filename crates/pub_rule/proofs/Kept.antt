@@ -63,7 +63,7 @@ stands_still r j id list list' views v w at hit miss s = dite (ℕ_discrete j id
     (w, ap (get_elem? (set views id w)) e ∙ set_here views id w (at_within views id v at), hit e (subst (λ (u : Walk). IsOnByRole r list u.role) same s.2)))
     (λ other. (s.0, set_else views id j w other ∙ s.1, miss other s.0 s.2))
 
-role_still : (made : ℕ) (seat : ℕ → ℕ) (words words' : List ℕ) (j stored : ℕ) (role : Role) → ((c : ℕ) → seat c ≡ j → get_or words' (next_word c) 0 ≡ get_or words (next_word c) 0)
+pub role_still : (made : ℕ) (seat : ℕ → ℕ) (words words' : List ℕ) (j stored : ℕ) (role : Role) → ((c : ℕ) → seat c ≡ j → get_or words' (next_word c) 0 ≡ get_or words (next_word c) 0)
     → IsRole made seat words j stored role → IsRole made seat words' j stored role
 role_still made seat words words' j stored Spent same h = tt
 role_still made seat words words' j stored (Maker k) same h = h

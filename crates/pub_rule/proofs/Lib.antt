@@ -1,4 +1,10 @@
+pub mod Answering
 pub mod Clients
+pub mod Clientwork
+pub mod Combiner
 pub mod Kept
+pub mod Lift
+pub mod Locking
+pub mod Moves
 pub mod Numbers
 pub mod Tables

@@ -1,3 +1,4 @@
+pub mod Deaf
 pub mod Laws
 pub mod Lists
 pub mod Rule
@@ -5,3 +6,6 @@ pub mod Served
 pub mod Steps
 pub mod Walk
 pub mod Words
+pub mod Work
+pub mod WorkLaws
+pub mod WorkSteps

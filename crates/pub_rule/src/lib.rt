@@ -11,9 +11,12 @@ mod served;
 mod steps;
 mod walk;
 mod words;
+mod work;
+pub mod work_laws;
 
-pub use rule::{Half, Listed, Resting};
+pub use rule::{Combining, Half, Listed, Resting};
 pub use served::{Served, Slot};
 pub use steps::{ExchangeHead, LoadHead, LoadNext, MergeToken, SplitClient, SplitToken, StoreNext};
 pub use walk::{Role, View, Walk};
 pub use words::{head_word, lock_word, next_word, state_word, word_count};
+pub use work::{Serving, Stage, Work};

@@ -5,6 +5,7 @@ ghost use Rattle.pub_rule.specs.Rule.{IsDeaf, IsDeep};
 
 use crate::served::{Served, Slot};
 use crate::walk::View;
+use crate::work::Work;
 use atomic_table::TableRule;
 use std::marker::PhantomData;
 
@@ -56,4 +57,25 @@ impl<S: Served> Half<Slot<S::Call, S::Reply, S>, ()> for Resting<S> {
     ghost deaf = { deaf_at_rest S.history };
 
     ghost deep = { deep_at_rest S.history };
+}
+
+/// A state is served by whoever combines: the publication records, the lock word and the slots are as the
+/// history has it, of which each client's calls and replies are a part (flat combining: Hendler, Incze,
+/// Shavit, Tzafrir 2010).
+pub struct Combining<S> {
+    served: PhantomData<S>,
+}
+
+impl<S: Served> Half<Slot<S::Call, S::Reply, S>, Work<S::Event, S::Call, S::Reply>>
+    for Combining<S> {
+    ghost use Rattle.pub_rule.specs.Work.{Serves};
+    ghost use Rattle.pub_rule.specs.Deaf.{opening_work, deaf, deep};
+
+    ghost serves = { λ n. Serves S.history S.legal S.own S.replies n };
+
+    ghost first = { opening_work };
+
+    ghost deaf = { deaf S.history S.legal S.own S.replies };
+
+    ghost deep = { deep S.history S.legal S.own S.replies };
 }

@@ -59,6 +59,8 @@ pub enum Slot<C, R, S> {
     Call(C),
     /// What the client is answered.
     Reply(R),
+    /// The client's call was refused, as no memory was left.
+    Memory,
     /// What is served.
     State(S),
 }

@@ -1,0 +1,133 @@
+-- The steps that add an event keep the rule.
+use Rattle.std.proofs.Common.{◌≡◌, ◌≢◌, ◌⊎◌, ℕ, true, ◌<◌, List, [], ◌∷◌, ◌++◌, length, set, sym, refl, ap, ◌∙◌, subst, inl, inr, ⊎_elim, arith, length-append, lt_of_not-le}
+use mathlib.Core.Logic.{dite}
+use native.Mathlib.Decide.{dec_le}
+use mathlib.Core.Option.{some}
+use Rattle.atomic_table.specs.Table.{State, step, gives, Allows, rest}
+use Rattle.pub_rule.specs.declared.work.Work.{Work}
+use Rattle.pub_rule.specs.declared.work.Stage.{Stage}
+use Rattle.pub_rule.specs.declared.work.Stage.TheVariants as stages
+use Rattle.pub_rule.specs.declared.work.Serving.{Serving}
+use Rattle.pub_rule.specs.declared.work.Serving.TheVariants.{Nothing, Posted}
+use Rattle.pub_rule.specs.declared.served.Slot.{Slot}
+use Rattle.pub_rule.specs.declared.served.Slot.TheVariants as slots
+use Rattle.pub_rule.specs.Served.{AddsCall, AddsNoOther, AddsAtMostOneReply, HasNoMoreReplies}
+use Rattle.pub_rule.specs.Words.{state_word}
+use Rattle.pub_rule.specs.Lists.{IsOn}
+use Rattle.pub_rule.specs.Work.{Phase, away, free, posted, taken, parked, resumed, refused, replied, Client, Desk, IsTaken, IsTakenIn, IsDealt, IsInPhase, IsInStage, IsClient, HasReplies, WasParked, calls_of, Serves}
+use Rattle.pub_rule.specs.WorkSteps.{with_work, entering, call_answered}
+use Rattle.pub_rule.specs.WorkLaws.{KeptByAnswer}
+use Rattle.pub_rule.proofs.Numbers.{state_from_head, state_from_next}
+use Rattle.pub_rule.proofs.Moves.{Stays, holder_step, has_seat}
+use Rattle.pub_rule.proofs.Lift.{Served, lift}
+
+abbrev call_or : {C : Type 0} → C → Serving C → C
+call_or k (Posted r c) = c
+call_or k _ = k
+
+abbrev is_posted : {C : Type 0} → Serving C → Type 0
+is_posted (Posted r c) = Unit {0}
+is_posted _ = ⊥
+
+phase_taken : {C R : Type 0} (r : ℕ) (c : C) (p : Phase C R) (d : Serving C) → d ≡ Posted r c → IsTakenIn r d p → p ≡ taken c
+phase_taken r c away d e h = absurd (h (subst (IsTaken r) (sym e) refl))
+phase_taken r c free d e h = absurd (h (subst (IsTaken r) (sym e) refl))
+phase_taken r c (posted k) d e h = absurd (h (subst (IsTaken r) (sym e) refl))
+phase_taken r c (taken k) d e h = ap (λ z. taken z) (ap (call_or k) (sym h ∙ e))
+phase_taken r c (parked k) d e h = absurd (h (subst (IsTaken r) (sym e) refl))
+phase_taken r c (resumed k) d e h = absurd (subst is_posted (sym e ∙ h) tt)
+phase_taken r c (refused k) d e h = absurd (h (subst (IsTaken r) (sym e) refl))
+phase_taken r c (replied k x) d e h = absurd (h (subst (IsTaken r) (sym e) refl))
+
+in_stage : {C : Type 0} (R : Type 0) (c : C) (y : R) (st : Stage C) → IsInStage {C = C} {R = R} st (taken c) → IsInStage st (replied c y)
+in_stage R c y stages.Spent h = tt
+in_stage R c y (stages.Maker k m) h = tt
+in_stage {C} R c y (stages.Away q) h = absurd (subst (λ (p : Phase C R). IsDealt p → ⊥) h (λ f. f) tt)
+in_stage {C} R c y (stages.Free q) h = absurd (subst (λ (p : Phase C R). IsDealt p → ⊥) h (λ f. f) tt)
+in_stage R c y (stages.Asking q k) h = h
+in_stage R c y (stages.Token q) h = tt
+
+module _ {E C R S : Type 0} (history : S → List E) (legal : List E → Type 0) (own : List E → ℕ → List C) (replies : List E → ℕ → List R) (n : ℕ) (client : E → ℕ) (call : E → C)
+    (own_call : AddsCall own client call) (own_other : AddsNoOther own client) (one_more : AddsAtMostOneReply legal replies) (no_more : HasNoMoreReplies legal own replies) where
+  -- a client with as many replies as calls gets no further one
+  even_still : (h : List E) (e : E) (i : ℕ) (calls : List C) (got : List R) → legal (h ++ e ∷ []) → i ≢ client e → own h i ≡ calls → replies h i ≡ got → length calls ≡ length got → replies (h ++ e ∷ []) i ≡ got
+  even_still h e i calls got law other o g even = ⊎_elim (λ same. same ∙ g)
+      (λ y. let x : R = y.0 in let most = no_more (h ++ e ∷ []) i law in let a = ap length (own_other h e i other ∙ o) in let b = ap length (y.1 ∙ ap (λ (l : List R). l ++ x ∷ []) g) in let c = length-append got (x ∷ []) in absurd (omega arith)) (one_more h e i law)
+
+  -- another client, after an event
+  other_phase : (d : Desk E C) (r : ℕ) (c : C) (e : E) (i : ℕ) (t : Client E C R) (p : Phase C R) (paid : List ℕ) → d.serving ≡ Posted r c → legal (d.hist ++ e ∷ []) → client e ≡ r → i ≢ r → ¬ IsOn i paid → (replies d.hist i ≡ replies d.before i) ⊎ IsOn i d.paid
+      → own d.hist i ≡ calls_of t.entered p → length t.entered ≡ length t.got → HasReplies own replies d i t.got p → IsTakenIn i d.serving p
+      → HasReplies own replies (record { hist = d.hist ++ e ∷ []; before = d.hist; paid = paid; serving = Nothing }) i t.got p × IsTakenIn i Nothing p
+  other_phase d r c e i t away paid s law is other off owed o even h k = (even_still d.hist e i t.entered t.got law (λ z. other (z ∙ is)) o h even, λ f. f)
+  other_phase d r c e i t free paid s law is other off owed o even h k = (even_still d.hist e i t.entered t.got law (λ z. other (z ∙ is)) o h even, λ f. f)
+  other_phase d r c e i t (posted a) paid s law is other off owed o even h k = (even_still d.hist e i t.entered t.got law (λ z. other (z ∙ is)) o h even, λ f. f)
+  other_phase d r c e i t (taken a) paid s law is other off owed o even h k = absurd (other (subst (IsTaken i) (sym k ∙ s) refl))
+  other_phase d r c e i t (parked a) paid s law is other off owed o even h k = let still : replies d.hist i ≡ t.got = ⊎_elim (λ z. z) (λ y. absurd (⊎_elim
+      (λ (same : replies d.hist i ≡ replies d.before i). let x : R = y.0 in let z : length (t.got ++ x ∷ []) ≡ length t.got = ap length (sym y.1 ∙ (same ∙ h.0)) in let b = length-append t.got (x ∷ []) in omega arith) (λ on. y.2 on) owed)) h.1 in
+      ((still, ⊎_elim (λ same. inl (same ∙ still)) (λ y. inr (y.0, y.1 ∙ ap (λ (l : List R). l ++ y.0 ∷ []) still, off)) (one_more d.hist e i law)), λ f. f)
+  other_phase d r c e i t (resumed a) paid s law is other off owed o even h k = absurd (subst is_posted (sym s ∙ k) tt)
+  other_phase d r c e i t (refused a) paid s law is other off owed o even h k = (even_still d.hist e i t.entered t.got law (λ z. other (z ∙ is)) o h even, λ f. f)
+  other_phase d r c e i t (replied a x) paid s law is other off owed o even h k =
+      (even_still d.hist e i (t.entered ++ a ∷ []) (t.got ++ x ∷ []) law (λ z. other (z ∙ is)) o h (let b = length-append t.entered (a ∷ []) in let l = length-append t.got (x ∷ []) in omega arith), λ f. f)
+
+  append_all : (a b c : List E) → (a ++ b) ++ c ≡ a ++ (b ++ c)
+  append_all [] b c = refl
+  append_all (x ∷ a) b c = ap (λ (l : List E). x ∷ l) (append_all a b c)
+
+  parked_still : (h more : List E) (i : ℕ) (t : Client E C R) (p : Phase C R) → WasParked own replies h i t p → WasParked own replies (h ++ more) i t p
+  parked_still h more i t away w = w
+  parked_still h more i t free w = w
+  parked_still h more i t (posted c) w = w
+  parked_still h more i t (taken c) w = w
+  parked_still h more i t (parked c) w = let g = w.0 in ((g.0 ++ more, ap (λ (l : List E). l ++ more) g.1 ∙ append_all t.parked_by g.0 more), w.1, w.2)
+  parked_still h more i t (resumed c) w = let g = w.0 in ((g.0 ++ more, ap (λ (l : List E). l ++ more) g.1 ∙ append_all t.parked_by g.0 more), w.1, w.2)
+  parked_still h more i t (refused c) w = w
+  parked_still h more i t (replied c x) w = w
+
+  same_calls : (h : List E) (e : E) (i : ℕ) (t : Client E C R) → i ≢ client e → own h i ≡ calls_of t.entered t.phase → own (h ++ e ∷ []) i ≡ calls_of t.entered t.phase
+  same_calls h e i t other o = own_other h e i other ∙ o
+
+  abbrev Half : State (Slot C R S) (Work E C R) → Type 0
+  Half = Served n (Serves history legal own replies n)
+
+  answer_half : (size id p q : ℕ) (c : C) (e : E) (h : List E) (y : R) (v : Work E C R) (hands : List (ℕ × Slot C R S)) → IsClient p v.stage → v.holds ≡ true → v.serving ≡ Posted q c → client e ≡ q → call e ≡ c → h ≡ v.seen ++ e ∷ [] → legal h
+      → replies h q ≡ replies v.seen q ++ y ∷ [] → ((i : ℕ) → i < n → (replies v.seen i ≡ replies v.before i) ⊎ IsOn i v.paid)
+      → Allows Half size id (v, (q, slots.Reply y) ∷ hands) (state_word q) (λ _. 4) (λ _ m'. m' ≡ (entering q h v, hands))
+  answer_half size id p q c e h y v hands was holds posts whose what is law brings owes s r sz at _ = let k = r.each_seat id v at in let b = k.combines holds in let o : Client E C R = r.truth q in let d : Desk E C = r.desk in
+      let serving : d.serving ≡ Posted q c = sym b.serving ∙ posts in let inside : q < n = r.taken_below q (subst (IsTaken q) (sym serving) refl) in let rec = (r.each_client q inside).phase in
+      let f : o.phase ≡ taken c = phase_taken q c o.phase d.serving serving rec.taken_is in
+      let old : IsInPhase own replies d q (record o { phase = taken c }) = subst (λ (z : Phase C R). IsInPhase own replies d q (record o { phase = z })) f rec in
+      let small : q < r.made = (dite (dec_le r.made q) (λ u. absurd (subst (λ (z : Phase C R). IsDealt z → ⊥) (sym f ∙ has_seat history legal own replies n s.words s.homes s.views r q u) (λ z. z) tt)) (λ u. lt_of_not-le u)) in
+      let now : h ≡ d.hist ++ e ∷ [] = is ∙ ap (λ (l : List E). l ++ e ∷ []) b.seen in let law' : legal (d.hist ++ e ∷ []) = subst legal now law in
+      let desk' : Desk E C = record { hist = d.hist ++ e ∷ []; before = d.hist; paid = q ∷ []; serving = Nothing } in
+      let owed : (i : ℕ) → i < n → (replies d.hist i ≡ replies d.before i) ⊎ IsOn i d.paid = λ i l. ⊎_elim (λ g. inl (ap (λ (z : List E). replies z i) (sym b.seen) ∙ (g ∙ ap (λ (z : List E). replies z i) b.before))) (λ on. inr (subst (IsOn i) b.paid on)) (owes i l) in (
+        entering q h v,
+        gives,
+        tt,
+        subst (λ (w : Work E C R). Serves history legal own replies n (set s.words (state_word q) 4) (set s.homes q (some (slots.Reply y))) (set s.views id w)) (λ i. record v { seen = sym now i; before = sym b.seen i; paid = q ∷ []; serving = Nothing })
+            (holder_step history legal own replies n s.words s.homes s.views r id p q 4 (some (slots.Reply y)) v (record o { phase = replied c y }) desk' at was holds small
+            (subst (λ (z : Phase C R). Stays (record o { phase = z }) (record o { phase = replied c y })) (sym f) record { stage = in_stage R c y; entered = refl; got = refl; posts = refl; begun = refl; dealt = λ _. tt })
+            refl refl record {
+              calls = subst (λ (z : ℕ). own (d.hist ++ e ∷ []) z ≡ own d.hist z ++ call e ∷ []) whose (own_call d.hist e) ∙ (λ i. old.calls i ++ what i ∷ []);
+              even = old.even;
+              replies_are = ap (λ (z : List E). replies z q) (sym now) ∙ (brings ∙ ap (λ (z : List R). z ++ y ∷ []) (ap (λ (z : List E). replies z q) b.seen ∙ old.replies_are));
+              was_parked = tt;
+              taken_is = λ z. z;
+            }
+            (λ i l other g. let z = other_phase d q c e i (r.truth i) (r.truth i).phase (q ∷ []) serving law' whose other (λ on. ⊎_elim other (λ u. u) on) (owed i l) g.calls g.even g.replies_are g.taken_is in record {
+              calls = same_calls d.hist e i (r.truth i) (λ u. other (u ∙ whose)) g.calls;
+              even = g.even;
+              replies_are = z.0;
+              was_parked = parked_still d.hist (e ∷ []) i (r.truth i) (r.truth i).phase g.was_parked;
+              taken_is = z.1;
+            })
+            (e ∷ [], refl) law' (λ i z. absurd z)),
+        refl,
+      )
+
+  pub answer : KeptByAnswer history legal own replies n client call
+  answer size id p q c e x y me was holds posts whose what is law brings owes hands = lift n (Serves history legal own replies n) size id (state_word q) (λ _. 4) me (λ _ m'. m' ≡ (entering q (history x) me.0.work, rest me.1))
+      (λ k m'. call_answered (step size (state_word q) 4 0 (some (slots.State x))) me k m' history) (λ u. state_from_head q (sym u)) (λ r u. state_from_next q r (sym u))
+      (subst (λ (z : List (ℕ × Slot C R S)). Allows Half size id (me.0.work, z) (state_word q) (λ _. 4) (λ _ m'. m' ≡ (entering q (history x) me.0.work, rest me.1))) (sym hands)
+      (answer_half size id p q c e (history x) y me.0.work (rest me.1) was holds posts whose what is law brings owes))
+      (λ _ w h u. (q, x, refl, refl, ap (λ (z : Work E C R × List (ℕ × Slot C R S)). (with_work z.0 me.0, z.1)) u))

@@ -1,0 +1,100 @@
+-- The steps of the holder keep the rule.
+use Rattle.std.proofs.Common.{◌≡◌, ℕ, eqb, ◌<◌, List, get_or, set, sym, refl, ap, ◌∙◌, subst, arith, lt_of_not-le}
+use mathlib.Core.Logic.{dite}
+use native.Mathlib.Decide.{dec_le}
+use mathlib.Core.Option.{none, some}
+use prog.Atomic.{either}
+use Rattle.atomic_table.specs.Table.{State, Me, step, Act, keeps, takes, Valid, stepped, carried_after}
+use Rattle.atomic_table.proofs.Lists.{exchanged}
+use Rattle.pub_rule.specs.declared.walk.View.{View}
+use Rattle.pub_rule.specs.declared.work.Work.{Work}
+use Rattle.pub_rule.specs.declared.work.Stage.{Stage}
+use Rattle.pub_rule.specs.declared.work.Stage.TheVariants as stages
+use Rattle.pub_rule.specs.declared.work.Serving.{Serving}
+use Rattle.pub_rule.specs.declared.work.Serving.TheVariants.{Nothing, Posted}
+use Rattle.pub_rule.specs.declared.served.Slot.{Slot}
+use Rattle.pub_rule.specs.declared.served.Slot.TheVariants as slots
+use Rattle.pub_rule.specs.Words.{state_word}
+use Rattle.pub_rule.specs.Work.{Phase, away, free, posted, taken, parked, resumed, refused, replied, Client, Desk, IsTaken, IsTakenIn, word_of, home_of, IsDealt, IsInPhase, HasReplies, IsInStage, Serves}
+use Rattle.pub_rule.specs.WorkSteps.{with_work, taking, call_taken}
+use Rattle.pub_rule.specs.WorkLaws.{KeptByTake}
+use Rattle.pub_rule.proofs.Numbers.{state_from_head, state_from_next}
+use Rattle.pub_rule.proofs.Moves.{Stays, holder_step, has_seat}
+use Rattle.pub_rule.proofs.Lift.{Served, lift}
+use Rattle.pub_rule.proofs.Clientwork.{all_of, idle}
+
+abbrev is_nothing : {C : Type 0} → Serving C → Type 0
+is_nothing Nothing = Unit {0}
+is_nothing _ = ⊥
+
+-- what is no longer taken
+retaken : {C R : Type 0} (r : ℕ) (p : Phase C R) (d d' : Serving C) → is_nothing d → ¬ IsTaken r d' → IsTakenIn r d p → IsTakenIn r d' p
+retaken r away d d' clear not h = not
+retaken r free d d' clear not h = not
+retaken r (posted c) d d' clear not h = not
+retaken r (taken c) d d' clear not h = absurd (subst is_nothing h clear)
+retaken r (parked c) d d' clear not h = not
+retaken r (resumed c) d d' clear not h = absurd (subst is_nothing h clear)
+retaken r (refused c) d d' clear not h = not
+retaken r (replied c x) d d' clear not h = not
+
+-- whose replies are in the history doesn't hang on the record that is taken
+same_replies : {E C R : Type 0} (own : List E → ℕ → List C) (replies : List E → ℕ → List R) (d : Desk E C) (serving : Serving C) (r : ℕ) (got : List R) (p : Phase C R) → HasReplies own replies d r got p → HasReplies own replies (record d { serving = serving }) r got p
+same_replies own replies d serving r got away h = h
+same_replies own replies d serving r got free h = h
+same_replies own replies d serving r got (posted c) h = h
+same_replies own replies d serving r got (taken c) h = h
+same_replies own replies d serving r got (parked c) h = h
+same_replies own replies d serving r got (resumed c) h = h
+same_replies own replies d serving r got (refused c) h = h
+same_replies own replies d serving r got (replied c x) h = h
+
+one : {C R : Type 0} (p : Phase C R) → word_of p ≡ 1 → (c : C) × (p ≡ posted c)
+one away e = absurd (omega arith)
+one free e = absurd (omega arith)
+one (posted c) e = (c, refl)
+one (taken c) e = absurd (omega arith)
+one (parked c) e = absurd (omega arith)
+one (resumed c) e = absurd (omega arith)
+one (refused c) e = absurd (omega arith)
+one (replied c x) e = absurd (omega arith)
+
+taken_from : {C : Type 0} (R : Type 0) (c : C) (st : Stage C) → IsInStage {C = C} {R = R} st (posted c) → IsInStage {C = C} {R = R} st (taken c)
+taken_from R c stages.Spent h = tt
+taken_from R c (stages.Maker k m) h = tt
+taken_from {C} R c (stages.Away q) h = absurd (subst (λ (p : Phase C R). IsDealt p → ⊥) h (λ f. f) tt)
+taken_from {C} R c (stages.Free q) h = absurd (subst (λ (p : Phase C R). IsDealt p → ⊥) h (λ f. f) tt)
+taken_from R c (stages.Asking q k) h = h
+taken_from R c (stages.Token q) h = tt
+
+module _ {E C R S : Type 0} (history : S → List E) (legal : List E → Type 0) (own : List E → ℕ → List C) (replies : List E → ℕ → List R) (n : ℕ) where
+  abbrev Half : State (Slot C R S) (Work E C R) → Type 0
+  Half = Served n (Serves history legal own replies n)
+
+  pub take : KeptByTake history legal own replies n
+  take size id p q me was holds nothing inside = let v : Work E C R = me.0.work in let then : ℕ → Me (Slot C R S) (View (Work E C R)) → Type 0 = call_taken (step size (state_word q) 1 2 none) me in
+      let half : ℕ → Me (Slot C R S) (Work E C R) → Type 0 = λ k m'. then k (with_work m'.0 me.0, m'.1) in
+      lift n (Serves history legal own replies n) size id (state_word q) (λ k. either (eqb k 1) 2 k) me half then (λ e. state_from_head q (sym e)) (λ r e. state_from_next q r (sym e))
+      (λ s r sz at _. let found : ℕ = get_or s.words (state_word q) 0 in
+      let k = r.each_seat id v at in let o : Client E C R = r.truth q in let b = k.combines holds in let rec = r.each_client q inside in
+      let F : ℕ → Type 0 = λ x. (w : Work E C R) × (a : Act (Slot C R S)) × Valid s.homes me.1 a × Half (stepped s (state_word q) x id me.1 w a) × half found (w, carried_after me.1 a) in
+      let unserved : is_nothing r.desk.serving = subst is_nothing (sym nothing ∙ b.serving) tt in
+      exchanged found 1 2 F
+      (λ hit. let y = one o.phase (sym rec.word ∙ hit) in let c : C = y.0 in let e : o.phase ≡ posted c = y.1 in
+      let old : IsInPhase own replies r.desk q (record o { phase = posted c }) = subst (λ (z : Phase C R). IsInPhase own replies r.desk q (record o { phase = z })) e rec.phase in
+      let small : q < r.made = (dite (dec_le r.made q) (λ h. absurd (subst (λ (z : Phase C R). IsDealt z → ⊥) (sym e ∙ has_seat history legal own replies n s.words s.homes s.views r q h) (λ f. f) tt)) (λ h. lt_of_not-le h)) in
+      let desk' : Desk E C = record r.desk { serving = Posted q c } in (
+        taking q c v,
+        takes q (slots.Call c),
+        rec.home ∙ ap (λ (z : Phase C R). some (home_of z)) e,
+        subst (λ (w : Work E C R). Serves history legal own replies n (set s.words (state_word q) 2) (set s.homes q none) (set s.views id w)) (λ i. record v { seen = sym b.seen i; before = sym b.before i; paid = sym b.paid i; serving = Posted q c })
+            (holder_step history legal own replies n s.words s.homes s.views r id p q 2 none v (record o { phase = taken c }) desk' at was holds small
+            (subst (λ (z : Phase C R). Stays (record o { phase = z }) (record o { phase = taken c })) (sym e)
+            record { stage = taken_from R c; entered = refl; got = refl; posts = refl; begun = refl; dealt = λ h. h })
+            refl refl record { calls = old.calls; even = old.even; replies_are = old.replies_are; was_parked = tt; taken_is = refl }
+            (λ i _ other h. record { calls = h.calls; even = h.even; replies_are = same_replies own replies r.desk (Posted q c) i (r.truth i).got (r.truth i).phase h.replies_are; was_parked = h.was_parked; taken_is = retaken i (r.truth i).phase r.desk.serving (Posted q c) unserved other h.taken_is })
+            (all_of r.desk.hist) r.is_legal (λ i h. subst (λ (z : ℕ). z < n) (sym h) inside)),
+        ((λ _. (q, c, refl, refl)), λ other. absurd (other hit)),
+      ))
+      (λ miss. (v, keeps, tt, idle history legal own replies n s (state_word q) id v at r, ((λ hit. absurd (miss hit)), λ _. refl))))
+      (λ _ _ _ h. h)

@@ -1,0 +1,230 @@
+-- What is true of the publication records, of the lock word, of the slots and of what seats know of them, between any two steps.
+use Rattle.std.specs.Prelude.{◌≡◌, ◌≢◌, ◌⊎◌, ℕ, true, false, ◌+◌, ◌<◌, ◌≤◌, List, [], ◌∷◌, ◌++◌, length, slice_index}
+use mathlib.Core.Option.{Option, none, some}
+use lib.ListN.{get_elem?}
+use Rattle.pub_rule.specs.declared.work.Work.{Work}
+use Rattle.pub_rule.specs.declared.work.Stage.{Stage}
+use Rattle.pub_rule.specs.declared.work.Stage.TheVariants.{Maker, Away, Free, Asking, Token}
+use Rattle.pub_rule.specs.declared.work.Serving.{Serving}
+use Rattle.pub_rule.specs.declared.work.Serving.TheVariants.{Nothing, Posted, Parked}
+use Rattle.pub_rule.specs.declared.served.Slot.{Slot}
+use Rattle.pub_rule.specs.declared.served.Slot.TheVariants as slots
+use Rattle.pub_rule.specs.Words.{lock_word, state_word, word_count}
+use Rattle.pub_rule.specs.Lists.{IsOn}
+
+-- the second history goes on from the first
+abbrev pub GoesOn : {E : Type 0} → List E → List E → Type 0
+GoesOn {E} h k = (more : List E) × (k ≡ h ++ more)
+
+-- the post is among those marked
+abbrev pub IsMarked : ℕ → ℕ → List (ℕ × ℕ) → Type 0
+IsMarked r k [] = ⊥
+IsMarked r k (x ∷ xs) = ((r ≡ x.0) × (k ≡ x.1)) ⊎ IsMarked r k xs
+
+-- how far a publication record is, with its call and its reply
+pub data Phase (C R : Type 0) : Type 0 where
+  away : Phase C R
+  free : Phase C R
+  posted : C → Phase C R
+  taken : C → Phase C R
+  parked : C → Phase C R
+  resumed : C → Phase C R
+  refused : C → Phase C R
+  replied : C → R → Phase C R
+
+-- a client: how far its record is, the number of its posts and of the times it combined, its calls entered and its replies got, and the history by which it was parked
+pub record Client (E C R : Type 0) : Type 0 where
+  pub phase : Phase C R
+  pub posts : ℕ
+  pub begun : ℕ
+  pub entered : List C
+  pub got : List R
+  pub parked_by : List E
+
+-- what the combiner knows: the history, that before the last event, the clients answered since, and the record taken
+pub record Desk (E C : Type 0) : Type 0 where
+  pub hist : List E
+  pub before : List E
+  pub paid : List ℕ
+  pub serving : Serving C
+
+abbrev pub unmade : {E C R : Type 0} → Client E C R
+unmade = record { phase = away; posts = 0; begun = 0; entered = []; got = []; parked_by = [] }
+
+-- the record that is taken is client r's
+abbrev pub IsTaken : {C : Type 0} → ℕ → Serving C → Type 0
+IsTaken r Nothing = ⊥
+IsTaken r (Posted q c) = r ≡ q
+IsTaken r (Parked q c) = r ≡ q
+
+module _ {C R : Type 0} where
+  abbrev pub word_of : Phase C R → ℕ
+  word_of away = 0
+  word_of free = 0
+  word_of (posted c) = 1
+  word_of (taken c) = 2
+  word_of (parked c) = 3
+  word_of (resumed c) = 2
+  word_of (refused c) = 4
+  word_of (replied c x) = 4
+
+  -- the calls entered, and the one in flight where it is in the history
+  abbrev pub calls_of : List C → Phase C R → List C
+  calls_of entered (parked c) = entered ++ c ∷ []
+  calls_of entered (resumed c) = entered ++ c ∷ []
+  calls_of entered (replied c x) = entered ++ c ∷ []
+  calls_of entered _ = entered
+
+  -- a combiner has dealt with the last post
+  abbrev pub IsDealt : Phase C R → Type 0
+  IsDealt (posted c) = ⊥
+  IsDealt (taken c) = ⊥
+  IsDealt _ = Unit {0}
+
+  -- the record is in this phase where a call is in flight
+  abbrev pub IsInFlight : C → Phase C R → Type 0
+  IsInFlight k away = ⊥
+  IsInFlight k free = ⊥
+  IsInFlight k (posted c) = c ≡ k
+  IsInFlight k (taken c) = c ≡ k
+  IsInFlight k (parked c) = c ≡ k
+  IsInFlight k (resumed c) = c ≡ k
+  IsInFlight k (refused c) = c ≡ k
+  IsInFlight k (replied c x) = c ≡ k
+
+  -- the record of client r is the one that is taken exactly in these phases
+  abbrev pub IsTakenIn : ℕ → Serving C → Phase C R → Type 0
+  IsTakenIn r serving (taken c) = serving ≡ Posted r c
+  IsTakenIn r serving (resumed c) = serving ≡ Parked r c
+  IsTakenIn r serving _ = ¬ IsTaken r serving
+
+  abbrev pub home_of : {S : Type 0} → Phase C R → Option (Slot C R S)
+  home_of away = some slots.Empty
+  home_of free = none
+  home_of (posted c) = some (slots.Call c)
+  home_of (taken c) = none
+  home_of (parked c) = some slots.Empty
+  home_of (resumed c) = none
+  home_of (refused c) = some slots.Memory
+  home_of (replied c x) = some (slots.Reply x)
+
+module _ {E C R : Type 0} (own : List E → ℕ → List C) (replies : List E → ℕ → List R) where
+  -- the replies that client r got, and the one in flight where it is in the history: a parked client's is there where the combiner owes it
+  abbrev pub HasReplies : Desk E C → ℕ → List R → Phase C R → Type 0
+  HasReplies d r got (parked c) = (replies d.before r ≡ got) × ((replies d.hist r ≡ got) ⊎ ((x : R) × (replies d.hist r ≡ got ++ x ∷ []) × ¬ IsOn r d.paid))
+  HasReplies d r got (resumed c) = (x : R) × (replies d.hist r ≡ got ++ x ∷ [])
+  HasReplies d r got (replied c x) = replies d.hist r ≡ got ++ x ∷ []
+  HasReplies d r got _ = replies d.hist r ≡ got
+
+  -- a history that came before has the call that is parked, without its reply
+  abbrev pub IsParkedBy : List E → ℕ → Client E C R → C → Type 0
+  IsParkedBy hist r t c = GoesOn t.parked_by hist × (own t.parked_by r ≡ t.entered ++ c ∷ []) × (replies t.parked_by r ≡ t.got)
+
+  abbrev pub WasParked : List E → ℕ → Client E C R → Phase C R → Type 0
+  WasParked hist r t (parked c) = IsParkedBy hist r t c
+  WasParked hist r t (resumed c) = IsParkedBy hist r t c
+  WasParked hist r t _ = Unit {0}
+
+  -- client r stands to the history as its phase says
+  pub record IsInPhase (d : Desk E C) (r : ℕ) (t : Client E C R) : Type 0 where
+    pub calls : own d.hist r ≡ calls_of t.entered t.phase
+    pub even : length t.entered ≡ length t.got
+    pub replies_are : HasReplies d r t.got t.phase
+    pub was_parked : WasParked d.hist r t t.phase
+    pub taken_is : IsTakenIn r d.serving t.phase
+
+  pub record HasRecord {S : Type 0} (words : List ℕ) (homes : List (Option (Slot C R S))) (d : Desk E C) (r : ℕ) (t : Client E C R) : Type 0 where
+    pub word : slice_index words (state_word r) ≡ word_of t.phase
+    pub home : get_elem? homes r ≡ some (home_of t.phase)
+    pub phase : IsInPhase d r t
+
+-- nobody combines: the state is at home, no record is taken, and nothing is owed
+pub record IsUnheld {E C R S : Type 0} (history : S → List E) (n lock : ℕ) (homes : List (Option (Slot C R S))) (d : Desk E C) : Type 0 where
+  pub zero : lock ≡ 0
+  pub state : S
+  pub home : get_elem? homes n ≡ some (some (slots.State state))
+  pub is : history state ≡ d.hist
+  pub before : d.before ≡ d.hist
+  pub paid : d.paid ≡ []
+  pub nothing : d.serving ≡ Nothing
+
+-- a client combines, which has begun to, and has the state in its hands
+pub record IsHeld {E C R S : Type 0} (made done n lock : ℕ) (homes : List (Option (Slot C R S))) (truth : ℕ → Client E C R) : Type 0 where
+  pub holder : ℕ
+  pub client : holder < made
+  pub live : done ≤ holder
+  pub number : lock ≡ holder + 1
+  pub home : get_elem? homes n ≡ some none
+  pub begun : 1 ≤ (truth holder).begun
+
+-- a client's seat tells how far it is
+abbrev pub IsInStage : {C R : Type 0} → Stage C → Phase C R → Type 0
+IsInStage (Away q) p = p ≡ away
+IsInStage (Free q) p = p ≡ free
+IsInStage (Asking q k) p = IsInFlight k p
+IsInStage _ p = Unit {0}
+
+-- the seat is this client's
+abbrev pub IsClient : {C : Type 0} → ℕ → Stage C → Type 0
+IsClient r (Away q) = q ≡ r
+IsClient r (Free q) = q ≡ r
+IsClient r (Asking q k) = q ≡ r
+IsClient r _ = ⊥
+
+module _ {E C R : Type 0} where
+  -- what a client's seat knows of its own client
+  pub record Tells (made done : ℕ) (seat : ℕ → ℕ) (lock j r : ℕ) (v : Work E C R) (t : Client E C R) : Type 0 where
+    pub made_it : r < made
+    pub live : done ≤ r
+    pub seat_is : seat r ≡ j
+    pub stage : IsInStage v.stage t.phase
+    pub entered : v.entered ≡ t.entered
+    pub got : v.got ≡ t.got
+    pub posts : v.posts ≡ t.posts
+    pub begun : v.begun ≡ t.begun
+    pub past : v.past ≡ true → IsDealt t.phase
+    pub holds : v.holds ≡ true → lock ≡ r + 1
+    pub waits : v.holds ≡ false → lock ≢ r + 1
+
+  -- what the seat of a combiner knows
+  pub record Combines (d : Desk E C) (v : Work E C R) : Type 0 where
+    pub client : (r : ℕ) × IsClient r v.stage
+    pub seen : v.seen ≡ d.hist
+    pub before : v.before ≡ d.before
+    pub paid : v.paid ≡ d.paid
+    pub serving : v.serving ≡ d.serving
+
+  -- what the seat j knows is true
+  pub record Trusts (made done : ℕ) (seat : ℕ → ℕ) (truth : ℕ → Client E C R) (lock : ℕ) (d : Desk E C) (j : ℕ) (v : Work E C R) : Type 0 where
+    pub maker : (k m : ℕ) → v.stage ≡ Maker k m → (j ≡ 0) × (k ≡ made) × (m ≡ done)
+    pub client : (r : ℕ) → IsClient r v.stage → Tells made done seat lock j r v (truth r)
+    pub token : (r : ℕ) → v.stage ≡ Token r → (r < made) × (v.posts ≤ (truth r).posts)
+    pub combines : v.holds ≡ true → Combines d v
+    -- the history that it saw is the beginning of the history
+    pub saw : GoesOn v.seen d.hist
+    -- who was found to combine has begun to
+    pub met : (r : ℕ) → IsOn r v.met → (r < made) × (1 ≤ (truth r).begun)
+    -- the posts heard of were made
+    pub heard : (r k : ℕ) → IsMarked r k v.heard → (r < made) × (k ≤ (truth r).posts)
+    -- and where the last is passed, a combiner has dealt with it
+    pub passed : (r k : ℕ) → IsMarked r k v.passed → (r < made) × (k ≤ (truth r).posts) × ((truth r).posts ≡ k → IsDealt (truth r).phase)
+
+module _ {E C R S : Type 0} (history : S → List E) (legal : List E → Type 0) (own : List E → ℕ → List C) (replies : List E → ℕ → List R) (n : ℕ) where
+  pub record Serves (words : List ℕ) (homes : List (Option (Slot C R S))) (works : List (Work E C R)) : Type 0 where
+    -- what is true of each client, and what the combiner knows
+    pub truth : ℕ → Client E C R
+    pub desk : Desk E C
+    -- the clients below the one have a seat, but those below the other were merged again
+    pub made : ℕ
+    pub done : ℕ
+    -- the seat of each client
+    pub seat : ℕ → ℕ
+    pub few : made ≤ n
+    pub wide : length words ≡ word_count n
+    pub deep : length homes ≡ n + 1
+    pub is_legal : legal desk.hist
+    pub lock : IsUnheld history n (slice_index words lock_word) homes desk ⊎ IsHeld made done n (slice_index words lock_word) homes truth
+    pub taken_below : (r : ℕ) → IsTaken r desk.serving → r < n
+    pub unmade_are : (r : ℕ) → made ≤ r → truth r ≡ unmade
+    pub each_client : (r : ℕ) → r < n → HasRecord own replies words homes desk r (truth r)
+    pub each_seat : (j : ℕ) (v : Work E C R) → get_elem? works j ≡ some v → Trusts made done seat truth (slice_index words lock_word) desk j v

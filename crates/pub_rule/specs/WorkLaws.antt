@@ -1,0 +1,55 @@
+-- The laws of combining: what each kind of step on the publication records asks of the seat that takes it.
+use Rattle.std.specs.Prelude.{◌≡◌, ◌⊎◌, ℕ, true, false, ◌+◌, ◌<◌, List, [], ◌∷◌, ◌++◌, ◌==◌}
+use mathlib.Core.Option.{none, some}
+use prog.Atomic.{either}
+use Rattle.atomic_table.specs.Table.{Me, step, rest, Allows}
+use Rattle.pub_rule.specs.declared.walk.View.{View}
+use Rattle.pub_rule.specs.declared.work.Work.{Work}
+use Rattle.pub_rule.specs.declared.work.Stage.TheVariants.{Away, Free, Asking}
+use Rattle.pub_rule.specs.declared.work.Serving.TheVariants.{Nothing, Posted}
+use Rattle.pub_rule.specs.declared.served.Slot.{Slot}
+use Rattle.pub_rule.specs.declared.served.Slot.TheVariants as slots
+use Rattle.pub_rule.specs.Words.{lock_word, state_word}
+use Rattle.pub_rule.specs.Lists.{IsOn}
+use Rattle.pub_rule.specs.Rule.{Ruled}
+use Rattle.pub_rule.specs.Work.{Serves, IsClient}
+use Rattle.pub_rule.specs.WorkSteps.{call_posted, reply_collected, call_taken, state_seized, slot_fetched, state_released, call_answered}
+
+module _ {E C R S : Type 0} (history : S → List E) (legal : List E → Type 0) (own : List E → ℕ → List C) (replies : List E → ℕ → List R) (n : ℕ) where
+  -- a client that has its slot in its hands, with its call, makes its state word 1
+  abbrev pub KeptByPost : Type 0
+  KeptByPost = (size id q : ℕ) (c : C) (me : Me (Slot C R S) (View (Work E C R))) → me.0.work.stage ≡ Free q → me.1 ≡ (q, slots.Call c) ∷ rest me.1
+      → Allows (Ruled n (Serves history legal own replies n)) size id me (state_word q) (λ _. 1) (λ _. call_posted (step size (state_word q) 1 0 none) me 1)
+
+  -- a client that posted makes its state word 0 where it is 4
+  abbrev pub KeptByCollect : Type 0
+  KeptByCollect = (size id q : ℕ) (c : C) (me : Me (Slot C R S) (View (Work E C R))) → me.0.work.stage ≡ Asking q c
+      → Allows (Ruled n (Serves history legal own replies n)) size id me (state_word q) (λ k. either (k == 4) 0 k) (λ k m'. reply_collected (step size (state_word q) 4 0 none) me k m' legal own replies)
+
+  -- the holder, which has taken no record, makes the state word of client r 2 where it is 1
+  abbrev pub KeptByTake : Type 0
+  KeptByTake = (size id p r : ℕ) (me : Me (Slot C R S) (View (Work E C R))) → IsClient p me.0.work.stage → me.0.work.holds ≡ true → me.0.work.serving ≡ Nothing → r < n
+      → Allows (Ruled n (Serves history legal own replies n)) size id me (state_word r) (λ k. either (k == 1) 2 k) (call_taken (step size (state_word r) 1 2 none) me)
+
+  -- a client that doesn't combine makes the lock word its own number + 1 where it is 0
+  abbrev pub KeptBySeize : Type 0
+  KeptBySeize = (size id p : ℕ) (me : Me (Slot C R S) (View (Work E C R))) → IsClient p me.0.work.stage → me.0.work.holds ≡ false
+      → Allows (Ruled n (Serves history legal own replies n)) size id me lock_word (λ k. either (k == 0) (p + 1) k) (λ k m'. state_seized (step size lock_word 0 (p + 1) none) me k m' history legal)
+
+  -- a client whose slot lies empty at home reads its state word, and takes the slot
+  abbrev pub KeptByFetch : Type 0
+  KeptByFetch = (size id q : ℕ) (me : Me (Slot C R S) (View (Work E C R))) → me.0.work.stage ≡ Away q
+      → Allows (Ruled n (Serves history legal own replies n)) size id me (state_word q) (λ k. k) (slot_fetched (step size (state_word q) 0 0 none) me)
+
+  -- the holder, which has taken no record and owes nothing, makes the lock word 0
+  abbrev pub KeptByRelease : Type 0
+  KeptByRelease = (size id p : ℕ) (x : S) (me : Me (Slot C R S) (View (Work E C R))) → IsClient p me.0.work.stage → me.0.work.holds ≡ true → me.0.work.serving ≡ Nothing → history x ≡ me.0.work.seen
+      → ((r : ℕ) → r < n → (replies me.0.work.seen r ≡ replies me.0.work.before r) ⊎ IsOn r me.0.work.paid) → me.1 ≡ (n, slots.State x) ∷ rest me.1
+      → Allows (Ruled n (Serves history legal own replies n)) size id me lock_word (λ _. 0) (state_released (step size lock_word 0 0 none) me)
+
+  -- the holder, which has taken a posted record and owes nothing, makes its state word 4 with the reply of the call's event, the last in the history
+  abbrev pub KeptByAnswer : (E → ℕ) → (E → C) → Type 0
+  KeptByAnswer client call = (size id p r : ℕ) (c : C) (e : E) (x : S) (y : R) (me : Me (Slot C R S) (View (Work E C R))) → IsClient p me.0.work.stage → me.0.work.holds ≡ true → me.0.work.serving ≡ Posted r c
+      → client e ≡ r → call e ≡ c → history x ≡ me.0.work.seen ++ e ∷ [] → legal (history x) → replies (history x) r ≡ replies me.0.work.seen r ++ y ∷ []
+      → ((i : ℕ) → i < n → (replies me.0.work.seen i ≡ replies me.0.work.before i) ⊎ IsOn i me.0.work.paid) → me.1 ≡ (r, slots.Reply y) ∷ rest me.1
+      → Allows (Ruled n (Serves history legal own replies n)) size id me (state_word r) (λ _. 4) (λ k m'. call_answered (step size (state_word r) 4 0 (some (slots.State x))) me k m' history)

@@ -1,0 +1,100 @@
+-- What each kind of step on the publication records tells the seat that takes it. A seat before the step is m, with its view m.0; the step found the number k and left the seat m'.
+use Rattle.std.specs.Prelude.{◌≡◌, ◌≢◌, ◌⊎◌, ℕ, true, false, ◌+◌, ◌-◌, ◌<◌, List, [], ◌∷◌, ◌++◌}
+use mathlib.Core.Option.{some}
+use Rattle.atomic_table.specs.Table.{Step, Me, rest}
+use Rattle.pub_rule.specs.declared.walk.View.{View}
+use Rattle.pub_rule.specs.declared.work.Work.{Work}
+use Rattle.pub_rule.specs.declared.work.Stage.TheVariants.{Away, Free, Asking}
+use Rattle.pub_rule.specs.declared.work.Serving.TheVariants.{Nothing, Posted, Parked}
+use Rattle.pub_rule.specs.declared.served.Slot.{Slot}
+use Rattle.pub_rule.specs.declared.served.Slot.TheVariants as slots
+use Rattle.pub_rule.specs.Words.{state_word}
+use Rattle.pub_rule.specs.Work.{GoesOn, IsClient}
+
+-- the other half of a view is replaced
+abbrev pub with_work : {W : Type 0} → W → View W → View W
+with_work w v = record v { work = w }
+
+module _ {E C R : Type 0} where
+  -- the client has its slot in its hands
+  abbrev pub fetched : ℕ → Work E C R → Work E C R
+  fetched q w = record w { stage = Free q }
+
+  -- it posted
+  abbrev pub asking : ℕ → C → Work E C R → Work E C R
+  asking q c w = record w { stage = Asking q c; posts = w.posts + 1; past = false }
+
+  -- it has the reply to its call, by this history
+  abbrev pub answered : ℕ → C → R → List E → Work E C R → Work E C R
+  answered q c x h w = record w { stage = Free q; seen = h; entered = w.entered ++ c ∷ []; got = w.got ++ x ∷ []; past = false }
+
+  -- its call was refused for memory
+  abbrev pub refused : ℕ → List E → Work E C R → Work E C R
+  refused q h w = record w { stage = Free q; seen = h; past = false }
+
+  -- it combines, by this history
+  abbrev pub holding : List E → Work E C R → Work E C R
+  holding h w = record w { holds = true; seen = h; before = h; paid = []; serving = Nothing; begun = w.begun + 1 }
+
+  -- it found another that combines
+  abbrev pub meeting : ℕ → Work E C R → Work E C R
+  meeting c w = record w { met = c ∷ w.met }
+
+  -- it took a record that was posted, or one that was parked
+  abbrev pub taking : ℕ → C → Work E C R → Work E C R
+  taking r c w = record w { serving = Posted r c }
+
+  abbrev pub resuming : ℕ → C → Work E C R → Work E C R
+  resuming r c w = record w { serving = Parked r c }
+
+  -- it answered with the event of this history, or left the call parked
+  abbrev pub entering : ℕ → List E → Work E C R → Work E C R
+  entering r h w = record w { seen = h; before = w.seen; paid = r ∷ []; serving = Nothing }
+
+  abbrev pub leaving : List E → Work E C R → Work E C R
+  leaving h w = record w { seen = h; before = w.seen; paid = []; serving = Nothing }
+
+  -- it handed out a parked call's reply, or refused a call for memory
+  abbrev pub paying : ℕ → Work E C R → Work E C R
+  paying r w = record w { paid = r ∷ w.paid; serving = Nothing }
+
+  abbrev pub refusing : Work E C R → Work E C R
+  refusing w = record w { serving = Nothing }
+
+  -- it combines no more
+  abbrev pub released : Work E C R → Work E C R
+  released w = record w { holds = false; before = w.seen; paid = []; serving = Nothing }
+
+module _ {E C R S : Type 0} (st : Step (Slot C R S)) (m : Me (Slot C R S) (View (Work E C R))) (k : ℕ) (m' : Me (Slot C R S) (View (Work E C R))) where
+  -- the first read of the own state: the slot comes into the client's hands
+  abbrev pub slot_fetched : Type 0
+  slot_fetched = (q : ℕ) × (m.0.work.stage ≡ Away q) × (m' ≡ (with_work (fetched q m.0.work) m.0, (q, slots.Empty) ∷ m.1))
+
+  -- post: the call goes home
+  abbrev pub call_posted : Type 0
+  call_posted = (q : ℕ) × (c : C) × (m.0.work.stage ≡ Free q) × (m.1 ≡ (q, slots.Call c) ∷ rest m.1) × (m' ≡ (with_work (asking q c m.0.work) m.0, rest m.1))
+
+  module _ (legal : List E → Type 0) (own : List E → ℕ → List C) (replies : List E → ℕ → List R) where
+    -- collect: the own word was 4, so the reply comes into the client's hands, and the history has its call and its reply at the end of those entered and got; or the call was refused for memory; or the word was another one
+    abbrev pub reply_collected : Type 0
+    reply_collected = (k ≡ 4 → (q : ℕ) × (c : C) × (h : List E) × (m.0.work.stage ≡ Asking q c) × GoesOn m.0.work.seen h × legal h
+        × (((m' ≡ (with_work (refused q h m.0.work) m.0, (q, slots.Memory) ∷ m.1)) × (own h q ≡ m.0.work.entered) × (replies h q ≡ m.0.work.got))
+        ⊎ ((x : R) × (m' ≡ (with_work (answered q c x h m.0.work) m.0, (q, slots.Reply x) ∷ m.1)) × (own h q ≡ m.0.work.entered ++ c ∷ []) × (replies h q ≡ m.0.work.got ++ x ∷ []))))
+        × (k ≢ 4 → m' ≡ m)
+
+  -- take from posted, by the holder: the record's word was 1, so its call comes into the holder's hands, or it was another one
+  abbrev pub call_taken : Type 0
+  call_taken = (k ≡ 1 → (r : ℕ) × (c : C) × (st.word ≡ state_word r) × (m' ≡ (with_work (taking r c m.0.work) m.0, (r, slots.Call c) ∷ m.1))) × (k ≢ 1 → m' ≡ m)
+
+  -- seize: nobody combined, so the state comes into the client's hands with the history; or another client combines
+  abbrev pub state_seized : (S → List E) → (List E → Type 0) → Type 0
+  state_seized history legal = (k ≡ 0 → (x : S) × (m' ≡ (with_work (holding (history x) m.0.work) m.0, (st.slots - 1, slots.State x) ∷ m.1)) × GoesOn m.0.work.seen (history x) × legal (history x))
+      × (k ≢ 0 → (c : ℕ) × (k ≡ c + 1) × (c < st.slots - 1) × ((r : ℕ) → IsClient r m.0.work.stage → c ≢ r) × (m' ≡ (with_work (meeting c m.0.work) m.0, m.1)))
+
+  -- release: the state goes home
+  abbrev pub state_released : Type 0
+  state_released = m' ≡ (with_work (released m.0.work) m.0, rest m.1)
+
+  -- answer, by the holder: the reply goes home, and the history has one event more
+  abbrev pub call_answered : (S → List E) → Type 0
+  call_answered history = (r : ℕ) × (x : S) × (st.word ≡ state_word r) × (st.said ≡ some (slots.State x)) × (m' ≡ (with_work (entering r (history x) m.0.work) m.0, rest m.1))

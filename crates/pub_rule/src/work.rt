@@ -1,0 +1,64 @@
+//! What a seat knows of what is served.
+use std::collections::LinkedList;
+
+/// How far a seat's client is with its own publication record (flat combining: Hendler, Incze, Shavit,
+/// Tzafrir 2010). The seats are the project's own.
+pub enum Stage<C> {
+    /// A seat that was merged into another one.
+    Spent,
+    /// The first seat, which has made the seats of the clients below the first number, and taken in again
+    /// those below the second.
+    Maker(u64, u64),
+    /// The seat of this client, which asks nothing, and whose slot lies empty at home.
+    Away(u64),
+    /// The seat of this client, which asks nothing, and has its slot in its hands.
+    Free(u64),
+    /// The seat of this client, which posted this call, and has collected no reply to it.
+    Asking(u64, C),
+    /// What this client tells another.
+    Token(u64),
+}
+
+/// Which publication record the combiner has taken, of which client, with its call (flat combining: Hendler,
+/// Incze, Shavit, Tzafrir 2010). That a call may be parked is the project's own.
+pub enum Serving<C> {
+    /// None.
+    Nothing,
+    /// One that was posted.
+    Posted(u64, C),
+    /// One that was parked.
+    Parked(u64, C),
+}
+
+/// What a seat knows of what is served. It is the project's own. No value of it is made: it stands in proofs
+/// alone.
+pub struct Work<E, C, R> {
+    /// How far its client is.
+    pub stage: Stage<C>,
+    /// Whether its client combines.
+    pub holds: bool,
+    /// The history as the seat saw it last.
+    pub seen: LinkedList<E>,
+    /// A combiner's history before the last event.
+    pub before: LinkedList<E>,
+    /// The clients that the combiner has answered since.
+    pub paid: LinkedList<u64>,
+    /// The record that the combiner has taken.
+    pub serving: Serving<C>,
+    /// The client's calls that were answered, but for those refused for memory.
+    pub entered: LinkedList<C>,
+    /// The replies to them.
+    pub got: LinkedList<R>,
+    /// How often the client posted.
+    pub posts: u64,
+    /// How often it began to combine.
+    pub begun: u64,
+    /// The clients that were found to combine.
+    pub met: LinkedList<u64>,
+    /// The posts that it heard of, each a client and the number of its posts then.
+    pub heard: LinkedList<(u64, u64)>,
+    /// The posts that a combiner is known to have dealt with.
+    pub passed: LinkedList<(u64, u64)>,
+    /// Whether a combiner is known to have dealt with the client's last post.
+    pub past: bool,
+}

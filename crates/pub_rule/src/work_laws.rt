@@ -1,0 +1,52 @@
+//! One law for each kind of step on the publication records.
+//!
+//! These are the kinds of step by which a client asks and a combiner serves in flat combining (Hendler,
+//! Incze, Shavit, Tzafrir 2010). A law treats the client that steps and any one other.
+ghost use Rattle.std.specs.Prelude.{ℕ};
+ghost use Rattle.pub_rule.specs.WorkLaws.{
+  KeptByFetch,
+  KeptByPost,
+  KeptByCollect,
+  KeptBySeize,
+  KeptByTake,
+  KeptByAnswer,
+  KeptByRelease,
+};
+
+use crate::served::Served;
+
+/// Post: a client that has its slot in its hands, with its call, makes its own state word 1.
+pub fn post<S: Served>()
+    ensures { (n : ℕ) → KeptByPost S.history S.legal S.own S.replies n }
+{}
+
+/// Collect: a client that posted makes its own state word 0 where it is 4.
+pub fn collect<S: Served>()
+    ensures { (n : ℕ) → KeptByCollect S.history S.legal S.own S.replies n }
+{}
+
+/// Take: the holder, which has taken no record, makes the state word of a client 2 where it is 1.
+pub fn take<S: Served>()
+    ensures { (n : ℕ) → KeptByTake S.history S.legal S.own S.replies n }
+{}
+
+/// Seize: a client that doesn't combine makes the lock word its own number + 1 where it is 0.
+pub fn seize<S: Served>()
+    ensures { (n : ℕ) → KeptBySeize S.history S.legal S.own S.replies n }
+{}
+
+/// Read state, for the first time: a client whose slot lies empty at home takes it.
+pub fn fetch<S: Served>()
+    ensures { (n : ℕ) → KeptByFetch S.history S.legal S.own S.replies n }
+{}
+
+/// Release: the holder, which has taken no record and owes nothing, makes the lock word 0.
+pub fn release<S: Served>()
+    ensures { (n : ℕ) → KeptByRelease S.history S.legal S.own S.replies n }
+{}
+
+/// Answer: the holder, which has taken a posted record and owes nothing, makes its state word 4, with the
+/// reply of the call's event, which is the last in the history.
+pub fn answer<S: Served>()
+    ensures { (n : ℕ) → KeptByAnswer S.history S.legal S.own S.replies n S.client S.call }
+{}
