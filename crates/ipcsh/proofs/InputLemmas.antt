@@ -3,13 +3,13 @@ use Rattle.std.proofs.Common.{arith, ◌+◌, ◌<◌, ◌≤◌, get_or, ◌≡
 use Rattle.std.specs.Prelude.{Option, fold, string_bytes}
 use Rattle.std.proofs.lemmas.List.{map_push, map-append, nil_from_length, length-take, take_more, take_all}
 use Rattle.std.proofs.lemmas.List.Sums.{fold_push, fold-append}
-use Rattle.ipcsh.specs.Lines.{Split, split, whole_line, within_limit, last_lines, complete_lines, lines_of}
+use Rattle.ipc_text.specs.Lines.{Split, split, whole_line, within_limit, last_lines, complete_lines, lines_of}
 use Rattle.ipcsh.specs.Output.{Answers, Input, Printed, after_line, answered, lines_in}
 use Rattle.ipcsh.specs.declared.input.ScriptInput.{ScriptInput}
 use Rattle.ipcsh.specs.Inputs.{HasRead, Takes}
 use Rattle.ipcsh.specs.Runs.{LeadTo}
 use Rattle.ipcsh.specs.Session.{Session, fresh_session}
-use Rattle.ipcsh.proofs.LineLemmas.{kept_whole, kept_last, kept_more, split_feed, split_byte, complete_more}
+use Rattle.ipc_text.proofs.LineLemmas.{kept_whole, kept_last, kept_more, split_feed, split_byte, complete_more}
 
 -- a line that was answered leads on
 pub LeadTo-line : (lines : List (Option (List ℕ))) (s : Session) (line : Option (List ℕ)) (new : Session) (front old rows : List ℕ)

@@ -1,15 +1,6 @@
-pub mod Calls
-pub mod Grammar
 pub mod Inputs
 pub mod Inside
-pub mod LineText
-pub mod Lines
-pub mod Names
-pub mod Numbers
 pub mod Output
 pub mod Readings
-pub mod Rows
 pub mod Runs
 pub mod Session
-pub mod Settings
-pub mod Words

@@ -8,7 +8,7 @@ use Rattle.ipc_space.specs.Spaces.{own_reply, other_replies}
 use Rattle.ipcsh.specs.declared.readings.Reading.{Reading}
 use Rattle.ipcsh.specs.declared.readings.Reading.TheVariants as readings
 use Rattle.ipcsh.specs.Readings.{reading_of}
-use Rattle.ipcsh.specs.Rows.{bad_row, effect_rows, reply_row, name_at}
+use Rattle.ipc_text.specs.Rows.{bad_row, effect_rows, reply_row, name_at}
 use Rattle.ipcsh.specs.Session.{Session, fresh_session, history_of}
 use Rattle.ipc_call.specs.Limits.{with_limit}
 

@@ -4,13 +4,13 @@ use Rattle.ipc_call.specs.declared.calls.Call.{Call}
 use Rattle.ipc_creds.specs.Credentials.{Credentials}
 use Rattle.ipcsh.specs.declared.readings.Reading.{Reading}
 use Rattle.ipcsh.specs.declared.readings.Reading.TheVariants as readings
-use Rattle.ipcsh.specs.declared.readings.Reason.{Reason}
-use Rattle.ipcsh.specs.declared.readings.Reason.TheVariants as reasons
+use Rattle.ipc_text.specs.declared.reasons.Reason.{Reason}
+use Rattle.ipc_text.specs.declared.reasons.Reason.TheVariants as reasons
 use Rattle.ipc_call.specs.declared.limits.Limit.{Limit}
-use Rattle.ipcsh.specs.Calls.{call_of}
-use Rattle.ipcsh.specs.Grammar.{client_of, limit_of, clock_of}
+use Rattle.ipc_text.specs.Calls.{call_of}
+use Rattle.ipc_text.specs.Grammar.{client_of, limit_of, clock_of}
 use Rattle.ipc_call.specs.Limits.{is_in_range}
-use Rattle.ipcsh.specs.Words.{words_of, is_plain}
+use Rattle.ipc_text.specs.Words.{words_of, is_plain}
 use Rattle.ipcsh.specs.Session.{Session, has_started, waits, client_named}
 
 abbrev pub begins_comment : List ℕ → Bool

@@ -3,15 +3,15 @@
 ghost use Rattle.std.specs.Prelude.{◌≡◌, ◌<◌, ◌≤◌, ◌+◌, ◌^◌, ◌++◌, ◌∷◌, [], List, ℕ, OnOk, OnErr, IfErr, length, string_bytes};
 ghost use Rattle.std.specs.Io.KnownBytes.{Appends};
 ghost use Rattle.ipcsh.specs.Session.{fresh_session};
-ghost use Rattle.ipcsh.specs.Lines.{lines_of};
+ghost use Rattle.ipc_text.specs.Lines.{lines_of};
 ghost use Rattle.ipcsh.specs.Runs.{LeadTo};
 ghost use Rattle.ipcsh.specs.Inputs.{HasRead, Takes};
 
-use crate::lines::Pending;
 use crate::output::write_bytes;
 use crate::runs::Fault;
 use crate::session::Session;
 use ipc_call::Memory;
+use ipc_text::Pending;
 use std::alloc::Global;
 use std::io::Write;
 

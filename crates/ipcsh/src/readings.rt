@@ -1,8 +1,8 @@
 // What a line says at its place in a script.
 
 ghost use Rattle.std.specs.Prelude.{◌≡◌, IfOk, IfNone};
-ghost use Rattle.ipcsh.specs.LineText.{content_of};
-ghost use Rattle.ipcsh.specs.Words.{words_of};
+ghost use Rattle.ipc_text.specs.LineText.{content_of};
+ghost use Rattle.ipc_text.specs.Words.{words_of};
 ghost use Rattle.ipcsh.specs.Readings.{
   begins_comment as comments,
   reading_of,
@@ -17,36 +17,13 @@ ghost use Rattle.ipcsh.specs.Readings.{
   IsSound,
 };
 ghost use Rattle.ipcsh.specs.Session.{client_named as client_with};
-ghost use Rattle.ipcsh.specs.Grammar.{client_of as client_in, limit_of as limit_in, clock_of as clock_in};
+ghost use Rattle.ipc_text.specs.Grammar.{client_of as client_in, limit_of as limit_in, clock_of as clock_in};
 
-use crate::calls::call_of;
-use crate::grammar::{client_of, clock_of, limit_of};
-use crate::lines::Line;
-use crate::names::Name;
 use crate::session::{CLIENTS_MAX, Session};
-use crate::words::{is_plain, split_word};
 use ipc_call::{Call, Limit, Memory};
 use ipc_creds::Creds;
+use ipc_text::{Line, Name, Reason, call_of, client_of, clock_of, is_plain, limit_of, split_word};
 use std::alloc::Global;
-
-/// Why a line is bad.
-#[derive(Clone, Copy, Debug, PartialEq, Eq)]
-pub(crate) enum Reason {
-    /// More than 65536 bytes.
-    TooLong,
-    /// A byte or a form that isn't in the grammar.
-    BadLine,
-    /// A client or a limit after the namespace was started.
-    Late,
-    /// A client's name that is there already.
-    Twice,
-    /// A 65th client.
-    Many,
-    /// The first word is no directive and no client's name.
-    UnknownClient,
-    /// The client's last call still waits.
-    Busy,
-}
 
 /// What a line says.
 #[derive(Debug, Drop)]

@@ -7,19 +7,17 @@ ghost use Rattle.ipc_space.specs.Spaces.{own_reply, other_replies};
 ghost use Rattle.ipc_model.specs.History.{next_step, with_event};
 ghost use Rattle.ipcsh.specs.Output.{Answers, CarriesOut, call_event};
 ghost use Rattle.ipcsh.specs.Readings.{CanJoin, IsSound};
-ghost use Rattle.ipcsh.specs.Rows.{bad_row, effect_rows, other_row, name_at as name_in};
+ghost use Rattle.ipc_text.specs.Rows.{bad_row, effect_rows, other_row, name_at as name_in};
 ghost use Rattle.ipc_call.specs.Limits.{is_in_range, with_limit as limits_with};
-ghost use Rattle.ipcsh.specs.LineText.{content_of};
+ghost use Rattle.ipc_text.specs.LineText.{content_of};
 ghost use Rattle.ipcsh.specs.Runs.{summary_of};
 
-use crate::lines::Line;
-use crate::names::Name;
-use crate::readings::{Reading, Reason};
-use crate::rows::{print_bad, print_reply, print_waits};
+use crate::readings::Reading;
 use crate::runs::Summary;
 use ipc_call::{Call, Limit, Limits, Memory, Reply};
 use ipc_creds::Creds;
 use ipc_space::{Effects, Space};
+use ipc_text::{Line, Name, Reason, print_bad, print_reply, print_waits};
 use std::alloc::Global;
 use std::marker::Model;
 

@@ -1,6 +1,6 @@
 use Rattle.std.proofs.Common.{◌≡◌, ◌++◌, take}
 use Rattle.std.specs.Prelude.{string_bytes, flat_map}
-use Rattle.ipcsh.specs.Rows.{other_row}
+use Rattle.ipc_text.specs.Rows.{other_row}
 use Rattle.ipcsh.proofs.session.Session.print_others.Given as goal
 
 -- the replies so far are printed

@@ -1,0 +1,5 @@
+pub mod GrammarLemmas
+pub mod LineLemmas
+pub mod NameLemmas
+pub mod NumberLemmas
+pub mod WordLemmas

@@ -1,0 +1,23 @@
+use Rattle.std.proofs.Common.{◌≡◌, arith, refl, rules}
+use Rattle.std.proofs.lemmas.Slice.Eq.{text_from_reads}
+use Rattle.std.specs.Prelude.{codes}
+use Rattle.ipc_text.specs.Grammar.{capability_named}
+use Rattle.ipc_text.proofs.grammar.capability_named.Goals as goal
+
+pub returns-in-73 : goal.returns-in-73
+unfolding capability_named
+returns-in-73 c =
+    let e : c.args.word.now ≡ codes "IPC_OWNER" = text_from_reads c.args.word.now (codes "IPC_OWNER") (omega arith) (search rules) in
+    rw e refl
+
+pub returns-in-83 : goal.returns-in-83
+unfolding capability_named
+returns-in-83 c =
+    let e : c.args.word.now ≡ codes "SYS_ADMIN" = text_from_reads c.args.word.now (codes "SYS_ADMIN") (omega arith) (search rules) in
+    rw e refl
+
+pub returns-in-83-2 : goal.returns-in-83-2
+unfolding capability_named
+returns-in-83-2 c =
+    let e : c.args.word.now ≡ codes "SYS_RESOURCE" = text_from_reads c.args.word.now (codes "SYS_RESOURCE") (omega arith) (search rules) in
+    rw e refl

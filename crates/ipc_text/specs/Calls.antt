@@ -1,0 +1,66 @@
+-- The calls that the words behind a client's name make; None where they aren't in the grammar.
+use Rattle.std.specs.Prelude.{ℕ, List, [], ◌∷◌, codes, bytes_eq, Option, Some, None, if◌then◌else◌, option_map}
+use Rattle.ipc_call.specs.declared.calls.Call.{Call}
+use Rattle.ipc_call.specs.declared.calls.Call.TheVariants.{MsgGet, IpcStat, IpcSet, IpcRmid}
+use Rattle.ipc_call.specs.declared.calls.Kind.{Kind}
+use Rattle.ipc_call.specs.declared.calls.Kind.TheVariants.{Queue, Sems, Segment}
+use Rattle.ipc_text.specs.Grammar.{◌>>=◌}
+use Rattle.ipc_text.specs.Numbers.{number_32, number_64}
+
+-- KEY FLAGS
+abbrev pub msgget_of : List (List ℕ) → Option Call
+msgget_of [] = None
+msgget_of (key ∷ []) = None
+msgget_of (key ∷ flags ∷ []) = number_32 key >>= λ k. option_map (λ f. MsgGet k f) (number_32 flags)
+msgget_of (key ∷ flags ∷ more ∷ others) = None
+
+-- KIND: q queue, s semaphore set, m segment
+unfoldable pub kind_named : List ℕ → Option Kind
+kind_named word = if bytes_eq word (codes "q") then Some Queue else (if bytes_eq word (codes "s") then Some Sems else (if bytes_eq word (codes "m") then Some Segment else None))
+
+-- KIND ID
+abbrev pub object_of : List (List ℕ) → Option (Kind × ℕ)
+object_of [] = None
+object_of (kind ∷ []) = None
+object_of (kind ∷ id ∷ []) = kind_named kind >>= λ k. option_map (λ i. (k, i)) (number_32 id)
+object_of (kind ∷ id ∷ more ∷ others) = None
+
+abbrev pub stat_of : List (List ℕ) → Option Call
+stat_of words = option_map (λ object. IpcStat object.0 object.1) (object_of words)
+
+abbrev pub rmid_of : List (List ℕ) → Option Call
+rmid_of words = option_map (λ object. IpcRmid object.0 object.1) (object_of words)
+
+-- [QBYTES]
+abbrev pub qbytes_of : List (List ℕ) → Option (Option ℕ)
+qbytes_of [] = Some None
+qbytes_of (qbytes ∷ []) = option_map (λ n. Some n) (number_64 qbytes)
+qbytes_of (qbytes ∷ more ∷ others) = None
+
+abbrev pub set_words : List ℕ → List ℕ → List ℕ → List ℕ → List ℕ → List (List ℕ) → Option Call
+set_words kind id uid gid mode rest = do
+  k ← kind_named kind
+  i ← number_32 id
+  u ← number_32 uid
+  g ← number_32 gid
+  m ← number_32 mode
+  q ← qbytes_of rest
+  Some (IpcSet k i u g m q)
+
+-- KIND ID UID GID MODE [QBYTES]
+unfoldable pub set_of : List (List ℕ) → Option Call
+set_of [] = None
+set_of (kind ∷ []) = None
+set_of (kind ∷ id ∷ []) = None
+set_of (kind ∷ id ∷ uid ∷ []) = None
+set_of (kind ∷ id ∷ uid ∷ gid ∷ []) = None
+set_of (kind ∷ id ∷ uid ∷ gid ∷ mode ∷ rest) = set_words kind id uid gid mode rest
+
+-- the word of the call, and its arguments
+unfoldable pub call_of : List (List ℕ) → Option Call
+call_of [] = None
+call_of (word ∷ words) =
+    if bytes_eq word (codes "msgget") then msgget_of words
+    else (if bytes_eq word (codes "stat") then stat_of words
+    else (if bytes_eq word (codes "set") then set_of words
+    else (if bytes_eq word (codes "rmid") then rmid_of words else None)))

@@ -1,0 +1,91 @@
+-- What the words behind a directive say; None where they aren't in the grammar.
+use Rattle.std.specs.Prelude.{ℕ, List, [], ◌∷◌, length, nat_le, codes, bytes_eq, bit_or, Option, Some, None, if◌then◌else◌, option_map, option_and_then}
+use Rattle.ipc_creds.specs.Credentials.{Credentials, cap_ipc_owner, cap_sys_admin, cap_sys_resource}
+use Rattle.ipc_call.specs.declared.limits.Limit.{Limit}
+use Rattle.ipc_text.specs.Names.{name_of}
+use Rattle.ipc_text.specs.Numbers.{number_32, number_64}
+use Rattle.ipc_text.specs.Settings.{limit_named, value_of}
+use Rattle.ipc_text.specs.Words.{fields_of, after_prefix}
+
+infixl 10 ◌>>=◌
+abbrev pub ◌>>=◌ : {A B : Type 0} → Option A → (A → Option B) → Option B
+o >>= f = option_and_then f o
+
+-- each of the words is a number
+abbrev pub numbers_32 : List (List ℕ) → Option (List ℕ)
+numbers_32 [] = Some []
+numbers_32 (w ∷ ws) = do
+  n ← number_32 w
+  ns ← numbers_32 ws
+  Some (n ∷ ns)
+
+abbrev pub at_most_32 : List ℕ → Option (List ℕ)
+at_most_32 groups = if nat_le (length groups) 32 then Some groups else None
+
+-- 1 to 32 groups, which commas separate
+unfoldable pub group_list : List ℕ → Option (List ℕ)
+group_list text = numbers_32 (fields_of text) >>= at_most_32
+
+unfoldable pub capability_named : List ℕ → Option ℕ
+capability_named word =
+    if bytes_eq word (codes "IPC_OWNER") then Some cap_ipc_owner else (if bytes_eq word (codes "SYS_ADMIN") then Some cap_sys_admin else (if bytes_eq word (codes "SYS_RESOURCE") then Some cap_sys_resource else None))
+
+-- the capabilities so far with those that the words name
+abbrev pub with_capabilities : ℕ → List (List ℕ) → Option ℕ
+with_capabilities caps [] = Some caps
+with_capabilities caps (w ∷ ws) = capability_named w >>= λ cap. with_capabilities (bit_or caps cap) ws
+
+unfoldable pub capability_list : List ℕ → Option ℕ
+capability_list text = with_capabilities 0 (fields_of text)
+
+-- what follows a prefix of the first word, and the words behind it
+abbrev pub option_text : List ℕ → List (List ℕ) → Option (List ℕ × List (List ℕ))
+option_text prefix [] = None
+option_text prefix (w ∷ ws) = option_map (λ text. (text, ws)) (after_prefix prefix w)
+
+-- an option of a client's line that may be missing, and the words behind it
+abbrev pub optional_at : {A : Type 0} → (List ℕ → Option A) → A → List (List ℕ) → Option (List ℕ × List (List ℕ)) → Option (A × List (List ℕ))
+optional_at read none words None = Some (none, words)
+optional_at read none words (Some (text, ws)) = option_map (λ x. (x, ws)) (read text)
+
+abbrev pub optional : {A : Type 0} → List ℕ → (List ℕ → Option A) → A → List (List ℕ) → Option (A × List (List ℕ))
+optional prefix read none words = optional_at read none words (option_text prefix words)
+
+abbrev pub only : {A : Type 0} → A → List (List ℕ) → Option A
+only x [] = Some x
+only x (w ∷ ws) = None
+
+-- [groups=G,G,..] [caps=C,C,..]
+abbrev pub options_of : List (List ℕ) → Option (List ℕ × ℕ)
+options_of words = do
+  groups ← optional (codes "groups=") group_list [] words
+  caps ← optional (codes "caps=") capability_list 0 groups.1
+  only (groups.0, caps.0) caps.1
+
+-- NAME EUID EGID [groups=G,G,..] [caps=C,C,..]
+abbrev pub client_words : List ℕ → List ℕ → List ℕ → List (List ℕ) → Option (List ℕ × Credentials)
+client_words name euid egid options = do
+  n ← name_of name
+  u ← number_32 euid
+  g ← number_32 egid
+  o ← options_of options
+  Some (n, record { euid = u; egid = g; groups = o.0; caps = o.1 })
+
+unfoldable pub client_of : List (List ℕ) → Option (List ℕ × Credentials)
+client_of [] = None
+client_of (name ∷ []) = None
+client_of (name ∷ euid ∷ []) = None
+client_of (name ∷ euid ∷ egid ∷ options) = client_words name euid egid options
+
+-- LIMIT N
+unfoldable pub limit_of : List (List ℕ) → Option (Limit × ℕ)
+limit_of [] = None
+limit_of (word ∷ []) = None
+limit_of (word ∷ value ∷ []) = limit_named word >>= λ limit. option_map (λ n. (limit, n)) (value_of limit value)
+limit_of (word ∷ value ∷ more ∷ others) = None
+
+-- N
+unfoldable pub clock_of : List (List ℕ) → Option ℕ
+clock_of [] = None
+clock_of (value ∷ []) = number_64 value
+clock_of (value ∷ more ∷ others) = None

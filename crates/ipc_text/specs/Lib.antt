@@ -1,0 +1,9 @@
+pub mod Calls
+pub mod Grammar
+pub mod LineText
+pub mod Lines
+pub mod Names
+pub mod Numbers
+pub mod Rows
+pub mod Settings
+pub mod Words

@@ -1,0 +1,89 @@
+-- The rows that a script prints (the project's own; the names of errors are those of errno(3)).
+use Rattle.std.specs.Prelude.{ℕ, ◌-◌, ◌^◌, false, List, [], ◌++◌, codes, decimal, Option, Some, None, Ok, Err, unwrap_or, slice_get, flat_map}
+use Rattle.ipc_call.specs.declared.replies.Answer.TheVariants.{Id, Done, Status}
+use Rattle.ipc_call.specs.declared.replies.Status.TheVariants.{Queue}
+use Rattle.ipc_call.specs.declared.replies.QueueStatus.{QueueStatus}
+use Rattle.std.specs.Fmt.{digits, format_spec, padded_integral}
+use Rattle.ipc_call.specs.declared.replies.Reply.{Reply}
+use Rattle.ipc_call.specs.declared.replies.Reply.TheVariants.{Entered, Memory}
+use Rattle.ipc_call.specs.declared.rules.Rule.{Rule}
+use Rattle.ipc_call.specs.Rules.{number_of, name_of_error, name_of_rule}
+use Rattle.ipc_model.specs.Step.{Outcome}
+use Rattle.ipc_text.specs.declared.reasons.Reason.{Reason}
+use Rattle.ipc_text.specs.declared.reasons.Reason.TheVariants as reasons
+
+unfoldable pub name_of_reason : Reason → List ℕ
+name_of_reason reasons.TooLong = codes "too-long"
+name_of_reason reasons.BadLine = codes "bad-line"
+name_of_reason reasons.Late = codes "late"
+name_of_reason reasons.Twice = codes "twice"
+name_of_reason reasons.Many = codes "many"
+name_of_reason reasons.UnknownClient = codes "unknown-client"
+name_of_reason reasons.Busy = codes "busy"
+
+-- the row of a bad line, by its number from 1
+abbrev pub bad_row : ℕ → Reason → List ℕ
+bad_row line reason = codes "line " ++ (decimal line ++ (codes ": " ++ (name_of_reason reason ++ codes "\n")))
+
+abbrev pub rule_text : Rule → List ℕ
+rule_text rule =
+    codes "error " ++ (decimal (number_of rule) ++ (codes " " ++ (name_of_error rule ++ (codes " " ++ (name_of_rule rule ++ codes "\n")))))
+
+-- a key: 0x and eight hexadecimal digits, as {:08x} writes them
+unfoldable pub key_text : ℕ → List ℕ
+key_text key = codes "0x" ++ padded_integral (format_spec 32 0 4 8 (2 ^ 64 - 1)) false [] (digits 16 false key)
+
+-- a mode: four octal digits, as {:04o} writes them
+unfoldable pub mode_text : ℕ → List ℕ
+mode_text mode = padded_integral (format_spec 32 0 4 4 (2 ^ 64 - 1)) false [] (digits 8 false mode)
+
+abbrev pub owners_text : QueueStatus → List ℕ
+owners_text q =
+    codes " uid " ++ (decimal q.uid ++ (codes " gid " ++ (decimal q.gid ++ (codes " cuid " ++ (decimal q.cuid ++ (codes " cgid " ++ decimal q.cgid))))))
+
+abbrev pub access_text : QueueStatus → List ℕ
+access_text q = codes "queue key " ++ (key_text q.key ++ (owners_text q ++ (codes " mode " ++ mode_text q.mode)))
+
+abbrev pub times_text : QueueStatus → List ℕ
+times_text q = codes " stime " ++ (decimal q.stime ++ (codes " rtime " ++ (decimal q.rtime ++ (codes " ctime " ++ (decimal q.ctime ++ codes "\n")))))
+
+abbrev pub contents_text : QueueStatus → List ℕ
+contents_text q =
+    (codes " cbytes " ++ (decimal q.cbytes ++ (codes " qnum " ++ (decimal q.qnum ++ (codes " qbytes " ++ decimal q.qbytes)))))
+    ++ ((codes " lspid " ++ (decimal q.lspid ++ (codes " lrpid " ++ decimal q.lrpid))) ++ times_text q)
+
+-- the state of a queue
+abbrev pub queue_text : QueueStatus → List ℕ
+queue_text q = access_text q ++ contents_text q
+
+abbrev pub outcome_text : Outcome → List ℕ
+outcome_text (Ok (Id id)) = codes "id " ++ (decimal id ++ codes "\n")
+outcome_text (Ok Done) = codes "ok\n"
+outcome_text (Ok (Status (Queue status))) = queue_text status
+outcome_text (Err rule) = rule_text rule
+
+-- PLACE.TURN NAME, with a space behind each
+abbrev pub row_head : ℕ → ℕ → List ℕ → List ℕ
+row_head place turn name = decimal place ++ (codes "." ++ (decimal turn ++ (codes " " ++ (name ++ codes " "))))
+
+abbrev pub reply_row : List ℕ → Reply → List ℕ
+reply_row name (Entered place turn outcome) = row_head place turn name ++ outcome_text outcome
+reply_row name Memory = codes "- " ++ (name ++ codes " error 12 ENOMEM memory\n")
+
+-- the call parked
+abbrev pub waits_row : ℕ → List ℕ → List ℕ
+waits_row place name = row_head place 0 name ++ codes "waits\n"
+
+abbrev pub name_at : List (List ℕ) → ℕ → List ℕ
+name_at names client = unwrap_or (slice_get names client) []
+
+abbrev pub own_row : ℕ → List ℕ → Option Reply → List ℕ
+own_row place name None = waits_row place name
+own_row place name (Some reply) = reply_row name reply
+
+abbrev pub other_row : List (List ℕ) → ℕ × Reply → List ℕ
+other_row names other = reply_row (name_at names other.0) other.1
+
+-- the rows of an event: its own first, then those of the waiting calls that it ended, by turn
+abbrev pub effect_rows : List (List ℕ) → ℕ → ℕ → Option Reply → List (ℕ × Reply) → List ℕ
+effect_rows names client place own others = own_row place (name_at names client) own ++ flat_map (other_row names) others

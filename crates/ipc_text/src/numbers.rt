@@ -1,0 +1,55 @@
+// Numbers in a script: decimal, octal after 0, hexadecimal after 0x.
+
+ghost use Rattle.std.specs.Prelude.{◌≡◌, ◌≤◌, IfSome, option_and_then};
+ghost use Rattle.ipc_text.specs.Numbers.{at_most, behind_zero as number_behind_zero, number_32 as word_32, number_within, numeral as digits_number};
+
+/// The number that the word writes, where it is at most `most`.
+#[tactic(auto, unfolding(crate::specs::Numbers::number_within))]
+pub(crate) fn number(word: &[u8], most: u64) -> Option<u64>
+    ensures value { result ≡ number_within most word.now }
+    ensures within { IfSome result (λ value. value ≤ most) }
+{
+    match word.split_first() {
+        None => None,
+        Some((b'0', rest)) => behind_zero(rest, most),
+        Some(_) => numeral(10, word, most),
+    }
+}
+
+fn behind_zero(rest: &[u8], most: u64) -> Option<u64>
+    ensures value { result ≡ option_and_then (at_most most) (number_behind_zero rest.now) }
+    ensures within { IfSome result (λ value. value ≤ most) }
+{
+    match rest.split_first() {
+        None => Some(0),
+        Some((b'x', [])) => None,
+        Some((b'x', digits)) => numeral(16, digits, most),
+        Some(_) => numeral(8, rest, most),
+    }
+}
+
+/// The number that the word writes, where 32 bits hold it.
+pub(crate) fn number_32(word: &[u8]) -> Option<u32>
+    ensures { result ≡ word_32 word.now }
+{
+    let value = number(word, u64::from(u32::MAX))?;
+    Some(value as u32)
+}
+
+// The number that these digits of the base write, where it is at most `most`.
+fn numeral(base: u32, digits: &[u8], most: u64) -> Option<u64>
+    requires lower_bound { 2 ≤ base }
+    requires upper_bound { base ≤ 36 }
+    ensures value { result ≡ option_and_then (at_most most) (digits_number base digits.now) }
+    ensures within { IfSome result (λ value. value ≤ most) }
+{
+    let mut value: u64 = 0;
+    for digit in digits {
+        let digit = u64::from((*digit as char).to_digit(base)?);
+        value = value.checked_mul(u64::from(base))?.checked_add(digit)?;
+        if value > most {
+            return None;
+        }
+    }
+    Some(value)
+}

@@ -1,0 +1,161 @@
+// The rows that a script prints.
+
+ghost use Rattle.std.specs.Prelude.{◌≡◌, ◌++◌, OnOk, string_bytes};
+ghost use Rattle.ipc_text.specs.Rows.{bad_row, name_of_reason, outcome_text, reply_row, row_head, rule_text, waits_row};
+ghost use Rattle.ipc_text.specs.Rows.{queue_text, access_text, key_text, mode_text, owners_text, contents_text, times_text};
+
+use crate::names::Name;
+use crate::reasons::Reason;
+use ipc_call::{
+    Answer, Memory, Outcome, QueueStatus, Reply, Rule, Status, errno, error_name, rule_name,
+};
+use std::fmt::Write;
+
+/// Appends the row of a bad line, by its number from 1. `Memory` comes where a growth was refused, and a part
+/// of the row may then stand in `rows`; so with each of the printers. The rows are the project's own.
+pub fn print_bad(rows: &mut String, line: u64, reason: Reason) -> Result<(), Memory>
+    ensures { OnOk result (string_bytes rows.new ≡ string_bytes rows.old ++ bad_row line reason) }
+{
+    let reason = reason_name(reason);
+    write!(rows, "line {line}: {reason}\n")
+}
+
+/// Appends the row of a reply to the client of this name: its place and turn, and its answer, or the error
+/// with its number, its name (errno(3)) and the rule that decided. The rows are the project's own.
+pub fn print_reply(rows: &mut String, name: &str, reply: &Reply) -> Result<(), Memory>
+    ensures { OnOk result (string_bytes rows.new ≡ string_bytes rows.old ++ reply_row name.now reply.now) }
+{
+    match reply {
+        Reply::Entered {
+            place,
+            turn,
+            outcome,
+        } => {
+            print_head(rows, *place, *turn, name)?;
+            print_outcome(rows, outcome)
+        }
+        Reply::Memory => write!(rows, "- {name} error 12 ENOMEM memory\n"),
+    }
+}
+
+/// Appends the row of a call of the client of this name that waits, by the place of its event. The rows are
+/// the project's own.
+pub fn print_waits(rows: &mut String, place: u64, name: &str) -> Result<(), Memory>
+    ensures { OnOk result (string_bytes rows.new ≡ string_bytes rows.old ++ waits_row place name.now) }
+{
+    print_head(rows, place, 0, name)?;
+    rows.push_str("waits\n")
+}
+
+fn print_head(rows: &mut String, place: u64, turn: u32, name: &str) -> Result<(), Memory>
+    ensures { OnOk result (string_bytes rows.new ≡ string_bytes rows.old ++ row_head place turn name.now) }
+{
+    write!(rows, "{place}.{turn} {name} ")
+}
+
+fn print_outcome(rows: &mut String, outcome: &Outcome) -> Result<(), Memory>
+    ensures { OnOk result (string_bytes rows.new ≡ string_bytes rows.old ++ outcome_text outcome.now) }
+{
+    match outcome {
+        Ok(Answer::Id(id)) => write!(rows, "id {id}\n"),
+        Ok(Answer::Done) => rows.push_str("ok\n"),
+        Ok(Answer::Status(Status::Queue(status))) => print_queue(rows, *status),
+        Err(rule) => print_rule(rows, *rule),
+    }
+}
+
+fn print_queue(rows: &mut String, status: QueueStatus) -> Result<(), Memory>
+    ensures { OnOk result (string_bytes rows.new ≡ string_bytes rows.old ++ queue_text status) }
+{
+    print_access(rows, status)?;
+    print_contents(rows, status)
+}
+
+fn print_access(rows: &mut String, status: QueueStatus) -> Result<(), Memory>
+    ensures { OnOk result (string_bytes rows.new ≡ string_bytes rows.old ++ access_text status) }
+{
+    rows.push_str("queue key ")?;
+    print_key(rows, status.key)?;
+    print_owners(rows, status)?;
+    rows.push_str(" mode ")?;
+    print_mode(rows, status.mode)
+}
+
+#[tactic(auto, unfolding(crate::specs::Rows::key_text))]
+fn print_key(rows: &mut String, key: u32) -> Result<(), Memory>
+    ensures { OnOk result (string_bytes rows.new ≡ string_bytes rows.old ++ key_text key) }
+{
+    write!(rows, "0x{key:08x}")
+}
+
+#[tactic(auto, unfolding(crate::specs::Rows::mode_text))]
+fn print_mode(rows: &mut String, mode: u16) -> Result<(), Memory>
+    ensures { OnOk result (string_bytes rows.new ≡ string_bytes rows.old ++ mode_text mode) }
+{
+    write!(rows, "{mode:04o}")
+}
+
+fn print_owners(rows: &mut String, status: QueueStatus) -> Result<(), Memory>
+    ensures { OnOk result (string_bytes rows.new ≡ string_bytes rows.old ++ owners_text status) }
+{
+    let QueueStatus {
+        uid,
+        gid,
+        cuid,
+        cgid,
+        ..
+    } = status;
+    write!(rows, " uid {uid} gid {gid} cuid {cuid} cgid {cgid}")
+}
+
+fn print_contents(rows: &mut String, status: QueueStatus) -> Result<(), Memory>
+    ensures { OnOk result (string_bytes rows.new ≡ string_bytes rows.old ++ contents_text status) }
+{
+    let QueueStatus {
+        cbytes,
+        qnum,
+        qbytes,
+        lspid,
+        lrpid,
+        ..
+    } = status;
+    write!(rows, " cbytes {cbytes} qnum {qnum} qbytes {qbytes}")?;
+    write!(rows, " lspid {lspid} lrpid {lrpid}")?;
+    print_times(rows, status)
+}
+
+fn print_times(rows: &mut String, status: QueueStatus) -> Result<(), Memory>
+    ensures { OnOk result (string_bytes rows.new ≡ string_bytes rows.old ++ times_text status) }
+{
+    let QueueStatus {
+        stime,
+        rtime,
+        ctime,
+        ..
+    } = status;
+    write!(rows, " stime {stime} rtime {rtime} ctime {ctime}\n")
+}
+
+fn print_rule(rows: &mut String, rule: Rule) -> Result<(), Memory>
+    ensures { OnOk result (string_bytes rows.new ≡ string_bytes rows.old ++ rule_text rule) }
+{
+    let number = errno(rule);
+    let error = error_name(rule);
+    let name = rule_name(rule);
+    write!(rows, "error {number} {error} {name}\n")
+}
+
+#[tactic(auto, unfolding(crate::specs::Rows::name_of_reason))]
+fn reason_name(reason: Reason) -> &'static str
+    ensures { result.now ≡ name_of_reason reason }
+{
+    match reason {
+        Reason::TooLong => "too-long",
+        Reason::BadLine => "bad-line",
+        Reason::Late => "late",
+        Reason::Twice => "twice",
+        Reason::Many => "many",
+        Reason::UnknownClient => "unknown-client",
+        Reason::Busy => "busy",
+    }
+}
