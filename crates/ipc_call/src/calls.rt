@@ -2,6 +2,7 @@
 
 ghost use Rattle.std.specs.Prelude.{◌≡◌, IfOk};
 
+use crate::items::Items;
 use crate::replies::Memory;
 
 /// Flag of a get call: make the object where the key has none (msgget(2)).
@@ -9,6 +10,15 @@ pub const IPC_CREAT: u32 = 0o1000;
 
 /// Flag of a get call: with `IPC_CREAT`, fail where the key has an object already (msgget(2)).
 pub const IPC_EXCL: u32 = 0o2000;
+
+/// Flag of msgsnd and msgrcv: fail where the call would wait (msgop(2)).
+pub const IPC_NOWAIT: u32 = 0o4000;
+
+/// Flag of msgrcv: cut a text that is longer than asked for (msgop(2)).
+pub const MSG_NOERROR: u32 = 0o10000;
+
+/// Flag of msgrcv: with a msgtyp above 0, receive a message of another type (msgop(2)).
+pub const MSG_EXCEPT: u32 = 0o20000;
 
 /// The kinds of objects. Each kind has keys, slots and identifiers of its own (sysvipc(7)).
 #[derive(Clone, Copy, Debug, PartialEq, Eq)]
@@ -30,6 +40,24 @@ pub enum Call {
     /// and of a queue that is there they ask for read (0444) and alter (0222).
     MsgGet {
         key: u32,
+        flags: u32,
+    },
+    /// Sends a message to the queue of an identifier (msgsnd of msgop(2)): its type, at least 1, and its text,
+    /// at most MSGMAX bytes. Of the flags `IPC_NOWAIT` is known.
+    MsgSnd {
+        id: u32,
+        mtype: i64,
+        text: Items<u8>,
+        flags: u32,
+    },
+    /// Receives a message of the queue of an identifier (msgrcv of msgop(2)) with a text of at most `size`
+    /// bytes. `msgtyp` 0 asks for the first message, above 0 for the first of this type, below 0 for the
+    /// first of the lowest type that is at most its absolute value. Of the flags `IPC_NOWAIT`,
+    /// `MSG_NOERROR` and `MSG_EXCEPT` are known.
+    MsgRcv {
+        id: u32,
+        size: u64,
+        msgtyp: i64,
         flags: u32,
     },
     /// Tells the state of the object of an identifier (IPC_STAT of msgctl(2)).
@@ -64,6 +92,28 @@ impl Call {
         match self {
             Call::MsgGet { key, flags } => Ok(Call::MsgGet {
                 key: *key,
+                flags: *flags,
+            }),
+            Call::MsgSnd {
+                id,
+                mtype,
+                text,
+                flags,
+            } => Ok(Call::MsgSnd {
+                id: *id,
+                mtype: *mtype,
+                text: text.copy()?,
+                flags: *flags,
+            }),
+            Call::MsgRcv {
+                id,
+                size,
+                msgtyp,
+                flags,
+            } => Ok(Call::MsgRcv {
+                id: *id,
+                size: *size,
+                msgtyp: *msgtyp,
                 flags: *flags,
             }),
             Call::IpcStat { kind, id } => Ok(Call::IpcStat {
@@ -103,6 +153,13 @@ mod tests {
         let call = Call::MsgGet {
             key: 5,
             flags: IPC_CREAT | 0o600,
+        };
+        assert!(rt; call.copy()? == call);
+        let call = Call::MsgSnd {
+            id: 7,
+            mtype: -3,
+            text: Items::new(vec![in rt.alloc(); 104u8, 0]?),
+            flags: IPC_NOWAIT,
         };
         assert!(rt; call.copy()? == call);
         let (kind, id) = (Kind::Segment, 32768);

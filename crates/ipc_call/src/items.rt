@@ -1,6 +1,6 @@
 // A list that a call carries.
 
-ghost use Rattle.std.specs.Prelude.{◌≡◌, IfOk, length};
+ghost use Rattle.std.specs.Prelude.{◌≡◌, IfOk, length, take};
 
 use crate::replies::Memory;
 use std::marker::Model;
@@ -47,6 +47,15 @@ impl<T> Items<T> {
         ensures { result ≡ length self.now }
     {
         self.items.len()
+    }
+}
+
+impl<T: Drop> Items<T> {
+    /// Keeps the first `len` elements, where there are more; the rest is lost. It takes no memory.
+    pub fn truncate(&mut self, len: usize)
+        ensures { self.new ≡ take len self.old }
+    {
+        self.items.truncate(len);
     }
 }
 

@@ -8,7 +8,7 @@ mod limits;
 mod replies;
 mod rules;
 
-pub use calls::{Call, IPC_CREAT, IPC_EXCL, Kind};
+pub use calls::{Call, IPC_CREAT, IPC_EXCL, IPC_NOWAIT, Kind, MSG_EXCEPT, MSG_NOERROR};
 pub use items::Items;
 pub use limits::{Limit, Limits};
 pub use replies::{

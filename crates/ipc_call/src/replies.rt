@@ -1,6 +1,7 @@
 // What a call is answered, and the rows of the journal.
 
 use crate::calls::Call;
+use crate::items::Items;
 use crate::rules::Rule;
 use std::alloc::AllocError;
 
@@ -42,13 +43,15 @@ pub enum Status {
     Queue(QueueStatus),
 }
 
-/// What a served call gives (the return values of msgget(2) and msgctl(2)).
+/// What a served call gives (the return values of msgget(2), msgop(2) and msgctl(2)).
 #[derive(Debug, Drop, PartialEq)]
 pub enum Answer {
     /// The identifier of an object, at most 2147483647.
     Id(u32),
     /// The call was carried out, and there is nothing to tell.
     Done,
+    /// The message that was received: its type, at least 1, and its text.
+    Message { mtype: i64, text: Items<u8> },
     /// The state of an object.
     Status(Status),
 }

@@ -2,22 +2,31 @@
 
 ghost use Rattle.std.specs.Prelude.{
   ◌≡◌,
+  ◌<◌,
   ◌≤◌,
+  false,
+  not,
   Some,
   None,
   OnOk,
   OnErr,
+  IfSome,
   IsSome,
   [],
+  length,
+  take,
+  option_copied,
   option_map,
 };
 ghost use Rattle.std.specs.FinMap as map;
 ghost use Rattle.ipc_ids.specs.Table.{empty_table, find_object, next_id as id_of_next, with_object, without_object};
 ghost use Rattle.ipc_model.specs.State.{has_key};
 ghost use Rattle.ipc_model.specs.Controls.{status_of_queue, with_change, with_settings};
+ghost use Rattle.ipc_model.specs.Messages.{chosen, with_message, without_message};
+ghost use Rattle.msg_queue.specs.Messages.{is_full};
 ghost use Rattle.ipc_control.specs.Queues.{with_key};
 
-use ipc_call::{Memory, QueueStatus, Status};
+use ipc_call::{Items, Memory, QueueStatus, Status};
 use ipc_ids::{InsertFault, Keys, Slots};
 use ipc_perm::{Mode, Perm};
 use msg_queue::Queue as Messages;
@@ -110,6 +119,62 @@ impl Queue {
         })
     }
 
+    /// Whether there is room for a message with a text of `len` bytes (msgsnd of msgop(2)).
+    pub fn fits(&self, len: usize) -> bool
+        ensures { result ≡ not (is_full self.now.messages self.now.qbytes len) }
+    {
+        self.messages.fits(len)
+    }
+
+    /// The length in bytes of the text that a receiver takes, None where no message fits (msgrcv of msgop(2)).
+    /// `except` is MSG_EXCEPT.
+    pub fn chosen_len(&self, msgtyp: i64, except: bool) -> Option<usize>
+        ensures { result ≡ option_map (λ found. length found.1.text) (chosen self.now.messages msgtyp except) }
+    {
+        let (_, len) = self.messages.choose(msgtyp, except)?;
+        Some(len)
+    }
+
+    /// Adds a message at the end, from this client at a moment in seconds (msgsnd of msgop(2)). Memory comes
+    /// where a growth was refused, and then nothing has changed.
+    pub fn send(&mut self, client: u32, mtype: i64, text: Items<u8>, now: u64) -> Result<(), Memory>
+        requires client { client < 64 }
+        requires room { is_full self.old.messages self.old.qbytes (length text) ≡ false }
+        ensures ok { OnOk result (self.new ≡ with_message self.old client now (record { mtype = mtype; text = text })) }
+        ensures err { OnErr result (self.new ≡ self.old) }
+    {
+        self.messages.reserve_one()?;
+        self.messages.put(mtype, text);
+        self.last_sender = client + 1;
+        self.send_time = now;
+        Ok(())
+    }
+
+    /// Takes out the message that a receiver takes, which there is, for this client at a moment in seconds: its
+    /// type and the first `size` bytes of its text (msgrcv of msgop(2)). It takes no memory.
+    pub fn receive(
+        &mut self,
+        client: u32,
+        size: u64,
+        msgtyp: i64,
+        except: bool,
+        now: u64,
+    ) -> (i64, Items<u8>)
+        requires client { client < 64 }
+        requires there { IsSome (chosen self.old.messages msgtyp except) }
+        ensures message { IfSome (chosen self.old.messages msgtyp except) (λ found. (result.0 ≡ found.1.mtype) × (result.1 ≡ take size found.1.text)) }
+        ensures queue { IfSome (chosen self.old.messages msgtyp except) (λ found. self.new ≡ without_message self.old client now found.0) }
+    {
+        let Some((place, _)) = self.messages.choose(msgtyp, except) else {
+            unreachable!()
+        };
+        let (mtype, mut text) = self.messages.take(place);
+        text.truncate(size as usize);
+        self.last_receiver = client + 1;
+        self.receive_time = now;
+        (mtype, text)
+    }
+
     /// Sets its owner, the low nine bits of its mode, and its msg_qbytes where that is given, at a moment in
     /// seconds (IPC_SET of msgctl(2)). Key, creator, messages and the other times stay.
     pub fn set(&mut self, uid: u32, gid: u32, mode: u32, qbytes: Option<u64>, now: u64)
@@ -165,24 +230,15 @@ impl Queues {
         ensures { result ≡ option_map (λ found. (found.0, found.1.perm)) (find_object (has_key key) self.now) }
     {
         let id = self.keys.find(key)?;
-        let perm = self.perm(id)?;
-        Some((id, perm))
+        let queue = self.get(id)?;
+        Some((id, queue.perm()))
     }
 
-    /// The permissions of the queue of an identifier.
-    pub fn perm(&self, id: u32) -> Option<Perm>
-        ensures { result ≡ option_map (λ queue. queue.perm) (map.get self.now.objects id) }
+    /// The queue of an identifier.
+    pub fn get(&self, id: u32) -> Option<&Queue>
+        ensures { option_copied result ≡ map.get self.now.objects id }
     {
-        let queue = self.slots.get(id)?;
-        Some(queue.perm())
-    }
-
-    /// The state of the queue of an identifier (IPC_STAT of msgctl(2)).
-    pub fn status(&self, id: u32) -> Option<Status>
-        ensures { result ≡ option_map (λ queue. status_of_queue queue) (map.get self.now.objects id) }
-    {
-        let queue = self.slots.get(id)?;
-        Some(queue.status())
+        self.slots.get(id)
     }
 
     /// The identifier of the next new queue, None where each slot holds one or is retired.
@@ -222,6 +278,53 @@ impl Queues {
             unreachable!()
         };
         queue.set(uid, gid, mode, qbytes, now);
+    }
+
+    /// Adds a message at the end of the queue of an identifier, which there is, from this client at a moment in
+    /// seconds (msgsnd of msgop(2)). Memory comes where a growth was refused, and then nothing has changed.
+    pub fn send(
+        &mut self,
+        id: u32,
+        client: u32,
+        mtype: i64,
+        text: Items<u8>,
+        now: u64,
+    ) -> Result<(), Memory>
+        requires client { client < 64 }
+        requires there { IsSome (map.get self.old.objects id) }
+        requires room { IfSome (map.get self.old.objects id) (λ queue. is_full queue.messages queue.qbytes (length text) ≡ false) }
+        ensures ok { OnOk result (IfSome (map.get self.old.objects id) (λ queue. self.new ≡ with_object self.old id (with_message queue client now (record { mtype = mtype; text = text })))) }
+        ensures err { OnErr result (self.new ≡ self.old) }
+    {
+        let Some(queue) = self.slots.get_mut(id) else {
+            unreachable!()
+        };
+        queue.send(client, mtype, text, now)
+    }
+
+    /// Takes out the message that a receiver takes of the queue of an identifier; there are both (msgrcv of
+    /// msgop(2)). It takes no memory.
+    pub fn receive(
+        &mut self,
+        id: u32,
+        client: u32,
+        size: u64,
+        msgtyp: i64,
+        except: bool,
+        now: u64,
+    ) -> (i64, Items<u8>)
+        requires client { client < 64 }
+        requires there { IsSome (map.get self.old.objects id) }
+        requires message { IfSome (map.get self.old.objects id) (λ queue. IsSome (chosen queue.messages msgtyp except)) }
+        ensures message { IfSome (map.get self.old.objects id) (λ queue. IfSome (chosen queue.messages msgtyp except) (λ found.
+            (result.0 ≡ found.1.mtype) × (result.1 ≡ take size found.1.text))) }
+        ensures queues { IfSome (map.get self.old.objects id) (λ queue. IfSome (chosen queue.messages msgtyp except) (λ found.
+            self.new ≡ with_object self.old id (without_message queue client now found.0))) }
+    {
+        let Some(queue) = self.slots.get_mut(id) else {
+            unreachable!()
+        };
+        queue.receive(client, size, msgtyp, except, now)
     }
 
     /// Takes out the queue of an identifier, which there is, and frees its key. It takes no memory.

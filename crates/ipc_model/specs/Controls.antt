@@ -72,21 +72,14 @@ with_settings queue now uid gid mode qbytes = record queue {
   change_time = now;
 }
 
-abbrev pub status_of : State → Kind → ℕ → Option Status
-status_of s kinds.Queue id = option_map (λ queue. status_of_queue queue) (finite.get s.queues.objects id)
-status_of s kinds.Sems id = None
-status_of s kinds.Segment id = None
-
-abbrev pub tell_status : State → Option Status → Decision
-tell_status s None = Refuse BadId
-tell_status s (Some status) = Serve (StatusAnswer status) s
-
-abbrev pub stat_found : State → Credentials → Option Perm → Option Status → Decision
-stat_found s c None status = Refuse BadId
-stat_found s c (Some perm) status = by_checks (map (denial c) (needs_of_stat (Some perm))) (tell_status s status)
+abbrev pub stat_queue : State → Credentials → Option Queue → Decision
+stat_queue s c None = Refuse BadId
+stat_queue s c (Some queue) = by_checks (map (denial c) (needs_of_stat (Some queue.perm))) (Serve (StatusAnswer (status_of_queue queue)) s)
 
 abbrev pub stat_object : State → Credentials → Kind → ℕ → Decision
-stat_object s c kind id = stat_found s c (perm_of s kind id) (status_of s kind id)
+stat_object s c kinds.Queue id = stat_queue s c (finite.get s.queues.objects id)
+stat_object s c kinds.Sems id = Refuse BadId
+stat_object s c kinds.Segment id = Refuse BadId
 
 -- a msg_qbytes above MSGMNB needs CAP_SYS_RESOURCE
 abbrev pub is_within : State → Option ℕ → Bool

@@ -1,5 +1,5 @@
 -- What is decided on a call, as a list of checks in their order (the order is the project's own where POSIX leaves it open).
-use Rattle.std.specs.Prelude.{Bool, List, [], ◌∷◌, Option, Some, None, if◌then◌else◌}
+use Rattle.std.specs.Prelude.{ℕ, Bool, List, [], ◌∷◌, Option, Some, None, if◌then◌else◌}
 use Rattle.ipc_call.specs.declared.rules.Rule.{Rule}
 use Rattle.ipc_call.specs.declared.replies.Answer.{Answer}
 use Rattle.ipc_model.specs.State.{State}
@@ -9,6 +9,10 @@ pub data Decision : Type 0 where
   Refuse : (rule : Rule) → Decision
   Wait : Decision
   Serve : (answer : Answer) (new : State) → Decision
+
+-- what a call does that can't go on now: until calls wait, each is refused as if IPC_NOWAIT were given
+abbrev pub or_wait : ℕ → Rule → Decision
+or_wait flags rule = Refuse rule
 
 -- the rule that refuses, unless the test passes
 abbrev pub check : Bool → Rule → Option Rule

@@ -3,6 +3,7 @@ pub mod Decide
 pub mod Decision
 pub mod History
 pub mod Made
+pub mod Messages
 pub mod Queues
 pub mod State
 pub mod Step

@@ -1,5 +1,5 @@
 -- The state of a namespace (sysvipc(7); POSIX.1-2017 XSH 2.7).
-use Rattle.std.specs.Prelude.{ℕ, ◌==◌, Bool, not, ◌&&◌, List, [], Option, option_map, slice_index_or}
+use Rattle.std.specs.Prelude.{ℕ, ◌+◌, ◌==◌, Bool, not, ◌&&◌, List, [], Option, option_map, slice_index_or}
 use Rattle.std.specs.List.{list_any}
 use Rattle.ipc_call.specs.declared.limits.Limits.{Limits}
 use Rattle.ipc_call.specs.declared.replies.Waiting.{Waiting}
@@ -31,6 +31,10 @@ pub record State : Type 0 where
 -- a namespace before its first event
 abbrev pub opening : Limits → List Credentials → State
 opening limits clients = record { limits = limits; clients = clients; clock = 0; queues = empty_table limits.slots limits.first_seq; parked = [] }
+
+-- the process of a client: its number plus 1, since pid 0 stands for none
+abbrev pub pid_of : ℕ → ℕ
+pid_of client = client + 1
 
 -- stands for a client that isn't there
 abbrev pub nobody : Credentials

@@ -1,25 +1,30 @@
 -- Laws of the decision, by cases over the calls: one line for each call.
-use Rattle.std.proofs.Common.{◌≡◌, ℕ, ◌<◌, Bool, true, false, List, [], ◌∷◌, map, length, get_or, refl, sym, ap, ◌∙◌, cond, Option, Some, None}
-use Rattle.std.specs.Prelude.{not, ◌==◌, ◌&&◌, option_map, slice_get, unwrap_or}
+use Rattle.std.proofs.Common.{◌≡◌, ℕ, ◌<◌, Bool, true, false, List, [], ◌∷◌, map, length, get_or, refl, sym, ap, ◌∙◌, cond, Option, Some, None, Ok, Err}
+use Rattle.std.specs.FinMap as finite
+use Rattle.std.specs.Prelude.{not, ◌==◌, ◌&&◌, ◌||◌, ℤ, pos, int_le, nat_le, option_map, slice_get, unwrap_or}
 use Rattle.std.proofs.lemmas.Bool.{false≢true, true≢false}
 use Rattle.std.proofs.lemmas.Option.{slice_get-get_or}
 use Rattle.ipc_call.specs.declared.calls.Call.{Call}
-use Rattle.ipc_call.specs.declared.calls.Call.TheVariants.{MsgGet, IpcStat, IpcSet, IpcRmid}
+use Rattle.ipc_call.specs.declared.calls.Call.TheVariants.{MsgGet, MsgSnd, MsgRcv, IpcStat, IpcSet, IpcRmid}
 use Rattle.ipc_call.specs.declared.calls.Kind.{Kind}
+use Rattle.ipc_call.specs.declared.calls.Kind.TheVariants as kinds
 use Rattle.ipc_call.specs.declared.replies.Waiting.{Waiting}
 use Rattle.ipc_call.specs.declared.rules.Rule.{Rule}
-use Rattle.ipc_call.specs.declared.rules.Rule.TheVariants.{NoKey, KeyExists, BadArgument}
-use Rattle.ipc_call.specs.declared.replies.Status.{Status}
+use Rattle.ipc_call.specs.declared.rules.Rule.TheVariants.{NoKey, KeyExists, BadArgument, BadType, TextTooLong, MessageTooLong}
 use Rattle.ipc_creds.specs.Credentials.{Credentials}
 use Rattle.ipc_perm.specs.declared.perms.Perm.{Perm}
 use Rattle.ipc_perm.specs.Access.{Control, Need, Permission, asked_of, denial}
 use Rattle.ipc_ids.specs.Table.{next_id}
+use Rattle.msg_queue.specs.declared.messages.Message.{Message}
+use Rattle.msg_queue.specs.Messages.{is_full}
 use Rattle.ipc_model.specs.State.{Queue, State, creds_at, queue_with_key}
 use Rattle.ipc_model.specs.Decision.{Decision, Refuse, Wait, Serve, by_check, by_checks, check}
 use Rattle.ipc_model.specs.Queues.{get_queue, get_found, make_queue, with_queue, new_queue, asks_to_make, asks_alone}
-use Rattle.ipc_model.specs.Controls.{needs_of_set, perm_of, remove_found, remove_object, set_found, set_object, stat_found, stat_object, status_of, takes_qbytes, tell_status}
+use Rattle.ipc_model.specs.Messages.{chosen, cuts, excepts, queue_at, receive_found, receive_message, send_found, send_message, take_chosen, to_alter, to_read}
+use Rattle.ipc_model.specs.Controls.{needs_of_set, perm_of, remove_found, remove_object, set_found, set_object, stat_object, stat_queue, takes_qbytes}
 use Rattle.ipc_model.specs.Decide.{decide, can_wait, goes_on}
-use Rattle.ipc_model.specs.Step.{at_moment, end_at, end_waiting, ended_by, is_ready, without}
+use Rattle.ipc_call.specs.declared.replies.Answer.{Answer}
+use Rattle.ipc_model.specs.Step.{Outcome, at_moment, end_at, end_waiting, ended_by, is_ready, without}
 use Rattle.ipc_space.specs.declared.decisions.Decided.{Decided}
 use Rattle.ipc_space.specs.declared.decisions.Decided.TheVariants as ways
 use Rattle.ipc_space.specs.Decisions.{decided}
@@ -66,16 +71,35 @@ goes_on-remove_found s c kind id (Some perm) = goes_on-check (denial c (Control 
 pub goes_on-remove_object : (s : State) (c : Credentials) (kind : Kind) (id : ℕ) → goes_on (remove_object s c kind id) ≡ true
 goes_on-remove_object s c kind id = goes_on-remove_found s c kind id (perm_of s kind id)
 
-goes_on-tell_status : (s : State) (status : Option Status) → goes_on (tell_status s status) ≡ true
-goes_on-tell_status s None = refl
-goes_on-tell_status s (Some status) = refl
-
-goes_on-stat_found : (s : State) (c : Credentials) (perm : Option Perm) (status : Option Status) → goes_on (stat_found s c perm status) ≡ true
-goes_on-stat_found s c None status = refl
-goes_on-stat_found s c (Some perm) status = goes_on-check (denial c (Permission perm (record { read = true; alter = false }))) _ (goes_on-tell_status s status)
+goes_on-stat_queue : (s : State) (c : Credentials) (queue : Option Queue) → goes_on (stat_queue s c queue) ≡ true
+goes_on-stat_queue s c None = refl
+goes_on-stat_queue s c (Some queue) = goes_on-check (denial c (Permission queue.perm (record { read = true; alter = false }))) _ refl
 
 goes_on-stat_object : (s : State) (c : Credentials) (kind : Kind) (id : ℕ) → goes_on (stat_object s c kind id) ≡ true
-goes_on-stat_object s c kind id = goes_on-stat_found s c (perm_of s kind id) (status_of s kind id)
+goes_on-stat_object s c kinds.Queue id = goes_on-stat_queue s c (finite.get s.queues.objects id)
+goes_on-stat_object s c kinds.Sems id = refl
+goes_on-stat_object s c kinds.Segment id = refl
+
+goes_on-send_found : (s : State) (c : Credentials) (client id flags : ℕ) (message : Message) (queue : Option Queue) → goes_on (send_found s c client id flags message queue) ≡ true
+goes_on-send_found s c client id flags message None = refl
+goes_on-send_found s c client id flags message (Some queue) =
+    goes_on-check (denial c (Permission queue.perm to_alter)) _ (goes_on-if (is_full queue.messages queue.qbytes (length message.text)) _ _ refl refl)
+
+goes_on-send_message : (s : State) (c : Credentials) (client id flags : ℕ) (message : Message) → goes_on (send_message s c client id flags message) ≡ true
+goes_on-send_message s c client id flags message =
+    goes_on-check (check (int_le (pos 1) message.mtype) BadType) _ (goes_on-check (check (nat_le (length message.text) s.limits.msg_max) TextTooLong) _ (goes_on-send_found s c client id flags message (queue_at s id)))
+
+goes_on-take_chosen : (s : State) (client id size flags : ℕ) (queue : Queue) (found : Option (ℕ × Message)) → goes_on (take_chosen s client id size flags queue found) ≡ true
+goes_on-take_chosen s client id size flags queue None = refl
+goes_on-take_chosen s client id size flags queue (Some found) = goes_on-check (check (nat_le (length found.1.text) size || cuts flags) MessageTooLong) _ refl
+
+goes_on-receive_found : (s : State) (c : Credentials) (client id size : ℕ) (msgtyp : ℤ) (flags : ℕ) (queue : Option Queue) → goes_on (receive_found s c client id size msgtyp flags queue) ≡ true
+goes_on-receive_found s c client id size msgtyp flags None = refl
+goes_on-receive_found s c client id size msgtyp flags (Some queue) =
+    goes_on-check (denial c (Permission queue.perm to_read)) _ (goes_on-take_chosen s client id size flags queue (chosen queue.messages msgtyp (excepts flags)))
+
+goes_on-receive_message : (s : State) (c : Credentials) (client id size : ℕ) (msgtyp : ℤ) (flags : ℕ) → goes_on (receive_message s c client id size msgtyp flags) ≡ true
+goes_on-receive_message s c client id size msgtyp flags = goes_on-receive_found s c client id size msgtyp flags (queue_at s id)
 
 goes_on-denials : (c : Credentials) (needs : List Need) (d : Decision) → goes_on d ≡ true → goes_on (by_checks (map (denial c) needs) d) ≡ true
 goes_on-denials c [] d p = p
@@ -92,6 +116,8 @@ goes_on-set_object s c kind id uid gid mode qbytes = goes_on-check (check (takes
 pub only_parkable : (s : State) (client : ℕ) (call : Call) → goes_on (decide s client call) ≡ false → can_wait call ≡ true
 unfolding decide
 only_parkable s client (MsgGet key flags) waits = absurd (true≢false (sym (goes_on-get_queue s (creds_at s client) key flags) ∙ waits))
+only_parkable s client (MsgSnd id mtype text flags) waits = absurd (true≢false (sym (goes_on-send_message s (creds_at s client) client id flags (record { mtype = mtype; text = text })) ∙ waits))
+only_parkable s client (MsgRcv id size msgtyp flags) waits = absurd (true≢false (sym (goes_on-receive_message s (creds_at s client) client id size msgtyp flags) ∙ waits))
 only_parkable s client (IpcStat kind id) waits = absurd (true≢false (sym (goes_on-stat_object s (creds_at s client) kind id) ∙ waits))
 only_parkable s client (IpcSet kind id uid gid mode qbytes) waits = absurd (true≢false (sym (goes_on-set_object s (creds_at s client) kind id uid gid mode qbytes) ∙ waits))
 only_parkable s client (IpcRmid kind id) waits = absurd (true≢false (sym (goes_on-remove_object s (creds_at s client) kind id) ∙ waits))
@@ -100,6 +126,8 @@ only_parkable s client (IpcRmid kind id) waits = absurd (true≢false (sym (goes
 ready_alike : (s : State) (place client : ℕ) (call : Call) → can_wait call ≡ true → goes_on (decide (without s place) client call) ≡ goes_on (decide s client call)
 unfolding decide
 ready_alike s place client (MsgGet key flags) can = absurd (false≢true can)
+ready_alike s place client (MsgSnd id mtype text flags) can = absurd (false≢true can)
+ready_alike s place client (MsgRcv id size msgtyp flags) can = absurd (false≢true can)
 ready_alike s place client (IpcStat kind id) can = absurd (false≢true can)
 ready_alike s place client (IpcSet kind id uid gid mode qbytes) can = absurd (false≢true can)
 ready_alike s place client (IpcRmid kind id) can = absurd (false≢true can)
@@ -108,6 +136,10 @@ ready_alike s place client (IpcRmid kind id) can = absurd (false≢true can)
 pub clock_alike : (s : State) (now client : ℕ) (call : Call) → goes_on (decide (at_moment s now) client call) ≡ goes_on (decide s client call)
 unfolding decide
 clock_alike s now client (MsgGet key flags) = goes_on-get_queue (at_moment s now) (creds_at s client) key flags ∙ sym (goes_on-get_queue s (creds_at s client) key flags)
+clock_alike s now client (MsgSnd id mtype text flags) =
+    goes_on-send_message (at_moment s now) (creds_at s client) client id flags (record { mtype = mtype; text = text }) ∙ sym (goes_on-send_message s (creds_at s client) client id flags (record { mtype = mtype; text = text }))
+clock_alike s now client (MsgRcv id size msgtyp flags) =
+    goes_on-receive_message (at_moment s now) (creds_at s client) client id size msgtyp flags ∙ sym (goes_on-receive_message s (creds_at s client) client id size msgtyp flags)
 clock_alike s now client (IpcStat kind id) = goes_on-stat_object (at_moment s now) (creds_at s client) kind id ∙ sym (goes_on-stat_object s (creds_at s client) kind id)
 clock_alike s now client (IpcSet kind id uid gid mode qbytes) =
     goes_on-set_object (at_moment s now) (creds_at s client) kind id uid gid mode qbytes ∙ sym (goes_on-set_object s (creds_at s client) kind id uid gid mode qbytes)
@@ -128,11 +160,10 @@ refused Wait rule is = cc
 refused (Serve answer new) rule is = cc
 
 -- the code's decision on the call at a place tells whether that call is ready
-pub is_ready-decided : (s : State) (parked : List Waiting) (place : ℕ) (d : Waiting) (decision : Decided) → AreParked (length s.clients) s.parked → parked ≡ s.parked → place < length parked
-    → decision ≡ decided (decide s (get_or parked place d).client (get_or parked place d).call) → is_ready s place ≡ goes decision
-is_ready-decided s parked place d decision are same within is =
-    let w = get_or parked place d in
-    let here : slice_get s.parked place ≡ Some w = sym (ap (λ ws. slice_get ws place) same) ∙ slice_get-get_or parked place d within in
+pub is_ready-decided : (s : State) (parked : List Waiting) (place : ℕ) (w : Waiting) (decision : Decided) → AreParked (length s.clients) s.parked → parked ≡ s.parked → place < length parked → w ≡ get_or parked place w
+    → decision ≡ decided (decide s w.client w.call) → is_ready s place ≡ goes decision
+is_ready-decided s parked place w decision are same within read is =
+    let here : slice_get s.parked place ≡ Some w = sym (ap (λ ws. slice_get ws place) same) ∙ slice_get-get_or parked place w within ∙ ap (λ (v : Waiting). Some v) (sym read) in
     is_ready-at s place w here (parked_at (length s.clients) s.parked place w are here).1 ∙ sym (goes-decided (decide s w.client w.call)) ∙ sym (ap goes is)
 
 -- the call at a place, once it has left the list: it is decided in what is left
@@ -144,3 +175,12 @@ module _ (s rest : State) (place : ℕ) (w : Waiting) (here : slice_get s.parked
 
   pub end_at-left : end_at s place ≡ ended_by rest w.client (decide rest w.client w.call)
   end_at-left = ap (λ o. end_waiting s place o) here ∙ ap (λ (t : State). ended_by t w.client (decide t w.client w.call)) (sym left)
+
+-- a call that ended, by its refusal or its grant
+pub ended-refused : (s new : State) (client : ℕ) (d : Decision) (rule : Rule) (outcome : Outcome) → d ≡ Refuse rule → new ≡ s → outcome ≡ Err rule
+    → ended_by s client d ≡ record { state = new; ended = record { client = client; outcome = outcome } ∷ [] }
+ended-refused s new client d rule outcome is same told = ap (ended_by s client) is ∙ (λ i. record { state = sym same i; ended = record { client = client; outcome = sym told i } ∷ [] })
+
+pub ended-served : (s new left : State) (client : ℕ) (d : Decision) (answer : Answer) (outcome : Outcome) → d ≡ Serve answer left → new ≡ left → outcome ≡ Ok answer
+    → ended_by s client d ≡ record { state = new; ended = record { client = client; outcome = outcome } ∷ [] }
+ended-served s new left client d answer outcome is same told = ap (ended_by s client) is ∙ (λ i. record { state = sym same i; ended = record { client = client; outcome = sym told i } ∷ [] })

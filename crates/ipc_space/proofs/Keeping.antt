@@ -1,27 +1,29 @@
 -- What no event undoes: the tables stay sound, and an identifier that was used stays used.
 use Rattle.std.proofs.Common.{◌≡◌, ℕ, zero, suc, Bool, true, false, not, cond, List, [], ◌∷◌, map, length, refl, sym, subst, Option, Some, None}
-use Rattle.std.specs.Prelude.{◌==◌, ◌&&◌, slice_get, option_map}
+use Rattle.std.specs.Prelude.{◌==◌, ◌&&◌, ◌||◌, ℤ, pos, int_le, nat_le, take, slice_get, option_map}
 use Rattle.std.specs.FinMap as finite
 use Rattle.std.proofs.lemmas.Option.{none-some}
 use Rattle.ipc_call.specs.declared.calls.Call.{Call}
-use Rattle.ipc_call.specs.declared.calls.Call.TheVariants.{MsgGet, IpcStat, IpcSet, IpcRmid}
+use Rattle.ipc_call.specs.declared.calls.Call.TheVariants.{MsgGet, MsgSnd, MsgRcv, IpcStat, IpcSet, IpcRmid}
 use Rattle.ipc_call.specs.declared.calls.Kind.{Kind}
 use Rattle.ipc_call.specs.declared.calls.Kind.TheVariants as kinds
 use Rattle.ipc_call.specs.declared.replies.Answer.{Answer}
-use Rattle.ipc_call.specs.declared.replies.Answer.TheVariants.{Done}
+use Rattle.ipc_call.specs.declared.replies.Answer.TheVariants.{Done, Message as MessageAnswer, Status}
 use Rattle.ipc_call.specs.declared.replies.Waiting.{Waiting}
 use Rattle.ipc_call.specs.declared.rules.Rule.{Rule}
-use Rattle.ipc_call.specs.declared.rules.Rule.TheVariants.{NoKey, KeyExists, BadArgument}
-use Rattle.ipc_call.specs.declared.replies.Status.{Status}
+use Rattle.ipc_call.specs.declared.rules.Rule.TheVariants.{NoKey, KeyExists, BadArgument, BadType, TextTooLong, QueueFull, MessageTooLong}
 use Rattle.ipc_creds.specs.Credentials.{Credentials}
 use Rattle.ipc_perm.specs.declared.perms.Perm.{Perm}
 use Rattle.ipc_perm.specs.Access.{Control, Need, Permission, asked_of, denial}
+use Rattle.msg_queue.specs.declared.messages.Message.{Message}
+use Rattle.msg_queue.specs.Messages.{is_full}
 use Rattle.ipc_ids.specs.Table.{IsSound, WasUsed, next_id, without_object}
 use Rattle.ipc_ids.proofs.Sound.{IsSound-change, IsSound-new, IsSound-without, WasUsed-with, WasUsed-without, next_id-fresh}
 use Rattle.ipc_model.specs.State.{Queue, State, creds_at, queue_with_key}
 use Rattle.ipc_model.specs.Decision.{Decision, Refuse, Wait, Serve, by_check, by_checks, check}
 use Rattle.ipc_model.specs.Queues.{get_queue, get_found, make_queue, with_queue, new_queue, asks_to_make, asks_alone}
-use Rattle.ipc_model.specs.Controls.{needs_of_set, perm_of, remove_found, set_found, stat_found, status_of, takes_qbytes, tell_status, with_change, with_set, with_settings}
+use Rattle.ipc_model.specs.Messages.{chosen, cuts, excepts, queue_at, receive_found, send_found, send_message, take_chosen, to_alter, to_read, with_changed}
+use Rattle.ipc_model.specs.Controls.{needs_of_set, perm_of, remove_found, set_found, stat_object, stat_queue, status_of_queue, takes_qbytes, with_change, with_set, with_settings}
 use Rattle.ipc_model.specs.Decide.{decide}
 use Rattle.ipc_model.specs.Step.{Event, Moved, at_moment, end_at, end_waiting, ended_by, first_ready, settle, settle_from, settled, state_by, step, without}
 
@@ -106,15 +108,48 @@ Keeps-remove_found s c kinds.Segment id (Some perm) is = absurd (none-some perm 
 Keeps-remove_found s c kinds.Queue id (Some perm) is =
     let there = with_perm (finite.get s.queues.objects id) perm is in Keeps-check s (denial c (Control perm)) _ (Keeps-removed s Done id there.0 there.1)
 
-Keeps-tell_status : (s : State) (status : Option Status) → Keeps s (tell_status s status)
+Keeps-stat_queue : (s : State) (c : Credentials) (queue : Option Queue) → Keeps s (stat_queue s c queue)
 unfolding Keeps
-Keeps-tell_status s None = tt
-Keeps-tell_status s (Some status) = (refl, Follows-same s s refl)
+Keeps-stat_queue s c None = tt
+Keeps-stat_queue s c (Some queue) = Keeps-check s (denial c (Permission queue.perm (record { read = true; alter = false }))) _ (Keeps-same s (Status (status_of_queue queue)))
 
-Keeps-stat_found : (s : State) (c : Credentials) (perm : Option Perm) (status : Option Status) → Keeps s (stat_found s c perm status)
+Keeps-stat_object : (s : State) (c : Credentials) (kind : Kind) (id : ℕ) → Keeps s (stat_object s c kind id)
 unfolding Keeps
-Keeps-stat_found s c None status = tt
-Keeps-stat_found s c (Some perm) status = Keeps-check s (denial c (Permission perm (record { read = true; alter = false }))) _ (Keeps-tell_status s status)
+Keeps-stat_object s c kinds.Queue id = Keeps-stat_queue s c (finite.get s.queues.objects id)
+Keeps-stat_object s c kinds.Sems id = tt
+Keeps-stat_object s c kinds.Segment id = tt
+
+-- a queue that was there changes
+Keeps-changed : (s : State) (answer : Answer) (id : ℕ) (old new : Queue) → Some old ≡ queue_at s id → Keeps s (Serve answer (with_changed s id new))
+unfolding Keeps
+Keeps-changed s answer id old new there = (
+  refl,
+  record {
+    sound = λ sound. IsSound-change s.queues sound id new old (sym there);
+    used = λ sound j was. WasUsed-with s.queues id new j was;
+  },
+)
+
+Keeps-send_found : (s : State) (c : Credentials) (client id flags : ℕ) (message : Message) (queue : Option Queue) → queue ≡ queue_at s id → Keeps s (send_found s c client id flags message queue)
+unfolding Keeps
+Keeps-send_found s c client id flags message None is = tt
+Keeps-send_found s c client id flags message (Some queue) is =
+    Keeps-check s (denial c (Permission queue.perm to_alter)) _ (Keeps-if s (is_full queue.messages queue.qbytes (length message.text)) (Refuse QueueFull) _ tt (Keeps-changed s Done id queue _ is))
+
+Keeps-send_message : (s : State) (c : Credentials) (client id flags : ℕ) (message : Message) → Keeps s (send_message s c client id flags message)
+Keeps-send_message s c client id flags message =
+    Keeps-check s (check (int_le (pos 1) message.mtype) BadType) _ (Keeps-check s (check (nat_le (length message.text) s.limits.msg_max) TextTooLong) _ (Keeps-send_found s c client id flags message (queue_at s id) refl))
+
+Keeps-take_chosen : (s : State) (client id size flags : ℕ) (queue : Queue) (found : Option (ℕ × Message)) → Some queue ≡ queue_at s id → Keeps s (take_chosen s client id size flags queue found)
+unfolding Keeps
+Keeps-take_chosen s client id size flags queue None is = tt
+Keeps-take_chosen s client id size flags queue (Some found) is = Keeps-check s (check (nat_le (length found.1.text) size || cuts flags) MessageTooLong) _ (Keeps-changed s (MessageAnswer found.1.mtype (take size found.1.text)) id queue _ is)
+
+Keeps-receive_found : (s : State) (c : Credentials) (client id size : ℕ) (msgtyp : ℤ) (flags : ℕ) (queue : Option Queue) → queue ≡ queue_at s id → Keeps s (receive_found s c client id size msgtyp flags queue)
+unfolding Keeps
+Keeps-receive_found s c client id size msgtyp flags None is = tt
+Keeps-receive_found s c client id size msgtyp flags (Some queue) is =
+    Keeps-check s (denial c (Permission queue.perm to_read)) _ (Keeps-take_chosen s client id size flags queue (chosen queue.messages msgtyp (excepts flags)) is)
 
 Keeps-denials : (s : State) (c : Credentials) (needs : List Need) (d : Decision) → Keeps s d → Keeps s (by_checks (map (denial c) needs) d)
 Keeps-denials s c [] d p = p
@@ -142,7 +177,9 @@ Keeps-set_found s c kind id uid gid mode qbytes (Some perm) = Keeps-denials s c 
 pub Keeps-decide : (s : State) (client : ℕ) (call : Call) → Keeps s (decide s client call)
 unfolding decide
 Keeps-decide s client (MsgGet key flags) = Keeps-get_queue s (creds_at s client) key flags
-Keeps-decide s client (IpcStat kind id) = Keeps-stat_found s (creds_at s client) (perm_of s kind id) (status_of s kind id)
+Keeps-decide s client (MsgSnd id mtype text flags) = Keeps-send_message s (creds_at s client) client id flags (record { mtype = mtype; text = text })
+Keeps-decide s client (MsgRcv id size msgtyp flags) = Keeps-receive_found s (creds_at s client) client id size msgtyp flags (queue_at s id) refl
+Keeps-decide s client (IpcStat kind id) = Keeps-stat_object s (creds_at s client) kind id
 Keeps-decide s client (IpcSet kind id uid gid mode qbytes) =
     Keeps-check s (check (takes_qbytes kind qbytes) BadArgument) _ (Keeps-set_found s (creds_at s client) kind id uid gid mode qbytes (perm_of s kind id))
 Keeps-decide s client (IpcRmid kind id) = Keeps-remove_found s (creds_at s client) kind id (perm_of s kind id) refl

@@ -1,4 +1,5 @@
 pub mod Deciding
+pub mod Granting
 pub mod Histories
 pub mod Keeping
 pub mod Naming

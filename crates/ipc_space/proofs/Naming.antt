@@ -6,10 +6,10 @@ use Rattle.std.specs.List.{AllByRecursion, IsDistinct}
 use Rattle.std.proofs.lemmas.Bool.{true≢false, ne_eqb}
 use Rattle.std.proofs.lemmas.Option.{none-some}
 use Rattle.ipc_call.specs.declared.calls.Call.{Call}
-use Rattle.ipc_call.specs.declared.calls.Call.TheVariants.{MsgGet, IpcStat, IpcSet, IpcRmid}
+use Rattle.ipc_call.specs.declared.calls.Call.TheVariants.{MsgGet, MsgSnd, MsgRcv, IpcStat, IpcSet, IpcRmid}
 use Rattle.ipc_call.specs.declared.calls.Kind.{Kind}
 use Rattle.ipc_call.specs.declared.calls.Kind.TheVariants as kinds
-use Rattle.ipc_call.specs.declared.replies.Answer.TheVariants.{Id, Done, Status}
+use Rattle.ipc_call.specs.declared.replies.Answer.TheVariants.{Id, Done, Message, Status}
 use Rattle.ipc_call.specs.declared.rules.Rule.{Rule}
 use Rattle.ipc_call.specs.declared.rules.Rule.TheVariants.{NoKey, KeyExists}
 use Rattle.ipc_creds.specs.Credentials.{Credentials}
@@ -38,8 +38,9 @@ unfoldable pub NamesFresh : State → Decision → Type 0
 NamesFresh s (Refuse rule) = Unit {0}
 NamesFresh s Wait = Unit {0}
 NamesFresh s (Serve Done new) = Unit {0}
+NamesFresh s (Serve (Message mtype text) new) = Unit {0}
 NamesFresh s (Serve (Status status) new) = Unit {0}
-NamesFresh s (Serve (Id id) new) = map.contains_key s.queues.objects id ≡ false → IsFresh s.queues id × WasUsed new.queues id
+NamesFresh s (Serve (Id id) new) = has_object s kinds.Queue id ≡ false → IsFresh s.queues id × WasUsed new.queues id
 
 NamesFresh-if : (s : State) (b : Bool) (x y : Decision) → NamesFresh s x → NamesFresh s y → NamesFresh s (cond b x y)
 NamesFresh-if s true x y p q = p
@@ -61,14 +62,14 @@ NamesFresh-make_queue s c key flags few = NamesFresh-with_queue s (new_queue s c
 
 -- a queue that is found is there
 there_found : (s : State) (key : ℕ) (o : Option (ℕ × Queue)) (found : ℕ × Perm) → o ≡ find_object (has_key key) s.queues → Some found ≡ option_map {U = ℕ × Perm} (λ (x : ℕ × Queue). (x.0, x.1.perm)) o
-    → map.contains_key s.queues.objects found.0 ≡ true
+    → has_object s kinds.Queue found.0 ≡ true
 there_found s key None found same is = absurd (none-some found (sym is))
 there_found s key (Some x) found same is =
     let there = find_object-found (has_key key) s.queues x.0 x.1 (sym same) in
     let id : found.0 ≡ x.0 = cc in
-    ap (λ n. map.contains_key s.queues.objects n) id ∙ ap (λ o. is_some o) there.0
+    ap (λ n. has_object s kinds.Queue n) id ∙ ap (λ o. is_some (option_map (λ (queue : Queue). queue.perm) o)) there.0
 
-NamesFresh-there : (s : State) (id : ℕ) → map.contains_key s.queues.objects id ≡ true → NamesFresh s (Serve (Id id) s)
+NamesFresh-there : (s : State) (id : ℕ) → has_object s kinds.Queue id ≡ true → NamesFresh s (Serve (Id id) s)
 unfolding NamesFresh
 NamesFresh-there s id there = λ absent. absurd (true≢false (sym there ∙ absent))
 
@@ -95,8 +96,9 @@ unfolding NamesFresh Keeps
 named-in s (Refuse rule) client call names keeps sound = tt
 named-in s Wait client call names keeps sound = tt
 named-in s (Serve Done new) client call names keeps sound = tt
+named-in s (Serve (Message mtype text) new) client call names keeps sound = tt
 named-in s (Serve (Status status) new) client call names keeps sound = tt
-named-in s (Serve (Id id) new) client call names keeps sound = all-unless _ (map.contains_key s.queues.objects id) id (λ absent.
+named-in s (Serve (Id id) new) client call names keeps sound = all-unless _ (has_object s kinds.Queue id) id (λ absent.
     let fresh = names absent in
     (fresh-unused s.queues id fresh.0, (Follows-settled new).used (keeps.1.sound sound) id fresh.1))
 
@@ -107,14 +109,20 @@ named-by kinds.Queue s client now (MsgGet key flags) sound =
     let here = at_moment s now in
     let d = get_queue here (creds_at s client) key flags in
     named-in here d client (MsgGet key flags) (NamesFresh-get_queue here (creds_at s client) key flags sound.few) (Keeps-decide here client (MsgGet key flags)) sound
+named-by kinds.Queue s client now (MsgSnd id mtype text flags) sound = tt
+named-by kinds.Queue s client now (MsgRcv id size msgtyp flags) sound = tt
 named-by kinds.Queue s client now (IpcStat other id) sound = tt
 named-by kinds.Queue s client now (IpcSet other id uid gid mode qbytes) sound = tt
 named-by kinds.Queue s client now (IpcRmid other id) sound = tt
 named-by kinds.Sems s client now (MsgGet key flags) sound = tt
+named-by kinds.Sems s client now (MsgSnd id mtype text flags) sound = tt
+named-by kinds.Sems s client now (MsgRcv id size msgtyp flags) sound = tt
 named-by kinds.Sems s client now (IpcStat other id) sound = tt
 named-by kinds.Sems s client now (IpcSet other id uid gid mode qbytes) sound = tt
 named-by kinds.Sems s client now (IpcRmid other id) sound = tt
 named-by kinds.Segment s client now (MsgGet key flags) sound = tt
+named-by kinds.Segment s client now (MsgSnd id mtype text flags) sound = tt
+named-by kinds.Segment s client now (MsgRcv id size msgtyp flags) sound = tt
 named-by kinds.Segment s client now (IpcStat other id) sound = tt
 named-by kinds.Segment s client now (IpcSet other id uid gid mode qbytes) sound = tt
 named-by kinds.Segment s client now (IpcRmid other id) sound = tt
@@ -162,6 +170,7 @@ unfolding IsDistinct
 distinct-in s kind None = tt
 distinct-in s kind (Some (Err rule)) = tt
 distinct-in s kind (Some (Ok Done)) = tt
+distinct-in s kind (Some (Ok (Message mtype text))) = tt
 distinct-in s kind (Some (Ok (Status status))) = tt
 distinct-in s kind (Some (Ok (Id id))) = distinct-unless (has_object s kind id) id
 

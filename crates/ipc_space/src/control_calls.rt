@@ -3,13 +3,13 @@
 ghost use Rattle.std.specs.Prelude.{◌≡◌, ℕ, ◌<◌, length};
 ghost use Rattle.ipc_model.specs.State.{creds_at};
 ghost use Rattle.ipc_model.specs.Decision.{Serve};
-ghost use Rattle.ipc_model.specs.Controls.{is_within as is_within_limit, perm_of as perm_in, remove_object, set_object, stat_object, status_of as status_in};
+ghost use Rattle.ipc_model.specs.Controls.{is_within as is_within_limit, perm_of as perm_in, remove_object, set_object, stat_object};
 ghost use Rattle.ipc_space.specs.Decisions.{decided};
 
-use crate::decisions::Decided;
+use crate::decisions::{Decided, go_if};
 use crate::namespace::Namespace;
 use bitflags::Flags;
-use ipc_call::{Answer, Kind, Rule, Status};
+use ipc_call::{Answer, Kind, Rule};
 use ipc_creds::{Caps, Creds};
 use ipc_perm::{Perm, Verdict, Want, decide, may_control};
 
@@ -24,15 +24,12 @@ impl Namespace {
     pub(super) fn decide_stat(&self, creds: &Creds, kind: Kind, id: u32) -> Decided
         ensures { result ≡ decided (stat_object self.now creds.now kind id) }
     {
-        let Some(perm) = self.perm_of(kind, id) else {
-            return Decided::Refuse(Rule::BadId);
-        };
-        if let Verdict::Denied(rule) = decide(creds, &perm, TO_READ) {
-            return Decided::Refuse(rule);
-        }
-        match self.status_of(kind, id) {
-            None => Decided::Refuse(Rule::BadId),
-            Some(_) => Decided::Go,
+        match kind {
+            Kind::Queue => match self.queues.get(id) {
+                None => Decided::Refuse(Rule::BadId),
+                Some(queue) => go_if(decide(creds, &queue.perm(), TO_READ)),
+            },
+            Kind::Sems | Kind::Segment => Decided::Refuse(Rule::BadId),
         }
     }
 
@@ -42,9 +39,12 @@ impl Namespace {
         requires go { decided (stat_object self.now (creds_at self.now client) kind id) ≡ Decided.Go }
         ensures { stat_object self.now (creds_at self.now client) kind id ≡ Serve result self.now }
     {
-        match self.status_of(kind, id) {
-            None => unreachable!(),
-            Some(status) => Answer::Status(status),
+        match kind {
+            Kind::Queue => match self.queues.get(id) {
+                None => unreachable!(),
+                Some(queue) => Answer::Status(queue.status()),
+            },
+            Kind::Sems | Kind::Segment => unreachable!(),
         }
     }
 
@@ -109,16 +109,6 @@ impl Namespace {
         }
     }
 
-    /// The state of the object of an identifier.
-    fn status_of(&self, kind: Kind, id: u32) -> Option<Status>
-        ensures { result ≡ status_in self.now kind id }
-    {
-        match kind {
-            Kind::Queue => self.queues.status(id),
-            Kind::Sems | Kind::Segment => None,
-        }
-    }
-
     /// The decision on IPC_RMID.
     pub(super) fn decide_remove(&self, creds: &Creds, kind: Kind, id: u32) -> Decided
         ensures { result ≡ decided (remove_object self.now creds.now kind id) }
@@ -126,10 +116,7 @@ impl Namespace {
         let Some(perm) = self.perm_of(kind, id) else {
             return Decided::Refuse(Rule::BadId);
         };
-        match may_control(creds, &perm) {
-            Verdict::Allowed(_) => Decided::Go,
-            Verdict::Denied(rule) => Decided::Refuse(rule),
-        }
+        go_if(may_control(creds, &perm))
     }
 
     /// Grants IPC_RMID: the object leaves, and its key is free. It takes no memory.
@@ -153,7 +140,7 @@ impl Namespace {
         ensures { result ≡ perm_in self.now kind id }
     {
         match kind {
-            Kind::Queue => self.queues.perm(id),
+            Kind::Queue => Some(self.queues.get(id)?.perm()),
             Kind::Sems | Kind::Segment => None,
         }
     }

@@ -1,20 +1,134 @@
-// The calls on message queues: msgget(2).
+// The calls on message queues: msgget(2), msgop(2).
 
-ghost use Rattle.std.specs.Prelude.{◌≡◌, ℕ, ◌<◌, length, IfOk, OnErr, Some, None};
+ghost use Rattle.std.specs.Prelude.{◌≡◌, ◌||◌, nat_le, ℕ, ◌<◌, List, length, IfOk, OnErr, Some, None};
 ghost use Rattle.ipc_creds.specs.Credentials.{Credentials};
 ghost use Rattle.ipc_model.specs.State.{State, creds_at, queue_with_key as queue_of_key};
 ghost use Rattle.ipc_model.specs.Decision.{Serve};
+ghost use Rattle.ipc_model.specs.Messages.{cuts, receive_message, send_message};
 ghost use Rattle.ipc_model.specs.Queues.{get_queue, get_found, make_queue as make_queue_by, new_queue as new_queue_by};
 ghost use Rattle.ipc_space.specs.Decisions.{decided};
 
-use crate::decisions::Decided;
+use crate::decisions::{Decided, go_if, or_wait};
 use crate::namespace::Namespace;
-use ipc_call::{Answer, IPC_CREAT, IPC_EXCL, Memory, Rule};
+use ipc_call::{Answer, IPC_CREAT, IPC_EXCL, Items, MSG_EXCEPT, MSG_NOERROR, Memory, Rule};
 use ipc_control::Queue;
 use ipc_creds::Creds;
-use ipc_perm::{Mode, Perm, Verdict, asked_of_flags, decide};
+use ipc_perm::{Mode, Perm, Verdict, Want, asked_of_flags, decide};
+
+/// The right that msgsnd asks.
+const TO_ALTER: Want = Want {
+    read: false,
+    alter: true,
+};
+
+/// The right that msgrcv asks.
+const TO_READ: Want = Want {
+    read: true,
+    alter: false,
+};
 
 impl Namespace {
+    /// The decision on msgsnd. Type and length are looked at before the identifier.
+    pub(super) fn decide_send(
+        &self,
+        creds: &Creds,
+        id: u32,
+        mtype: i64,
+        len: usize,
+        flags: u32,
+    ) -> Decided
+        ensures { (client : ℕ) (text : List ℕ) → length text ≡ len → result ≡ decided (send_message self.now creds.now client id flags (record { mtype = mtype; text = text })) }
+    {
+        if mtype < 1 {
+            return Decided::Refuse(Rule::BadType);
+        }
+        if len as u64 > u64::from(self.limits.msg_max) {
+            return Decided::Refuse(Rule::TextTooLong);
+        }
+        let Some(queue) = self.queues.get(id) else {
+            return Decided::Refuse(Rule::BadId);
+        };
+        if let Verdict::Denied(rule) = decide(creds, &queue.perm(), TO_ALTER) {
+            return Decided::Refuse(rule);
+        }
+        if queue.fits(len) {
+            Decided::Go
+        } else {
+            or_wait(flags, Rule::QueueFull)
+        }
+    }
+
+    /// Grants msgsnd. Memory comes where a growth was refused.
+    pub(super) fn grant_send(
+        &mut self,
+        client: u32,
+        id: u32,
+        mtype: i64,
+        text: Items<u8>,
+        flags: u32,
+    ) -> Result<Answer, Memory>
+        requires known { client < length self.old.clients }
+        requires go { decided (send_message self.old (creds_at self.old client) client id flags (record { mtype = mtype; text = text })) ≡ Decided.Go }
+        ensures served { IfOk result (λ answer. send_message self.old (creds_at self.old client) client id flags (record { mtype = mtype; text = text }) ≡ Serve answer self.new) }
+        ensures parked { self.new.parked ≡ self.old.parked }
+        ensures limits { self.new.limits ≡ self.old.limits }
+        ensures clients { self.new.clients ≡ self.old.clients }
+        ensures err { OnErr result (self.new ≡ self.old) }
+    {
+        self.queues.send(id, client, mtype, text, self.clock)?;
+        Ok(Answer::Done)
+    }
+
+    /// The decision on msgrcv.
+    pub(super) fn decide_receive(
+        &self,
+        creds: &Creds,
+        id: u32,
+        size: u64,
+        msgtyp: i64,
+        flags: u32,
+    ) -> Decided
+        ensures { (client : ℕ) → result ≡ decided (receive_message self.now creds.now client id size msgtyp flags) }
+    {
+        let Some(queue) = self.queues.get(id) else {
+            return Decided::Refuse(Rule::BadId);
+        };
+        if let Verdict::Denied(rule) = decide(creds, &queue.perm(), TO_READ) {
+            return Decided::Refuse(rule);
+        }
+        let Some(len) = queue.chosen_len(msgtyp, flags & MSG_EXCEPT != 0) else {
+            return or_wait(flags, Rule::NoMessage);
+        };
+        if hands_out(len, size, flags) {
+            Decided::Go
+        } else {
+            Decided::Refuse(Rule::MessageTooLong)
+        }
+    }
+
+    /// Grants msgrcv. It takes no memory.
+    pub(super) fn grant_receive(
+        &mut self,
+        client: u32,
+        id: u32,
+        size: u64,
+        msgtyp: i64,
+        flags: u32,
+    ) -> Answer
+        requires known { client < length self.old.clients }
+        requires go { decided (receive_message self.old (creds_at self.old client) client id size msgtyp flags) ≡ Decided.Go }
+        ensures served { receive_message self.old (creds_at self.old client) client id size msgtyp flags ≡ Serve result self.new }
+        ensures parked { self.new.parked ≡ self.old.parked }
+        ensures limits { self.new.limits ≡ self.old.limits }
+        ensures clients { self.new.clients ≡ self.old.clients }
+    {
+        let except = flags & MSG_EXCEPT != 0;
+        let (mtype, text) = self
+            .queues
+            .receive(id, client, size, msgtyp, except, self.clock);
+        Answer::Message { mtype, text }
+    }
+
     /// The decision on msgget. Key 0 is IPC_PRIVATE, and has no queue.
     pub(super) fn decide_get_queue(&self, creds: &Creds, key: u32, flags: u32) -> Decided
         ensures { result ≡ decided (get_queue self.now creds.now key flags) }
@@ -124,8 +238,12 @@ fn decide_found_queue(creds: &Creds, perm: &Perm, flags: u32) -> Decided
     if flags & IPC_CREAT != 0 && flags & IPC_EXCL != 0 {
         return Decided::Refuse(Rule::KeyExists);
     }
-    match decide(creds, perm, asked_of_flags(flags)) {
-        Verdict::Allowed(_) => Decided::Go,
-        Verdict::Denied(rule) => Decided::Refuse(rule),
-    }
+    go_if(decide(creds, perm, asked_of_flags(flags)))
+}
+
+/// Whether msgrcv hands out a text of this length: it isn't longer than asked for, or it is cut.
+fn hands_out(len: usize, size: u64, flags: u32) -> bool
+    ensures { result ≡ (nat_le len size || cuts flags) }
+{
+    len as u64 <= size || flags & MSG_NOERROR != 0
 }

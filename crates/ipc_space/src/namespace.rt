@@ -249,6 +249,18 @@ impl Namespace {
         let creds = &self.clients[client as usize];
         match call {
             Call::MsgGet { key, flags } => self.decide_get_queue(creds, *key, *flags),
+            Call::MsgSnd {
+                id,
+                mtype,
+                text,
+                flags,
+            } => self.decide_send(creds, *id, *mtype, text.len(), *flags),
+            Call::MsgRcv {
+                id,
+                size,
+                msgtyp,
+                flags,
+            } => self.decide_receive(creds, *id, *size, *msgtyp, *flags),
             Call::IpcStat { kind, id } => self.decide_stat(creds, *kind, *id),
             Call::IpcSet {
                 kind,
@@ -276,6 +288,18 @@ impl Namespace {
     {
         match call {
             Call::MsgGet { key, flags } => self.grant_get_queue(client, key, flags),
+            Call::MsgSnd {
+                id,
+                mtype,
+                text,
+                flags,
+            } => self.grant_send(client, id, mtype, text, flags),
+            Call::MsgRcv {
+                id,
+                size,
+                msgtyp,
+                flags,
+            } => Ok(self.grant_receive(client, id, size, msgtyp, flags)),
             Call::IpcStat { kind, id } => Ok(self.grant_stat(client, kind, id)),
             Call::IpcSet {
                 kind,

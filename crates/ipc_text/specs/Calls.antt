@@ -1,11 +1,12 @@
 -- The calls that the words behind a client's name make; None where they aren't in the grammar.
 use Rattle.std.specs.Prelude.{ℕ, List, [], ◌∷◌, codes, bytes_eq, Option, Some, None, if◌then◌else◌, option_map}
 use Rattle.ipc_call.specs.declared.calls.Call.{Call}
-use Rattle.ipc_call.specs.declared.calls.Call.TheVariants.{MsgGet, IpcStat, IpcSet, IpcRmid}
+use Rattle.ipc_call.specs.declared.calls.Call.TheVariants.{MsgGet, MsgSnd, MsgRcv, IpcStat, IpcSet, IpcRmid}
 use Rattle.ipc_call.specs.declared.calls.Kind.{Kind}
 use Rattle.ipc_call.specs.declared.calls.Kind.TheVariants.{Queue, Sems, Segment}
 use Rattle.ipc_text.specs.Grammar.{◌>>=◌}
-use Rattle.ipc_text.specs.Numbers.{number_32, number_64}
+use Rattle.ipc_text.specs.Numbers.{number_32, number_64, signed_64}
+use Rattle.ipc_text.specs.Texts.{text_of}
 
 -- KEY FLAGS
 abbrev pub msgget_of : List (List ℕ) → Option Call
@@ -13,6 +14,40 @@ msgget_of [] = None
 msgget_of (key ∷ []) = None
 msgget_of (key ∷ flags ∷ []) = number_32 key >>= λ k. option_map (λ f. MsgGet k f) (number_32 flags)
 msgget_of (key ∷ flags ∷ more ∷ others) = None
+
+abbrev pub msgsnd_words : List ℕ → List ℕ → List ℕ → List ℕ → Option Call
+msgsnd_words id mtype text flags = do
+  i ← number_32 id
+  t ← signed_64 mtype
+  f ← number_32 flags
+  bytes ← text_of text
+  Some (MsgSnd i t bytes f)
+
+-- ID MTYPE TEXT FLAGS
+unfoldable pub msgsnd_of : List (List ℕ) → Option Call
+msgsnd_of [] = None
+msgsnd_of (id ∷ []) = None
+msgsnd_of (id ∷ mtype ∷ []) = None
+msgsnd_of (id ∷ mtype ∷ text ∷ []) = None
+msgsnd_of (id ∷ mtype ∷ text ∷ flags ∷ []) = msgsnd_words id mtype text flags
+msgsnd_of (id ∷ mtype ∷ text ∷ flags ∷ more ∷ others) = None
+
+abbrev pub msgrcv_words : List ℕ → List ℕ → List ℕ → List ℕ → Option Call
+msgrcv_words id size msgtyp flags = do
+  i ← number_32 id
+  n ← number_64 size
+  t ← signed_64 msgtyp
+  f ← number_32 flags
+  Some (MsgRcv i n t f)
+
+-- ID SIZE MSGTYP FLAGS
+unfoldable pub msgrcv_of : List (List ℕ) → Option Call
+msgrcv_of [] = None
+msgrcv_of (id ∷ []) = None
+msgrcv_of (id ∷ size ∷ []) = None
+msgrcv_of (id ∷ size ∷ msgtyp ∷ []) = None
+msgrcv_of (id ∷ size ∷ msgtyp ∷ flags ∷ []) = msgrcv_words id size msgtyp flags
+msgrcv_of (id ∷ size ∷ msgtyp ∷ flags ∷ more ∷ others) = None
 
 -- KIND: q queue, s semaphore set, m segment
 unfoldable pub kind_named : List ℕ → Option Kind
@@ -56,11 +91,17 @@ set_of (kind ∷ id ∷ uid ∷ []) = None
 set_of (kind ∷ id ∷ uid ∷ gid ∷ []) = None
 set_of (kind ∷ id ∷ uid ∷ gid ∷ mode ∷ rest) = set_words kind id uid gid mode rest
 
+-- the word of a control of an object of any kind, and its arguments
+unfoldable pub control_of : List ℕ → List (List ℕ) → Option Call
+control_of word words =
+    if bytes_eq word (codes "stat") then stat_of words
+    else (if bytes_eq word (codes "set") then set_of words
+    else (if bytes_eq word (codes "rmid") then rmid_of words else None))
+
 -- the word of the call, and its arguments
 unfoldable pub call_of : List (List ℕ) → Option Call
 call_of [] = None
 call_of (word ∷ words) =
     if bytes_eq word (codes "msgget") then msgget_of words
-    else (if bytes_eq word (codes "stat") then stat_of words
-    else (if bytes_eq word (codes "set") then set_of words
-    else (if bytes_eq word (codes "rmid") then rmid_of words else None)))
+    else (if bytes_eq word (codes "msgsnd") then msgsnd_of words
+    else (if bytes_eq word (codes "msgrcv") then msgrcv_of words else control_of word words))

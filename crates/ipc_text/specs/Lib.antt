@@ -6,4 +6,5 @@ pub mod Names
 pub mod Numbers
 pub mod Rows
 pub mod Settings
+pub mod Texts
 pub mod Words

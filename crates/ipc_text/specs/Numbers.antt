@@ -1,5 +1,5 @@
 -- Numbers in a script: decimal, octal after 0, hexadecimal after 0x, as C writes them (POSIX.1-2017 XSH strtoul).
-use Rattle.std.specs.Prelude.{ℕ, ◌==◌, ◌^◌, ◌-◌, List, [], ◌∷◌, Option, Some, None, if◌then◌else◌, nat_le, nat_lt, option_and_then}
+use Rattle.std.specs.Prelude.{ℕ, ℤ, pos, neg_ℤ, option_map, ◌==◌, ◌^◌, ◌-◌, List, [], ◌∷◌, Option, Some, None, if◌then◌else◌, nat_le, nat_lt, option_and_then}
 use Rattle.std.specs.List.{list_all}
 use Rattle.std.specs.Char.{digit_value}
 use Rattle.std.specs.Str.Parse.{digits_value}
@@ -34,3 +34,14 @@ number_32 word = number_within (2 ^ 32 - 1) word
 
 abbrev pub number_64 : List ℕ → Option ℕ
 number_64 word = number_within (2 ^ 64 - 1) word
+
+-- a number of 64 bits with a sign, + (byte 43) or - (45), before it or none
+abbrev pub positive : List ℕ → Option ℤ
+positive word = option_map (λ n. pos n) (number_within (2 ^ 63 - 1) word)
+
+abbrev pub negative : List ℕ → Option ℤ
+negative word = option_map (λ n. neg_ℤ (pos n)) (number_within (2 ^ 63) word)
+
+abbrev pub signed_64 : List ℕ → Option ℤ
+signed_64 [] = None
+signed_64 (c ∷ cs) = if c == 45 then negative cs else (if c == 43 then positive cs else positive (c ∷ cs))

@@ -1,9 +1,10 @@
 -- The rows that a script prints (the project's own; the names of errors are those of errno(3)).
-use Rattle.std.specs.Prelude.{ℕ, ◌-◌, ◌^◌, false, List, [], ◌++◌, codes, decimal, Option, Some, None, Ok, Err, unwrap_or, slice_get, flat_map}
-use Rattle.ipc_call.specs.declared.replies.Answer.TheVariants.{Id, Done, Status}
+use Rattle.std.specs.Prelude.{ℕ, ℤ, ◌-◌, ◌^◌, false, List, [], ◌++◌, codes, decimal, Option, Some, None, Ok, Err, unwrap_or, slice_get, flat_map}
+use Rattle.ipc_call.specs.declared.replies.Answer.TheVariants.{Id, Done, Message, Status}
 use Rattle.ipc_call.specs.declared.replies.Status.TheVariants.{Queue}
 use Rattle.ipc_call.specs.declared.replies.QueueStatus.{QueueStatus}
-use Rattle.std.specs.Fmt.{digits, format_spec, padded_integral}
+use Rattle.std.specs.Fmt.{digits, format_spec, padded_integral, signed_decimal}
+use Rattle.hex.specs.Hex.{encode_lower}
 use Rattle.ipc_call.specs.declared.replies.Reply.{Reply}
 use Rattle.ipc_call.specs.declared.replies.Reply.TheVariants.{Entered, Memory}
 use Rattle.ipc_call.specs.declared.rules.Rule.{Rule}
@@ -56,9 +57,14 @@ contents_text q =
 abbrev pub queue_text : QueueStatus → List ℕ
 queue_text q = access_text q ++ contents_text q
 
+-- a message: its type and the bytes of its text
+abbrev pub message_text : ℤ → List ℕ → List ℕ
+message_text mtype text = codes "message " ++ (signed_decimal mtype ++ (codes " x:" ++ (encode_lower text ++ codes "\n")))
+
 abbrev pub outcome_text : Outcome → List ℕ
 outcome_text (Ok (Id id)) = codes "id " ++ (decimal id ++ codes "\n")
 outcome_text (Ok Done) = codes "ok\n"
+outcome_text (Ok (Message mtype text)) = message_text mtype text
 outcome_text (Ok (Status (Queue status))) = queue_text status
 outcome_text (Err rule) = rule_text rule
 

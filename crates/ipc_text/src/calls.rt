@@ -1,28 +1,122 @@
 // The calls that the words behind a client's name make.
 
-ghost use Rattle.std.specs.Prelude.{◌≡◌};
-ghost use Rattle.ipc_text.specs.Calls.{call_of as call_words, kind_named as kind_word, msgget_of as msgget_words, object_of as object_words};
+ghost use Rattle.std.specs.Prelude.{◌≡◌, ◌≢◌, [], ◌∷◌, length, IfOk, MatchOption};
+ghost use Rattle.ipc_text.specs.Calls.{call_of as call_words, control_of as control_words, kind_named as kind_word, msgget_of as msgget_words, object_of as object_words};
 ghost use Rattle.ipc_text.specs.Calls.{qbytes_of as qbytes_words, rmid_of as rmid_words, set_of as set_line, set_words as set_parts, stat_of as stat_words};
+ghost use Rattle.ipc_text.specs.Calls.{msgrcv_of as msgrcv_line, msgrcv_words as msgrcv_parts, msgsnd_of as msgsnd_line, msgsnd_words as msgsnd_parts};
 ghost use Rattle.ipc_text.specs.Words.{words_of};
 
-use crate::numbers::{number, number_32};
+use crate::numbers::{number, number_32, signed_64};
+use crate::texts::text_of;
 use crate::words::split_word;
 use ipc_call::{Call, Kind};
+use std::alloc::{AllocError, Global};
 
-/// The call that the words behind a client's name make; `None` where they make none. The words are the
-/// project's own, with the names and the order of arguments of the man pages (msgget(2), msgctl(2)).
+/// The call that the words behind a client's name make; `None` where they make none. `AllocError` comes where
+/// memory was refused. The words are the project's own, with the names and the order of arguments of the man
+/// pages (msgget(2), msgop(2), msgctl(2)).
 #[tactic(auto, unfolding(crate::specs::Calls::call_of))]
-pub fn call_of(words: &[u8]) -> Option<Call>
-    ensures { result ≡ call_words (words_of words.now) }
+pub fn call_of(alloc: Global, words: &[u8]) -> Result<Option<Call>, AllocError>
+    ensures { IfOk result (λ call. call ≡ call_words (words_of words.now)) }
 {
-    let (word, words) = split_word(words)?;
+    let Some((word, words)) = split_word(words) else {
+        return Ok(None);
+    };
     match word {
-        b"msgget" => msgget_of(words),
+        b"msgget" => Ok(msgget_of(words)),
+        b"msgsnd" => msgsnd_of(alloc, words),
+        b"msgrcv" => Ok(msgrcv_of(words)),
+        _ => Ok(control_of(word, words)),
+    }
+}
+
+// The control of an object of any kind.
+#[tactic(auto, unfolding(crate::specs::Calls::control_of))]
+fn control_of(word: &[u8], words: &[u8]) -> Option<Call>
+    ensures { result ≡ control_words word.now (words_of words.now) }
+{
+    match word {
         b"stat" => stat_of(words),
         b"set" => set_of(words),
         b"rmid" => rmid_of(words),
         _ => None,
     }
+}
+
+#[tactic(auto, unfolding(crate::specs::Calls::msgsnd_of))]
+fn msgsnd_of(alloc: Global, words: &[u8]) -> Result<Option<Call>, AllocError>
+    ensures { IfOk result (λ call. call ≡ msgsnd_line (words_of words.now)) }
+{
+    let Some((id, mtype, text, flags)) = four_words(words) else {
+        return Ok(None);
+    };
+    msgsnd_words(alloc, id, mtype, text, flags)
+}
+
+fn msgsnd_words(
+    alloc: Global,
+    id: &[u8],
+    mtype: &[u8],
+    text: &[u8],
+    flags: &[u8],
+) -> Result<Option<Call>, AllocError>
+    ensures { IfOk result (λ call. call ≡ msgsnd_parts id.now mtype.now text.now flags.now) }
+{
+    let Some(id) = number_32(id) else {
+        return Ok(None);
+    };
+    let Some(mtype) = signed_64(mtype) else {
+        return Ok(None);
+    };
+    let Some(flags) = number_32(flags) else {
+        return Ok(None);
+    };
+    let Some(text) = text_of(alloc, text)? else {
+        return Ok(None);
+    };
+    Ok(Some(Call::MsgSnd {
+        id,
+        mtype,
+        text,
+        flags,
+    }))
+}
+
+#[tactic(auto, unfolding(crate::specs::Calls::msgrcv_of))]
+fn msgrcv_of(words: &[u8]) -> Option<Call>
+    ensures { result ≡ msgrcv_line (words_of words.now) }
+{
+    let (id, size, msgtyp, flags) = four_words(words)?;
+    msgrcv_words(id, size, msgtyp, flags)
+}
+
+fn msgrcv_words(id: &[u8], size: &[u8], msgtyp: &[u8], flags: &[u8]) -> Option<Call>
+    ensures { result ≡ msgrcv_parts id.now size.now msgtyp.now flags.now }
+{
+    let id = number_32(id)?;
+    let size = number(size, u64::MAX)?;
+    let msgtyp = signed_64(msgtyp)?;
+    let flags = number_32(flags)?;
+    Some(Call::MsgRcv {
+        id,
+        size,
+        msgtyp,
+        flags,
+    })
+}
+
+// The words, where they are four.
+fn four_words(words: &[u8]) -> Option<(&[u8], &[u8], &[u8], &[u8])>
+    ensures { MatchOption result (length (words_of words.now) ≢ 4) (λ x. words_of words.now ≡ x.0.now ∷ x.1.now ∷ x.2.now ∷ x.3.now ∷ []) }
+{
+    let (first, words) = split_word(words)?;
+    let (second, words) = split_word(words)?;
+    let (third, words) = split_word(words)?;
+    let (fourth, words) = split_word(words)?;
+    if split_word(words).is_some() {
+        return None;
+    }
+    Some((first, second, third, fourth))
 }
 
 fn msgget_of(words: &[u8]) -> Option<Call>

@@ -13,6 +13,7 @@ mod numbers;
 mod reasons;
 mod rows;
 mod settings;
+mod texts;
 mod words;
 
 pub use calls::call_of;

@@ -2,6 +2,7 @@
 
 ghost use Rattle.std.specs.Prelude.{◌≡◌, ◌≤◌, IfSome, option_and_then};
 ghost use Rattle.ipc_text.specs.Numbers.{at_most, behind_zero as number_behind_zero, number_32 as word_32, number_within, numeral as digits_number};
+ghost use Rattle.ipc_text.specs.Numbers.{negative as negative_word, positive as positive_word, signed_64 as signed_word};
 
 /// The number that the word writes, where it is at most `most`.
 #[tactic(auto, unfolding(crate::specs::Numbers::number_within))]
@@ -34,6 +35,35 @@ pub(crate) fn number_32(word: &[u8]) -> Option<u32>
 {
     let value = number(word, u64::from(u32::MAX))?;
     Some(value as u32)
+}
+
+/// The number that the word writes, with a sign or none before it, where 64 bits hold it.
+pub(crate) fn signed_64(word: &[u8]) -> Option<i64>
+    ensures { result ≡ signed_word word.now }
+{
+    match word.split_first() {
+        None => None,
+        Some((b'-', digits)) => negative(digits),
+        Some((b'+', digits)) => positive(digits),
+        Some(_) => positive(word),
+    }
+}
+
+fn positive(digits: &[u8]) -> Option<i64>
+    ensures { result ≡ positive_word digits.now }
+{
+    let value = number(digits, i64::MAX as u64)?;
+    Some(value as i64)
+}
+
+fn negative(digits: &[u8]) -> Option<i64>
+    ensures { result ≡ negative_word digits.now }
+{
+    let value = number(digits, 1 << 63)?;
+    if value == 1 << 63 {
+        return Some(i64::MIN);
+    }
+    Some(-(value as i64))
 }
 
 // The number that these digits of the base write, where it is at most `most`.

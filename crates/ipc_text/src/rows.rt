@@ -2,7 +2,7 @@
 
 ghost use Rattle.std.specs.Prelude.{◌≡◌, ◌++◌, OnOk, string_bytes};
 ghost use Rattle.ipc_text.specs.Rows.{bad_row, name_of_reason, outcome_text, reply_row, row_head, rule_text, waits_row};
-ghost use Rattle.ipc_text.specs.Rows.{queue_text, access_text, key_text, mode_text, owners_text, contents_text, times_text};
+ghost use Rattle.ipc_text.specs.Rows.{message_text, queue_text, access_text, key_text, mode_text, owners_text, contents_text, times_text};
 
 use crate::names::Name;
 use crate::reasons::Reason;
@@ -59,9 +59,18 @@ fn print_outcome(rows: &mut String, outcome: &Outcome) -> Result<(), Memory>
     match outcome {
         Ok(Answer::Id(id)) => write!(rows, "id {id}\n"),
         Ok(Answer::Done) => rows.push_str("ok\n"),
+        Ok(Answer::Message { mtype, text }) => print_message(rows, *mtype, text.as_slice()),
         Ok(Answer::Status(Status::Queue(status))) => print_queue(rows, *status),
         Err(rule) => print_rule(rows, *rule),
     }
+}
+
+fn print_message(rows: &mut String, mtype: i64, text: &[u8]) -> Result<(), Memory>
+    ensures { OnOk result (string_bytes rows.new ≡ string_bytes rows.old ++ message_text mtype text.now) }
+{
+    write!(rows, "message {mtype} x:")?;
+    let digits = hex::encode(*rows.allocator(), text)?;
+    write!(rows, "{digits}\n")
 }
 
 fn print_queue(rows: &mut String, status: QueueStatus) -> Result<(), Memory>

@@ -83,7 +83,7 @@ impl Session {
         } else if word == b"clock".as_slice() {
             Ok(read_clock(words))
         } else {
-            Ok(self.read_call(word, words))
+            self.read_call(alloc, word, words)
         }
     }
 
@@ -129,20 +129,20 @@ impl Session {
         Reading::Limit(limit, value)
     }
 
-    fn read_call(&self, word: &[u8], words: &[u8]) -> Reading
-        ensures value { result ≡ call_line self.now (client_with self.now word.now) (words_of words.now) }
-        ensures sound { IsSound self.now result }
+    fn read_call(&self, alloc: Global, word: &[u8], words: &[u8]) -> Result<Reading, Memory>
+        ensures value { IfOk result (λ r. r ≡ call_line self.now (client_with self.now word.now) (words_of words.now)) }
+        ensures sound { IfOk result (IsSound self.now) }
     {
         let Some(client) = self.client_named(word) else {
-            return Reading::Bad(Reason::UnknownClient);
+            return Ok(Reading::Bad(Reason::UnknownClient));
         };
-        let Some(call) = call_of(words) else {
-            return Reading::Bad(Reason::BadLine);
+        let Some(call) = call_of(alloc, words)? else {
+            return Ok(Reading::Bad(Reason::BadLine));
         };
         if self.is_waiting(client) {
-            return Reading::Bad(Reason::Busy);
+            return Ok(Reading::Bad(Reason::Busy));
         }
-        Reading::Call(client, call)
+        Ok(Reading::Call(client, call))
     }
 }
 

@@ -1,4 +1,4 @@
-use Rattle.std.proofs.Common.{ℕ, sym, ap, ◌∙◌}
+use Rattle.std.proofs.Common.{ℕ, sym, ap, ◌∙◌, Some}
 use Rattle.std.specs.Prelude.{option_map}
 use Rattle.std.specs.FinMap as map
 use Rattle.ipc_perm.specs.declared.perms.Perm.{Perm}
@@ -14,5 +14,5 @@ returns-in_err-id c =
 
 pub returns : goal.returns
 returns c =
-    sym (found-some c.self.inside.slots c.self.inside.keys c.self.invariant c.args.key c.in_ok-id.id c.in_ok-perm.perm (sym c.in_ok-id.ensures.id) (ap (λ (t : Table Queue). option_map (λ (queue : Queue). queue.perm) (map.get t.objects c.in_ok-id.id)) c.self.view_is ∙ sym c.in_ok-perm.ensures))
+    sym (found-some c.self.inside.slots c.self.inside.keys c.self.invariant c.args.key c.in_ok-id.id c.perm.result (sym c.in_ok-id.ensures.id) (ap (λ (t : Table Queue). option_map (λ (queue : Queue). queue.perm) (map.get t.objects c.in_ok-id.id)) c.self.view_is ∙ ap (λ o. option_map (λ (queue : Queue). queue.perm) o) (sym c.in_ok-queue.ensures) ∙ ap (λ (p : Perm). Some p) (sym c.perm.ensures)))
     ∙ ap (λ (t : Table Queue). option_map {U = ℕ × Perm} (λ (x : ℕ × Queue). (x.0, x.1.perm)) (find_object (has_key c.args.key) t)) c.self.view_is

@@ -1,8 +1,11 @@
-use Rattle.std.proofs.Common.{◌≡◌, ◌<◌, length, sym, ap, ◌∙◌, subst}
+use Rattle.std.proofs.Common.{◌≡◌, ◌<◌, length, sym, ap, ◌∙◌, subst, rules, w64}
+use mir.Val.{SFits}
+use Rattle.std.proofs.lemmas.Int.{to_z-of_z}
 use Rattle.std.proofs.lemmas.List.{get_or_default}
 use Rattle.ipc_call.specs.declared.calls.Call.{Call}
 use Rattle.ipc_creds.specs.Credentials.{Credentials}
 use Rattle.ipc_model.specs.State.{State, creds_at, nobody}
+use Rattle.ipc_model.specs.Messages.{receive_message, send_message}
 use Rattle.ipc_model.specs.Queues.{get_queue}
 use Rattle.ipc_model.specs.Controls.{set_object}
 use Rattle.ipc_model.specs.Decide.{decide}
@@ -30,3 +33,25 @@ returns-in-IpcSet c =
     c.decide_set.ensures c.in-IpcSet.uid c.in-IpcSet.gid c.in-IpcSet.mode
     ∙ ap (λ (creds : Credentials). decided (set_object s creds c.in-IpcSet.kind c.in-IpcSet.id c.in-IpcSet.uid c.in-IpcSet.gid c.in-IpcSet.mode c.in-IpcSet.qbytes)) (caller (goal.at.returns-in-IpcSet c).After-index-creds)
     ∙ ap (λ (call : Call). decided (decide s c.args.client call)) (sym c.in-IpcSet.is)
+
+pub returns-in-MsgSnd : goal.returns-in-MsgSnd
+unfolding decide
+returns-in-MsgSnd c =
+    let s = c.args.self.now in
+    let n = c.in-MsgSnd in
+    let client = c.args.client in
+    let fits : SFits w64 n.mtype = search rules in
+    c.decide_send.ensures client n.text (sym c.len.ensures) ∙ ap (λ z. decided (send_message s c.index-creds.result.now client n.id n.flags (record { mtype = z; text = n.text }))) (to_z-of_z w64 n.mtype fits)
+    ∙ ap (λ (creds : Credentials). decided (send_message s creds client n.id n.flags (record { mtype = n.mtype; text = n.text }))) (caller (goal.at.returns-in-MsgSnd c).After-index-creds)
+    ∙ ap (λ (call : Call). decided (decide s client call)) (sym n.is)
+
+pub returns-in-MsgRcv : goal.returns-in-MsgRcv
+unfolding decide
+returns-in-MsgRcv c =
+    let s = c.args.self.now in
+    let n = c.in-MsgRcv in
+    let client = c.args.client in
+    let fits : SFits w64 n.msgtyp = search rules in
+    c.decide_receive.ensures client ∙ ap (λ z. decided (receive_message s c.index-creds.result.now client n.id n.size z n.flags)) (to_z-of_z w64 n.msgtyp fits)
+    ∙ ap (λ (creds : Credentials). decided (receive_message s creds client n.id n.size n.msgtyp n.flags)) (caller (goal.at.returns-in-MsgRcv c).After-index-creds)
+    ∙ ap (λ (call : Call). decided (decide s client call)) (sym n.is)

@@ -6,12 +6,12 @@ use Rattle.std.proofs.lemmas.Result.{IfOk-at_ok}
 use Rattle.ipc_model.specs.State.{State}
 use Rattle.ipc_model.specs.Decision.{Serve}
 use Rattle.ipc_model.specs.Decide.{can_wait, decide}
-use Rattle.ipc_model.specs.Step.{ended_by, without}
+use Rattle.ipc_model.specs.Step.{without}
 use Rattle.ipc_space.specs.Namespace.{AreParked}
-use Rattle.ipc_space.proofs.Deciding.{end_at-left, goes, goes-decided, is_ready-left, refused}
+use Rattle.ipc_space.proofs.Deciding.{end_at-left, ended-refused, ended-served, goes, goes-decided, is_ready-left, refused}
 use Rattle.ipc_space.proofs.Parked.{AreParked-remove, parked_at}
 use Rattle.ipc_space.proofs.namespace.Namespace.end_at.Goals as goal
-use Rattle.ipc_space.proofs.namespace.Namespace.end_at.Goals.{After-remove-client}
+use Rattle.ipc_space.proofs.namespace.Namespace.end_at.Goals.{After-remove-client, in-Refuse+in-MsgSnd-1, in-Refuse+in-MsgGet-1, in-Go}
 
 at_place : (c : After-remove-client) → slice_get c.args.self.now.parked c.args.place ≡ Some c.remove-client.result
 at_place c =
@@ -56,18 +56,17 @@ grant-requires-clause-known c = (of_client (goal.at.grant-requires-clause-known 
 pub unwrap-requires : goal.unwrap-requires
 unwrap-requires c = c.grant.ensures.sure (of_client (goal.at.unwrap-requires c).After-remove-client).1
 
-pub returns-in-Refuse-clause-ended : goal.returns-in-Refuse-clause-ended
+pub returns-clause-ended : goal.returns-clause-ended
 unfolding rest
-returns-in-Refuse-clause-ended c =
-    let b = (goal.at.returns-in-Refuse-clause-ended c).After-remove-client in
+returns-clause-ended c =
+    let b = (goal.at.returns-clause-ended c).After-remove-client in
     let w = c.remove-client.result in
+    let d = decide (rest b) w.client w.call in
+    let new = c.match-decide.self in
+    let outcome = c.match-decide.outcome in
     end_at-left c.args.self.now (rest b) c.args.place w (at_place b) (left b)
-    ∙ ap (λ d. ended_by (rest b) w.client d) (refused (decide (rest b) w.client w.call) c.in-Refuse.rule c.in-Refuse.ensures)
-
-pub returns-in-Go-clause-ended : goal.returns-in-Go-clause-ended
-unfolding rest
-returns-in-Go-clause-ended c =
-    let b = (goal.at.returns-in-Go-clause-ended c).After-remove-client in
-    let w = c.remove-client.result in
-    end_at-left c.args.self.now (rest b) c.args.place w (at_place b) (left b)
-    ∙ ap (λ d. ended_by (rest b) w.client d) (IfOk-at_ok (λ answer. decide (rest b) w.client w.call ≡ Serve answer c.grant.new.self) c.unwrap.ensures c.grant.ensures.served)
+    ∙ elim c.match-decide.branch [
+      | in-Refuse+in-MsgSnd-1 p ↦ ended-refused (rest b) new w.client d p.in-Refuse.rule outcome (refused d p.in-Refuse.rule p.in-Refuse.ensures) p.self-is p.outcome-is
+      | in-Refuse+in-MsgGet-1 p ↦ ended-refused (rest b) new w.client d p.in-Refuse.rule outcome (refused d p.in-Refuse.rule p.in-Refuse.ensures) p.self-is p.outcome-is
+      | in-Go p ↦ ended-served (rest b) new p.grant.new.self w.client d p.unwrap.result outcome (IfOk-at_ok (λ answer. d ≡ Serve answer p.grant.new.self) p.unwrap.ensures p.grant.ensures.served) p.self-is p.outcome-is
+    ]
