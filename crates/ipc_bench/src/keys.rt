@@ -1,6 +1,6 @@
 // Measurements of the table of keys.
 
-use crate::measuring::{BATCH, Numbers, Run, key_of};
+use crate::measuring::{BATCH, Numbers, Pair, Run, key_of};
 use ipc_ids::Keys;
 use std::alloc::{AllocError, Global};
 use std::io;
@@ -38,11 +38,12 @@ pub fn find(rt: &HostRuntime, size: u32, calls: u32) -> io::Result<Run> {
     Ok(run)
 }
 
-/// Unbinds and binds again batch by batch, and counts the time of the first or of the second.
-fn unbind_and_bind(rt: &HostRuntime, size: u32, calls: u32, is_unbind: bool) -> io::Result<Run> {
+/// Unbinds keys batch by batch, and then looks each key up, which isn't bound, and binds it again: what the
+/// first took, and what the second.
+pub fn unbind_and_bind(rt: &HostRuntime, size: u32, calls: u32) -> io::Result<Pair> {
     let mut keys = bound(rt.alloc(), size)?;
     let mut numbers = Numbers::new();
-    let mut run = Run::new(calls / BATCH * BATCH);
+    let mut pair = Pair::new(calls / BATCH * BATCH);
     for _ in 0..calls / BATCH {
         let first = numbers.below(size);
         let start = Instant::now(rt)?;
@@ -53,23 +54,8 @@ fn unbind_and_bind(rt: &HostRuntime, size: u32, calls: u32, is_unbind: bool) -> 
         for step in 0..BATCH {
             bind_number(&mut keys, first.wrapping_add(step) % size.max(1))?;
         }
-        let end = Instant::now(rt)?;
-        if is_unbind {
-            run.add_time_between(start, middle);
-        } else {
-            run.add_time_between(middle, end);
-        }
-        run.add_answer(keys.find(key_of(first)).unwrap_or(u32::MAX));
+        pair.add_times(rt, start, middle)?;
+        pair.add_answer(keys.find(key_of(first)).unwrap_or(u32::MAX));
     }
-    Ok(run)
-}
-
-/// Unbinds keys.
-pub fn unbind(rt: &HostRuntime, size: u32, calls: u32) -> io::Result<Run> {
-    unbind_and_bind(rt, size, calls, true)
-}
-
-/// Looks keys up that aren't bound, and binds them.
-pub fn bind(rt: &HostRuntime, size: u32, calls: u32) -> io::Result<Run> {
-    unbind_and_bind(rt, size, calls, false)
+    Ok(pair)
 }

@@ -5,15 +5,22 @@
 
 mod keys;
 mod measuring;
+mod messages;
 mod slots;
 mod spaces;
 
-use measuring::Run;
+use measuring::{Pair, Run};
 use std::process::ExitCode;
 use std::{env, io};
 
 /// How many objects the tables hold.
-const SIZES: [u32; 3] = [16, 1_000, 30_000];
+const OBJECTS: [u32; 3] = [16, 1_000, 30_000];
+
+/// How many bytes a text has.
+const BYTES: [u32; 4] = [0, 64, 1_024, 8_192];
+
+/// How many messages a queue holds.
+const MESSAGES: [u32; 3] = [1, 100, 1_000];
 
 /// How many calls a measurement makes where the program has no word.
 const CALLS: u32 = 1_000;
@@ -22,74 +29,135 @@ const CALLS: u32 = 1_000;
 #[derive(Clone, Copy, Debug)]
 enum Operation {
     Find,
-    Unbind,
-    Bind,
+    UnbindAndBind,
     Get,
     NextId,
-    Remove,
-    Insert,
+    RemoveAndInsert,
     ApplyGet,
+    SendAndReceive,
+    ReceiveLast,
 }
 
 const OPERATIONS: [Operation; 8] = [
     Operation::Find,
-    Operation::Unbind,
-    Operation::Bind,
+    Operation::UnbindAndBind,
     Operation::Get,
     Operation::NextId,
-    Operation::Remove,
-    Operation::Insert,
+    Operation::RemoveAndInsert,
     Operation::ApplyGet,
+    Operation::SendAndReceive,
+    Operation::ReceiveLast,
 ];
 
+/// A measurement of one call.
+fn alone(rt: &HostRuntime, run: Run) -> io::Result<Vec<Run>> {
+    Ok(vec![in rt.alloc(); run]?)
+}
+
+/// A measurement of two calls.
+fn both(rt: &HostRuntime, pair: Pair) -> io::Result<Vec<Run>> {
+    Ok(vec![in rt.alloc(); pair.first, pair.second]?)
+}
+
 impl Operation {
-    fn name(self) -> &'static str {
+    /// The names of what is timed, one or two.
+    fn names(self) -> &'static [&'static str] {
         match self {
-            Operation::Find => "Keys::find",
-            Operation::Unbind => "Keys::unbind",
-            Operation::Bind => "Keys::bind",
-            Operation::Get => "Slots::get",
-            Operation::NextId => "Slots::next_id",
-            Operation::Remove => "Slots::remove",
-            Operation::Insert => "Slots::try_insert",
-            Operation::ApplyGet => "Space::apply, msgget of a key",
+            Operation::Find => &["Keys::find"],
+            Operation::UnbindAndBind => &["Keys::unbind", "Keys::bind"],
+            Operation::Get => &["Slots::get"],
+            Operation::NextId => &["Slots::next_id"],
+            Operation::RemoveAndInsert => &["Slots::remove", "Slots::try_insert"],
+            Operation::ApplyGet => &["Space::apply, msgget of a key"],
+            Operation::SendAndReceive => &["Space::apply, msgsnd and msgrcv"],
+            Operation::ReceiveLast => &["Space::apply, msgrcv of the last"],
         }
     }
 
-    /// One measurement of so many calls on a table of so many objects.
-    fn run(self, rt: &HostRuntime, size: u32, calls: u32) -> io::Result<Run> {
+    /// The sizes at which it is measured.
+    fn sizes(self) -> &'static [u32] {
         match self {
-            Operation::Find => keys::find(rt, size, calls),
-            Operation::Unbind => keys::unbind(rt, size, calls),
-            Operation::Bind => keys::bind(rt, size, calls),
-            Operation::Get => slots::get(rt, size, calls),
-            Operation::NextId => slots::next_id(rt, size, calls),
-            Operation::Remove => slots::remove(rt, size, calls),
-            Operation::Insert => slots::insert(rt, size, calls),
-            Operation::ApplyGet => spaces::get_of_a_key(rt, size, calls),
+            Operation::SendAndReceive => &BYTES,
+            Operation::ReceiveLast => &MESSAGES,
+            _ => &OBJECTS,
+        }
+    }
+
+    /// What a size counts.
+    fn unit(self) -> &'static str {
+        match self {
+            Operation::SendAndReceive => "bytes",
+            Operation::ReceiveLast => "messages",
+            _ => "objects",
+        }
+    }
+
+    /// One measurement of so many calls at a size: what each call took that has a name.
+    fn run(self, rt: &HostRuntime, size: u32, calls: u32) -> io::Result<Vec<Run>> {
+        match self {
+            Operation::Find => alone(rt, keys::find(rt, size, calls)?),
+            Operation::UnbindAndBind => both(rt, keys::unbind_and_bind(rt, size, calls)?),
+            Operation::Get => alone(rt, slots::get(rt, size, calls)?),
+            Operation::NextId => alone(rt, slots::next_id(rt, size, calls)?),
+            Operation::RemoveAndInsert => both(rt, slots::remove_and_insert(rt, size, calls)?),
+            Operation::ApplyGet => alone(rt, spaces::get_of_a_key(rt, size, calls)?),
+            Operation::SendAndReceive => alone(rt, messages::send_and_receive(rt, size, calls)?),
+            Operation::ReceiveLast => alone(rt, messages::receive_last(rt, size, calls)?),
         }
     }
 }
 
-/// The rows of an operation: one for each size.
-fn print_rows(rt: &HostRuntime, operation: Operation, calls: u32) -> io::Result<()> {
-    let name = operation.name();
-    let mut smallest = None;
-    for size in SIZES {
-        let mut runs = Vec::new(rt.alloc());
-        for _ in 0..measuring::RUNS {
-            runs.push(operation.run(rt, size, calls)?)?;
+/// The median runs of an operation at a size, one for each of its names.
+fn medians(rt: &HostRuntime, operation: Operation, size: u32, calls: u32) -> io::Result<Vec<Run>> {
+    let mut columns: Vec<Vec<Run>> = Vec::new(rt.alloc());
+    for _ in operation.names() {
+        columns.push(Vec::new(rt.alloc()))?;
+    }
+    for _ in 0..measuring::RUNS {
+        let runs = operation.run(rt, size, calls)?;
+        for (column, run) in columns.iter_mut().zip(runs) {
+            column.push(run)?;
         }
-        let run = measuring::median(runs);
-        let tenths = run.tenths_of_nanoseconds();
-        let first = *smallest.get_or_insert(tenths);
-        let (whole, part) = (tenths / 10, tenths % 10);
-        let hundredths = tenths.saturating_mul(100) / first.max(1);
-        let (times, rest) = (hundredths / 100, hundredths % 100);
-        eprintln!(rt; "{name:<32}{size:>8}{whole:>8}.{part}{times:>8}.{rest:02}")?;
-        println!(rt; "{name}, {size} objects: {}", run.sum)?;
+    }
+    let mut medians = Vec::new(rt.alloc());
+    for column in columns {
+        medians.push(measuring::median(column))?;
+    }
+    Ok(medians)
+}
+
+/// The rows of an operation: for each of its names one for each size.
+fn print_rows(rt: &HostRuntime, operation: Operation, calls: u32) -> io::Result<()> {
+    let mut measured = Vec::new(rt.alloc());
+    for size in operation.sizes() {
+        measured.push((*size, medians(rt, operation, *size, calls)?))?;
+    }
+    for (column, name) in operation.names().iter().enumerate() {
+        let mut smallest = None;
+        for (size, runs) in measured.iter() {
+            let run = runs.get(column).copied().unwrap_or(Run::new(0));
+            let first = *smallest.get_or_insert(run.tenths_of_nanoseconds());
+            print_row(rt, name, *size, operation.unit(), run, first)?;
+        }
     }
     Ok(())
+}
+
+/// One row: the time, and its ratio to the time at the first size.
+fn print_row(
+    rt: &HostRuntime,
+    name: &str,
+    size: u32,
+    unit: &str,
+    run: Run,
+    first: u64,
+) -> io::Result<()> {
+    let tenths = run.tenths_of_nanoseconds();
+    let (whole, part) = (tenths / 10, tenths % 10);
+    let hundredths = tenths.saturating_mul(100) / first.max(1);
+    let (times, rest) = (hundredths / 100, hundredths % 100);
+    eprintln!(rt; "{name:<32}{size:>7} {unit:<8}{whole:>8}.{part}{times:>8}.{rest:02}")?;
+    println!(rt; "{name}, {size} {unit}: {}", run.sum)
 }
 
 /// The number of calls that the program's word asks for.
@@ -106,7 +174,7 @@ fn calls_asked(rt: &HostRuntime) -> io::Result<u32> {
 
 fn main(rt: HostRuntime) -> io::Result<ExitCode> {
     let calls = calls_asked(&rt)?;
-    eprintln!(rt; "operation                         objects  ns a call     ratio")?;
+    eprintln!(rt; "operation                          size          ns a call      ratio")?;
     for operation in OPERATIONS {
         print_rows(&rt, operation, calls)?;
     }

@@ -55,6 +55,44 @@ impl Run {
     }
 }
 
+/// Two measurements of calls that undo one another, batch by batch.
+#[derive(Clone, Copy, Debug)]
+pub struct Pair {
+    /// The calls of the first half of each batch.
+    pub first: Run,
+    /// The calls of the second half, which undo the first.
+    pub second: Run,
+}
+
+impl Pair {
+    /// Nothing measured yet, of so many calls each.
+    pub fn new(calls: u32) -> Pair {
+        Pair {
+            first: Run::new(calls),
+            second: Run::new(calls),
+        }
+    }
+
+    /// Counts a batch: the first half from a moment to another, the second from there to now.
+    pub fn add_times(
+        &mut self,
+        rt: &HostRuntime,
+        start: Instant,
+        middle: Instant,
+    ) -> io::Result<()> {
+        let end = Instant::now(rt)?;
+        self.first.add_time_between(start, middle);
+        self.second.add_time_between(middle, end);
+        Ok(())
+    }
+
+    /// Counts an answer.
+    pub fn add_answer(&mut self, answer: u32) {
+        self.first.add_answer(answer);
+        self.second.add_answer(answer);
+    }
+}
+
 /// The run of median time.
 pub fn median(mut runs: Vec<Run>) -> Run {
     runs.as_mut_slice()

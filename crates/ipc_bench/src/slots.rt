@@ -1,13 +1,11 @@
 // Measurements of the table of slots.
 
-use crate::measuring::{BATCH, Numbers, Run};
+use crate::measuring::{BATCH, Numbers, Pair, Run};
+use ipc_call::Limit;
 use ipc_ids::{InsertFault, Slots};
 use std::alloc::AllocError;
 use std::io;
 use std::time::Instant;
-
-/// The most slots that a table has, and so the least distance of two identifiers of one slot.
-const SLOTS: u32 = 32_768;
 
 /// Puts a number into the lowest usable slot, and gives its identifier.
 fn insert_number(table: &mut Slots<u32>, number: u32) -> Result<u32, AllocError> {
@@ -27,7 +25,7 @@ struct Filled {
 impl Filled {
     fn new(rt: &HostRuntime, size: u32) -> Result<Filled, AllocError> {
         let alloc = rt.alloc();
-        let mut table = Slots::new(alloc, SLOTS, 0);
+        let mut table = Slots::new(alloc, Limit::Slots.most(), 0);
         let mut ids = Vec::new(alloc);
         for number in 0..size {
             ids.push(insert_number(&mut table, number)?)?;
@@ -52,7 +50,8 @@ impl Filled {
     fn insert_batch(&mut self) -> Result<(), AllocError> {
         for number in 0..BATCH {
             let id = insert_number(&mut self.table, number)?;
-            let slot = (id % SLOTS) as usize;
+            // Identifiers of one slot are as far apart as there may be slots.
+            let slot = (id % Limit::Slots.most()) as usize;
             if let Some(own) = self.ids.get_mut(slot) {
                 *own = id;
             }
@@ -89,34 +88,20 @@ pub fn next_id(rt: &HostRuntime, size: u32, calls: u32) -> io::Result<Run> {
     Ok(run)
 }
 
-/// Removes and inserts again batch by batch, and counts the time of the first or of the second.
-fn remove_and_insert(rt: &HostRuntime, size: u32, calls: u32, is_remove: bool) -> io::Result<Run> {
+/// Removes objects batch by batch, and fills the lowest usable slots, which are theirs: what the first took,
+/// and what the second.
+pub fn remove_and_insert(rt: &HostRuntime, size: u32, calls: u32) -> io::Result<Pair> {
     let mut filled = Filled::new(rt, size)?;
     let mut numbers = Numbers::new();
-    let mut run = Run::new(calls / BATCH * BATCH);
+    let mut pair = Pair::new(calls / BATCH * BATCH);
     for _ in 0..calls / BATCH {
         let first = numbers.below(size);
         let start = Instant::now(rt)?;
         filled.remove_batch(first, size);
         let middle = Instant::now(rt)?;
         filled.insert_batch()?;
-        let end = Instant::now(rt)?;
-        if is_remove {
-            run.add_time_between(start, middle);
-        } else {
-            run.add_time_between(middle, end);
-        }
-        run.add_answer(filled.id_of(first));
+        pair.add_times(rt, start, middle)?;
+        pair.add_answer(filled.id_of(first));
     }
-    Ok(run)
-}
-
-/// Removes objects.
-pub fn remove(rt: &HostRuntime, size: u32, calls: u32) -> io::Result<Run> {
-    remove_and_insert(rt, size, calls, true)
-}
-
-/// Inserts objects into the lowest usable slots, which are those of objects that were removed.
-pub fn insert(rt: &HostRuntime, size: u32, calls: u32) -> io::Result<Run> {
-    remove_and_insert(rt, size, calls, false)
+    Ok(pair)
 }

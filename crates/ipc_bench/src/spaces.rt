@@ -2,17 +2,17 @@
 
 use crate::measuring::{Numbers, Run, key_of};
 use bitflags::Flags;
-use ipc_call::{Answer, Call, IPC_CREAT, Limits, Reply};
+use ipc_call::{Answer, Call, IPC_CREAT, Limit, Limits, Reply};
 use ipc_creds::{Caps, Creds};
 use ipc_space::{Effects, Space};
 use std::io;
 use std::time::Instant;
 
 /// A namespace of one client, with as many slots as there may be.
-fn opened(rt: &HostRuntime) -> io::Result<Space> {
+pub fn opened(rt: &HostRuntime) -> io::Result<Space> {
     let alloc = rt.alloc();
     let limits = Limits {
-        slots: 32_768,
+        slots: Limit::Slots.most(),
         ..Limits::default()
     };
     let mut clients = Vec::new(alloc);
@@ -20,26 +20,29 @@ fn opened(rt: &HostRuntime) -> io::Result<Space> {
     Ok(Space::start(limits, clients)?)
 }
 
-/// The identifier in a reply to a call that was served.
-fn id_in(effects: Effects) -> u32 {
-    match effects.own {
+/// The answer to a call of the client, None where it isn't served.
+pub fn answer(space: &mut Space, call: Call) -> io::Result<Option<Answer>> {
+    if space.clients() == 0 || space.is_waiting(0) {
+        return Ok(None);
+    }
+    let Effects { own, .. } = space.apply(0, 0, call)?;
+    match own {
         Some(
             Reply::Entered {
-                outcome: Ok(Answer::Id(id)),
+                outcome: Ok(answer),
                 ..
             },
-        ) => id,
-        _ => u32::MAX,
+        ) => Ok(Some(answer)),
+        _ => Ok(None),
     }
 }
 
 /// One msgget of the client.
-fn msgget(space: &mut Space, key: u32, flags: u32) -> io::Result<u32> {
-    if space.clients() == 0 || space.is_waiting(0) {
-        return Ok(u32::MAX);
+pub fn msgget(space: &mut Space, key: u32, flags: u32) -> io::Result<u32> {
+    match answer(space, Call::MsgGet { key, flags })? {
+        Some(Answer::Id(id)) => Ok(id),
+        _ => Ok(u32::MAX),
     }
-    let effects = space.apply(0, 0, Call::MsgGet { key, flags })?;
-    Ok(id_in(effects))
 }
 
 /// Gets the queues of keys that are there.

@@ -1,0 +1,103 @@
+// Measurements of messages, through a whole namespace and its journal.
+
+use crate::measuring::{BATCH, Run};
+use crate::spaces::{answer, msgget, opened};
+use ipc_call::{Answer, Call, IPC_NOWAIT, Items};
+use ipc_space::Space;
+use std::io;
+use std::time::Instant;
+
+/// How many pairs one namespace serves, since its journal keeps each text that was sent.
+const PAIRS: u32 = 1_024;
+
+/// The type of the messages that are received.
+const LAST: i64 = 2;
+
+/// The type of those that stand before them.
+const BEFORE: i64 = 1;
+
+/// Sends a text to a queue.
+fn send(space: &mut Space, id: u32, mtype: i64, text: Items<u8>) -> io::Result<()> {
+    let call = Call::MsgSnd {
+        id,
+        mtype,
+        text,
+        flags: IPC_NOWAIT,
+    };
+    match answer(space, call)? {
+        Some(Answer::Done) => Ok(()),
+        _ => Err(io::Error::from(io::ErrorKind::Other)),
+    }
+}
+
+/// Receives the first text of a type from a queue.
+fn receive(space: &mut Space, id: u32, msgtyp: i64) -> io::Result<Items<u8>> {
+    let call = Call::MsgRcv {
+        id,
+        size: u64::MAX,
+        msgtyp,
+        flags: IPC_NOWAIT,
+    };
+    match answer(space, call)? {
+        Some(Answer::Message { text, .. }) => Ok(text),
+        _ => Err(io::Error::from(io::ErrorKind::Other)),
+    }
+}
+
+/// Sends a text of so many bytes and receives it, so many times, in a namespace of its own.
+fn add_pairs(rt: &HostRuntime, run: &mut Run, bytes: u32, pairs: u32) -> io::Result<()> {
+    let mut space = opened(rt)?;
+    let id = msgget(&mut space, 0, 0o600)?;
+    let mut text = Items::new(vec![in rt.alloc(); 97u8; bytes as usize]?);
+    let start = Instant::now(rt)?;
+    for _ in 0..pairs {
+        send(&mut space, id, LAST, text)?;
+        text = receive(&mut space, id, LAST)?;
+    }
+    run.add_time(rt, start)?;
+    run.add_answer(u32::try_from(text.len()).unwrap_or(u32::MAX));
+    Ok(())
+}
+
+/// Sends a text of so many bytes to an empty queue and receives it: a pair of calls counts as one.
+pub fn send_and_receive(rt: &HostRuntime, bytes: u32, calls: u32) -> io::Result<Run> {
+    let mut run = Run::new(calls);
+    for _ in 0..calls / PAIRS {
+        add_pairs(rt, &mut run, bytes, PAIRS)?;
+    }
+    add_pairs(rt, &mut run, bytes, calls % PAIRS)?;
+    Ok(run)
+}
+
+/// Makes a queue with so many messages, of which the last alone has its type.
+fn filled_queue(rt: &HostRuntime, space: &mut Space, messages: u32) -> io::Result<u32> {
+    let id = msgget(space, 0, 0o600)?;
+    for _ in 1..messages {
+        send(space, id, BEFORE, Items::new(Vec::new(rt.alloc())))?;
+    }
+    send(space, id, LAST, Items::new(Vec::new(rt.alloc())))?;
+    Ok(id)
+}
+
+/// Receives the last of so many messages, which alone has the type that is asked for, from each queue of a
+/// batch, and sends it again.
+pub fn receive_last(rt: &HostRuntime, messages: u32, calls: u32) -> io::Result<Run> {
+    let mut space = opened(rt)?;
+    let mut ids: Vec<u32> = Vec::new(rt.alloc());
+    for _ in 0..BATCH {
+        ids.push(filled_queue(rt, &mut space, messages)?)?;
+    }
+    let mut run = Run::new(calls / BATCH * BATCH);
+    for _ in 0..calls / BATCH {
+        let start = Instant::now(rt)?;
+        for id in ids.iter() {
+            receive(&mut space, *id, LAST)?;
+        }
+        run.add_time(rt, start)?;
+        for id in ids.iter() {
+            send(&mut space, *id, LAST, Items::new(Vec::new(rt.alloc())))?;
+            run.add_answer(*id);
+        }
+    }
+    Ok(run)
+}
