@@ -1,3 +1,4 @@
 mod Joining
 mod Seats
 mod Walking
+mod Working

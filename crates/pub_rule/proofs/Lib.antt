@@ -2,6 +2,7 @@ pub mod Answering
 pub mod Clients
 pub mod Clientwork
 pub mod Combiner
+pub mod Exchanging
 pub mod Kept
 pub mod Lift
 pub mod Locking

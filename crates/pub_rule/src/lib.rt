@@ -16,7 +16,7 @@ pub mod work_laws;
 pub mod work_splits;
 mod work_steps;
 
-pub use rule::{Combining, Half, Listed, Resting};
+pub use rule::{Combining, Half, Listed};
 pub use served::{Served, Slot};
 pub use steps::{ExchangeHead, LoadHead, LoadNext, MergeToken, SplitClient, SplitToken, StoreNext};
 pub use walk::{Role, View, Walk};
