@@ -7,4 +7,5 @@ pub mod Lift
 pub mod Locking
 pub mod Moves
 pub mod Numbers
+pub mod Passing
 pub mod Tables
