@@ -1,5 +1,5 @@
 -- The turns of a counter, and that they meet the laws of a served state.
-use Rattle.std.specs.Prelude.{◌≡◌, ◌≢◌, ◌⊎◌, ℕ, Bool, true, false, ◌+◌, ◌≤◌, List, [], ◌∷◌, ◌++◌, length, ◌==◌, if◌then◌else◌}
+use Rattle.std.specs.Prelude.{◌≡◌, ◌≢◌, ◌⊎◌, ℕ, Bool, true, false, ◌+◌, ◌<◌, ◌≤◌, ◌^◌, List, [], ◌∷◌, ◌++◌, length, ◌==◌, if◌then◌else◌}
 use Rattle.std.proofs.Common.{eqb, eq-eqb, ne_eqb, refl, sym, ap, subst, inl, inr, ⊎_elim, arith}
 use mathlib.Core.Logic.{dite}
 use native.Mathlib.Decide.{ℕ_discrete}
@@ -25,6 +25,9 @@ replies = replies_from 0
 
 by_equal : (F : Bool → Type 0) (x y : ℕ) → (x ≡ y → F true) → (x ≢ y → F false) → F (eqb x y)
 by_equal F x y hit miss = dite (ℕ_discrete x y) (λ e. subst F (sym (eq-eqb x y e)) (hit e)) (λ other. subst F (sym (ne_eqb x y other)) (miss other))
+
+pub starts_empty : (total [] < 2 ^ 64) × ((r : ℕ) → own [] r ≡ [])
+starts_empty = (omega arith, λ r. refl)
 
 pub own_call : (h : List Turn) (e : Turn) → own (h ++ e ∷ []) e.client ≡ own h e.client ++ e.amount ∷ []
 own_call [] e = by_equal (λ b. (if b then e.amount ∷ [] else []) ≡ e.amount ∷ []) e.client e.client (λ _. refl) (λ other. absurd (other refl))

@@ -34,7 +34,7 @@ impl Counter {
 
 /// A call is an amount, and its reply the sum of all amounts up to it.
 impl Served for Counter {
-    ghost use Rattle.pub_counter.specs.Counter.{own, replies, own_call, own_other, one_more, no_more};
+    ghost use Rattle.pub_counter.specs.Counter.{own, replies, starts_empty, own_call, own_other, one_more, no_more};
 
     type Event = Turn;
 
@@ -57,6 +57,8 @@ impl Served for Counter {
     fn events(&self) -> u64 {
         self.turns.len() as u64
     }
+
+    ghost starts_empty = { starts_empty };
 
     ghost own_call = { own_call };
 

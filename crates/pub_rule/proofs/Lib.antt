@@ -1,6 +1,7 @@
 pub mod Answering
 pub mod Clients
 pub mod Clientwork
+pub mod Closings
 pub mod Combiner
 pub mod Kept
 pub mod Lift
@@ -8,4 +9,5 @@ pub mod Locking
 pub mod Moves
 pub mod Numbers
 pub mod Passing
+pub mod Splitting
 pub mod Tables

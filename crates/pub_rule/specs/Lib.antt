@@ -8,4 +8,5 @@ pub mod Walk
 pub mod Words
 pub mod Work
 pub mod WorkLaws
+pub mod WorkSplits
 pub mod WorkSteps

@@ -13,6 +13,8 @@ mod walk;
 mod words;
 mod work;
 pub mod work_laws;
+pub mod work_splits;
+mod work_steps;
 
 pub use rule::{Combining, Half, Listed, Resting};
 pub use served::{Served, Slot};
@@ -20,3 +22,6 @@ pub use steps::{ExchangeHead, LoadHead, LoadNext, MergeToken, SplitClient, Split
 pub use walk::{Role, View, Walk};
 pub use words::{head_word, lock_word, next_word, state_word, word_count};
 pub use work::{Closed, Serving, Stage, Work};
+pub use work_steps::{
+    AnswerPosted, CollectReply, FetchSlot, PostCall, ReleaseState, SeizeState, TakePosted,
+};
