@@ -31,7 +31,7 @@ abbrev is_posted : {C : Type 0} → Serving C → Type 0
 is_posted (Posted r c) = Unit {0}
 is_posted _ = ⊥
 
-phase_taken : {C R : Type 0} (r : ℕ) (c : C) (p : Phase C R) (d : Serving C) → d ≡ Posted r c → IsTakenIn r d p → p ≡ taken c
+pub phase_taken : {C R : Type 0} (r : ℕ) (c : C) (p : Phase C R) (d : Serving C) → d ≡ Posted r c → IsTakenIn r d p → p ≡ taken c
 phase_taken r c away d e h = absurd (h (subst (IsTaken r) (sym e) refl))
 phase_taken r c free d e h = absurd (h (subst (IsTaken r) (sym e) refl))
 phase_taken r c (posted k) d e h = absurd (h (subst (IsTaken r) (sym e) refl))

@@ -8,6 +8,8 @@ pub mod Lift
 pub mod Locking
 pub mod Moves
 pub mod Numbers
+pub mod Parking
 pub mod Passing
+pub mod Resuming
 pub mod Splitting
 pub mod Tables

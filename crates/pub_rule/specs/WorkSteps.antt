@@ -114,3 +114,19 @@ module _ {E C R S : Type 0} (st : Step (Slot C R S)) (m : Me (Slot C R S) (View 
   -- answer, by the holder: the reply goes home, and the history has one event more
   abbrev pub call_answered : (S → List E) → Type 0
   call_answered history = (r : ℕ) × (x : S) × (st.word ≡ state_word r) × (st.said ≡ some (slots.State x)) × (m' ≡ (with_work (entering r (history x) m.0.work) m.0, rest m.1))
+
+  -- mark parked, by the holder: the slot goes home empty, and the history has one event more
+  abbrev pub call_parked : (S → List E) → Type 0
+  call_parked history = (r : ℕ) × (x : S) × (st.word ≡ state_word r) × (st.said ≡ some (slots.State x)) × (m' ≡ (with_work (leaving r (history x) m.0.work) m.0, rest m.1))
+
+  -- answer Memory, by the holder: Memory goes home, and the history stays
+  abbrev pub call_refused : Type 0
+  call_refused = (r : ℕ) × (st.word ≡ state_word r) × (m' ≡ (with_work (refusing r m.0.work) m.0, rest m.1))
+
+  -- take from parked, by the holder: the record's word was 3, and its empty slot comes into the holder's hands
+  abbrev pub call_resumed : Type 0
+  call_resumed = (k ≡ 3) × (r : ℕ) × (c : C) × (st.word ≡ state_word r) × (m' ≡ (with_work (resuming r c m.0.work) m.0, (r, slots.Empty) ∷ m.1))
+
+  -- answer from parked, by the holder: the reply goes home, and the history stays, which has it
+  abbrev pub reply_handed : Type 0
+  reply_handed = (r : ℕ) × (st.word ≡ state_word r) × (m' ≡ (with_work (paying r m.0.work) m.0, rest m.1))
