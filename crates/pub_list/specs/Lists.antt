@@ -14,4 +14,4 @@ IsSized z key clients = (z.words ≡ word_count clients) × (z.slots ≡ clients
 
 -- the first seat, which has made those of the clients below k
 abbrev pub IsMaker : {T E C R : Type 0} → ℕ → Seat T (View (Work E C R)) → Type 0
-IsMaker k seat = (seat.me.0.walk.role ≡ roles.Maker k) × (seat.me.0.work.stage ≡ Maker k 0)
+IsMaker k seat = (seat.me.0.walk.role ≡ roles.Maker k) × (seat.me.0.work.stage ≡ Maker k)

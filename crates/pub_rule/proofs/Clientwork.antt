@@ -54,7 +54,7 @@ module _ {E C R S : Type 0} (history : S → List E) (legal : List E → Type 0)
         gives,
         tt,
         client_step history legal own replies n s.words s.homes s.views r id q 1 (some (slots.Call c)) v t (Asking q c) v.seen false at was refl record { posts = omega arith; begun = omega arith; dealt = λ e. absurd (omega arith) } refl
-            refl refl record { calls = old.calls; even = old.even; replies_are = old.replies_are; was_parked = tt; taken_is = old.taken_is } refl (λ e. absurd (false≢true e)) k.saw (λ h. (k.combines h).seen) (asking q c v)
+            refl refl record { calls = old.calls; even = old.even; replies_are = old.replies_are; settled = old.settled; was_parked = tt; taken_is = old.taken_is } refl (λ e. absurd (false≢true e)) k.saw (λ h. (k.combines h).seen) (asking q c v)
             (λ i. record v { stage = Asking q c; seen = v.seen; entered = cl.entered i; got = cl.got i; posts = cl.posts i + 1; past = false }),
         refl,
       )
@@ -86,7 +86,7 @@ module _ {E C R S : Type 0} (history : S → List E) (legal : List E → Type 0)
         takes q slots.Memory,
         rec.home ∙ ap (λ (p : Phase C R). some (home_of p)) e,
         client_step history legal own replies n s.words s.homes s.views r id q 0 none v t (Free q) hist false at was refl record { posts = omega arith; begun = omega arith; dealt = λ _ _. tt } refl
-            refl refl record { calls = old.calls; even = old.even; replies_are = old.replies_are; was_parked = tt; taken_is = old.taken_is } refl (λ f. absurd (false≢true f)) (all_of hist) (λ _. refl) (told.refused q hist v)
+            refl refl record { calls = old.calls; even = old.even; replies_are = old.replies_are; settled = old.settled; was_parked = tt; taken_is = old.taken_is } refl (λ f. absurd (false≢true f)) (all_of hist) (λ _. refl) (told.refused q hist v)
             (λ i. record v { stage = Free q; seen = hist; entered = cl.entered i; got = cl.got i; posts = cl.posts i; past = false }),
         ((λ _. (q, c, hist, is, k.saw, r.is_legal, inl (refl, old.calls ∙ sym cl.entered, old.replies_are ∙ sym cl.got))), λ other. absurd (other hit)),
       ))
@@ -101,6 +101,7 @@ module _ {E C R S : Type 0} (history : S → List E) (legal : List E → Type 0)
               calls = old.calls;
               even = let a = length-append o.entered (c ∷ []) in let b = length-append o.got (x ∷ []) in let same = old.even in omega arith;
               replies_are = old.replies_are;
+              settled = old.settled;
               was_parked = tt;
               taken_is = old.taken_is;
             } refl (λ f. absurd (false≢true f)) (all_of hist) (λ _. refl) (answered q c x hist v)
@@ -126,7 +127,7 @@ module _ {E C R S : Type 0} (history : S → List E) (legal : List E → Type 0)
         takes q slots.Empty,
         rec.home ∙ ap (λ (p : Phase C R). some (home_of p)) phase,
         client_step history legal own replies n s.words s.homes s.views r id q (get_or s.words (state_word q) 0) none v (record o { phase = free }) (Free q) v.seen v.past at was refl record { posts = omega arith; begun = omega arith; dealt = λ _ _. tt } refl
-            (rec.word ∙ ap (λ (p : Phase C R). word_of p) phase) refl record { calls = old.calls; even = old.even; replies_are = old.replies_are; was_parked = tt; taken_is = old.taken_is } refl (λ _. tt) k.saw (λ h. (k.combines h).seen)
+            (rec.word ∙ ap (λ (p : Phase C R). word_of p) phase) refl record { calls = old.calls; even = old.even; replies_are = old.replies_are; settled = old.settled; was_parked = tt; taken_is = old.taken_is } refl (λ _. tt) k.saw (λ h. (k.combines h).seen)
             (told.fetched q v) (λ i. record v { stage = Free q; seen = v.seen; entered = cl.entered i; got = cl.got i; posts = cl.posts i; past = v.past }),
         (q, is, refl),
       ))

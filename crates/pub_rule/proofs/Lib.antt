@@ -1,6 +1,7 @@
 pub mod Answering
 pub mod Clients
 pub mod Clientwork
+pub mod Closings
 pub mod Combiner
 pub mod Exchanging
 pub mod Kept
@@ -8,5 +9,8 @@ pub mod Lift
 pub mod Locking
 pub mod Moves
 pub mod Numbers
+pub mod Parking
+pub mod Passing
+pub mod Resuming
 pub mod Splitting
 pub mod Tables

@@ -91,7 +91,24 @@ module _ {E C R S : Type 0} (history : S → List E) (legal : List E → Type 0)
 
       others : (j : ℕ) (u : Work E C R) → j ≢ id → get_elem? works j ≡ some u → Trusts s.made s.done s.seat (put s.truth q t) lock' desk' j u
       others j u other at = let k = s.each_seat j u at in record {
-        maker = k.maker;
+        maker = λ m is. let b = k.maker m is in record {
+          first = b.first;
+          count = b.count;
+          clients = b.clients;
+          distinct = b.distinct;
+          told = λ c on. let g = b.told c on in let a = stay_all c.client (λ e. other (sym g.seat_is ∙ e)) in record {
+            made_it = g.made_it;
+            seat_is = g.seat_is;
+            client = g.client;
+            home = g.home;
+            stage = a.stage c.stage g.stage;
+            entered = g.entered ∙ a.entered;
+            got = g.got ∙ a.got;
+            begun = g.begun ∙ a.begun;
+            saw = goes_on c.seen g.saw;
+            met = λ r h. let l = g.met r h in let z = (follow r).begun in let y = l.1 in (l.0, omega arith);
+          };
+        };
         client = λ r is. let c = k.client r is in let ne : s.seat r ≢ id = λ e. other (sym c.seat_is ∙ e) in let a = stay_all r ne in record {
           made_it = c.made_it;
           live = c.live;
@@ -163,7 +180,7 @@ module _ {E C R S : Type 0} (history : S → List E) (legal : List E → Type 0)
       → ((r k : ℕ) → IsMarked r k w.passed → (r < s.made) × (k ≤ (put s.truth q t r).posts) × ((put s.truth q t r).posts ≡ k → IsDealt (put s.truth q t r).phase))
       → Trusts s.made s.done s.seat (put s.truth q t) lock' desk' id w
   mine_by id q t lock' desk' p w is tells combines saw met heard passed = record {
-    maker = λ k m e. absurd (subst (IsClient p) e is);
+    maker = λ k e. absurd (subst (IsClient p) e is);
     client = λ r h. subst (λ (z : ℕ). Tells s.made s.done s.seat lock' id z w (put s.truth q t z)) (one_client p r w.stage is h) tells;
     token = λ r e. absurd (subst (IsClient p) e is);
     combines = combines;
@@ -175,7 +192,7 @@ module _ {E C R S : Type 0} (history : S → List E) (legal : List E → Type 0)
     where
       one_client : (a b : ℕ) (st : Stage C) → IsClient a st → IsClient b st → a ≡ b
       one_client a b Spent h i = absurd h
-      one_client a b (Maker k m) h i = absurd h
+      one_client a b (Maker k) h i = absurd h
       one_client a b (Away c) h i = sym h ∙ i
       one_client a b (Free c) h i = sym h ∙ i
       one_client a b (Asking c k) h i = sym h ∙ i
@@ -225,14 +242,15 @@ module _ {E C R S : Type 0} (history : S → List E) (legal : List E → Type 0)
   sole id p v at was holds j u other there h = let b = (s.each_seat j u there).combines h in let c = b.client in let mine = (s.each_seat id v at).client p was in let its = (s.each_seat j u there).client c.0 c.1 in
       let l = mine.holds holds in let m = its.holds h in let r : ℕ = c.0 in let same : r ≡ p = omega arith in other (sym its.seat_is ∙ (ap s.seat same ∙ mine.seat_is))
 
-  -- the holder's step: it changes the record of client q, and what it knows
-  pub holder_step : (id p q x : ℕ) (y : Option (Slot C R S)) (v : Work E C R) (t : Client E C R) (desk' : Desk E C) → get_elem? works id ≡ some v → IsClient p v.stage → v.holds ≡ true → q < s.made → Stays (s.truth q) t
+  -- the holder's step: it changes the record of client q, and what it knows. What it heard of client q is passed where the client is dealt with
+  pub holder_step : (id p q x : ℕ) (y : Option (Slot C R S)) (v : Work E C R) (t : Client E C R) (desk' : Desk E C) (passed' : List (ℕ × ℕ)) (past' : Bool) → get_elem? works id ≡ some v → IsClient p v.stage → v.holds ≡ true → q < s.made → Stays (s.truth q) t
       → x ≡ word_of t.phase → y ≡ home_of t.phase → IsInPhase own replies desk' q t → ((r : ℕ) → r < n → r ≢ q → IsInPhase own replies s.desk r (s.truth r) → IsInPhase own replies desk' r (s.truth r))
       → GoesOn s.desk.hist desk'.hist → legal desk'.hist → ((r : ℕ) → IsTaken r desk'.serving → r < n)
-      → Serves history legal own replies n (set words (state_word q) x) (set homes q y) (set works id (record v { seen = desk'.hist; before = desk'.before; paid = desk'.paid; serving = desk'.serving }))
-  holder_step id p q x y v t desk' at was holds small stay number slot phase phases on law below = let k = s.each_seat id v at in let c = k.client p was in let few = s.few in let inside : q < n = omega arith in
+      → ((r k : ℕ) → IsMarked r k passed' → IsMarked r k v.passed ⊎ ((r ≡ q) × IsMarked r k v.heard × IsDealt t.phase)) → (past' ≡ true → (v.past ≡ true) ⊎ ((p ≡ q) × IsDealt t.phase))
+      → Serves history legal own replies n (set words (state_word q) x) (set homes q y) (set works id (record v { seen = desk'.hist; before = desk'.before; paid = desk'.paid; serving = desk'.serving; passed = passed'; past = past' }))
+  holder_step id p q x y v t desk' passed' past' at was holds small stay number slot phase phases on law below marks pasts = let k = s.each_seat id v at in let c = k.client p was in let few = s.few in let inside : q < n = omega arith in
       let f : Follows (s.truth q) t = (let a = stay.posts in let b = stay.begun in record { posts = omega arith; begun = omega arith; dealt = λ _ h. stay.dealt h }) in
-      let w' : Work E C R = record v { seen = desk'.hist; before = desk'.before; paid = desk'.paid; serving = desk'.serving } in
+      let w' : Work E C R = record v { seen = desk'.hist; before = desk'.before; paid = desk'.paid; serving = desk'.serving; passed = passed'; past = past' } in
       let a : Stays (s.truth p) (put s.truth q t p) = put_case (Stays (s.truth p)) s.truth q t p (λ e. subst (λ (z : ℕ). Stays (s.truth z) t) (sym e) stay) (λ _. stays_itself (s.truth p)) in
       let lock : ℕ = get_or words lock_word 0 in let mine : lock ≡ p + 1 = c.holds holds in
       steps id q t f (λ _. stay) lock desk' on (λ _ _. (λ e. e, λ e. e)) (λ j u other there h _. absurd (sole id p v at was holds j u other there h)) (set words (state_word q) x) (set homes q y) w'
@@ -252,11 +270,12 @@ module _ {E C R S : Type 0} (history : S → List E) (legal : List E → Type 0)
         got = c.got ∙ a.got;
         posts = c.posts ∙ a.posts;
         begun = c.begun ∙ a.begun;
-        past = λ h. a.dealt (c.past h);
+        past = λ h. ⊎_elim (λ b. a.dealt (c.past b)) (λ (d : (p ≡ q) × IsDealt t.phase). put_case (λ b. IsDealt b.phase) s.truth q t p (λ _. d.1) (λ other. absurd (other d.0))) (pasts h);
         holds = c.holds;
         waits = c.waits;
       }
-      (λ _. record { client = (p, was); seen = refl; before = refl; paid = refl; serving = refl }) (all_hist desk'.hist) (met_still id q t f id v at) (heard_still id q t f id v at) (passed_still id q t f id v at))
+      (λ _. record { client = (p, was); seen = refl; before = refl; paid = refl; serving = refl }) (all_hist desk'.hist) (met_still id q t f id v at) (heard_still id q t f id v at)
+      (λ r k m. ⊎_elim (λ b. passed_still id q t f id v at r k b) (λ (d : (r ≡ q) × IsMarked r k v.heard × IsDealt t.phase). let h = heard_still id q t f id v at r k d.1 in (h.0, h.1, λ _. put_case (λ b. IsDealt b.phase) s.truth q t r (λ _. d.2) (λ other. absurd (other d.0)))) (marks r k m)))
     where
       all_hist : (h : List E) → GoesOn h h
       all_hist h = ([], nil_behind h)

@@ -14,9 +14,11 @@ use Rattle.pub_rule.specs.Words.{lock_word, state_word, word_count}
 use Rattle.pub_rule.specs.Rule.{LetsSplit, LetsMerge, slots_of}
 use Rattle.pub_rule.specs.Deaf.{opening_work}
 use Rattle.pub_rule.specs.Served.{StartsEmpty, HasNoMoreReplies}
-use Rattle.pub_rule.specs.Work.{GoesOn, IsMarked, unmade, IsClient, Tells, Trusts, Serves}
+use Rattle.pub_rule.specs.Work.{GoesOn, IsMarked, unmade, IsClient, Tells, Makes, Trusts, Serves}
 use Rattle.pub_rule.specs.WorkSplits.{owner_of, seats_of, longer, is_marked, more_seats, new_client, telling, taught, spent_work, maker_after, client_made, token_made, view_taught, view_spent, Opens, KeptByClientSplit, KeptByTokenSplit, KeptByTokenMerge}
+use Rattle.pub_rule.specs.Lists.{IsOn}
 use Rattle.pub_rule.proofs.Clientwork.{all_of}
+use Rattle.pub_rule.proofs.Closings.{told_by}
 use Rattle.pub_rule.proofs.Kept.{starts}
 use Rattle.pub_rule.proofs.Tables.{split_client, split_token, merge_token}
 use Rattle.pub_rule.proofs.Moves.{put, put_case, put_at, view_step}
@@ -70,20 +72,16 @@ marked_either r k (x ∷ a) b h = ⊎_elim (λ e. inl (inl e)) (λ t. ⊎_elim (
 
 -- stages
 abbrev is_maker : {C : Type 0} → Stage C → Type 0
-is_maker (Maker k m) = Unit {0}
+is_maker (Maker k) = Unit {0}
 is_maker _ = ⊥
 
 abbrev is_token : {C : Type 0} → Stage C → Type 0
 is_token (Token r) = Unit {0}
 is_token _ = ⊥
 
-abbrev done_of : {C : Type 0} → Stage C → ℕ
-done_of (Maker k m) = m
-done_of _ = 0
-
 owner_is : {C : Type 0} (q : ℕ) (st : Stage C) → IsClient q st → owner_of st ≡ q
 owner_is q Spent h = absurd h
-owner_is q (Maker k m) h = absurd h
+owner_is q (Maker k) h = absurd h
 owner_is q (Away c) h = h
 owner_is q (Free c) h = h
 owner_is q (Asking c k) h = h
@@ -119,7 +117,7 @@ module _ {E C R S : Type 0} (history : S → List E) (legal : List E → Type 0)
     -- what a client tells is true
     tells_true : (id r : ℕ) (v : Work E C R) → get_elem? works id ≡ some v → IsClient r v.stage → (j : ℕ) → Trusts s.made s.done s.seat s.truth lock_now s.desk j (telling v)
     tells_true id r v at is j = let k = s.each_seat id v at in let c = k.client r is in record {
-      maker = λ a b e. absurd (subst is_maker (sym e) tt);
+      maker = λ a e. absurd (subst is_maker (sym e) tt);
       client = λ q h. absurd h;
       token = λ q e. let same : q ≡ r = sym (ap owner_of e) ∙ owner_is r v.stage is in subst (λ (z : ℕ). (z < s.made) × (v.posts ≤ (s.truth z).posts)) (sym same) (c.made_it, (let p = c.posts in omega arith));
       combines = λ e. absurd (false≢true e);
@@ -132,7 +130,7 @@ module _ {E C R S : Type 0} (history : S → List E) (legal : List E → Type 0)
     -- a spent seat knows nothing
     spent_true : (j : ℕ) → Trusts s.made s.done s.seat s.truth lock_now s.desk j spent_work
     spent_true j = record {
-      maker = λ a b e. absurd (subst is_maker (sym e) tt);
+      maker = λ a e. absurd (subst is_maker (sym e) tt);
       client = λ q h. absurd h;
       token = λ q e. absurd (subst is_token (sym e) tt);
       combines = λ e. absurd (false≢true e);
@@ -184,9 +182,13 @@ module _ {E C R S : Type 0} (history : S → List E) (legal : List E → Type 0)
       view_step history legal own replies n words homes (set works id both) once other spent_work (spent_true words homes (set works id both) once other)
 
   -- the seat of the next client
-  module _ (words : List ℕ) (homes : List (Option (Slot C R S))) (works : List (Work E C R)) (s : Half words homes works) (id k : ℕ) (v : Work E C R) (at : get_elem? works id ≡ some v) (is : v.stage ≡ Maker k 0) (room : k < n) where
-    abbrev place : (id ≡ 0) × (k ≡ s.made) × (0 ≡ s.done)
-    place = (s.each_seat id v at).maker k 0 is
+  module _ (words : List ℕ) (homes : List (Option (Slot C R S))) (works : List (Work E C R)) (s : Half words homes works) (id k : ℕ) (v : Work E C R) (at : get_elem? works id ≡ some v) (is : v.stage ≡ Maker k) (room : k < n) where
+    abbrev place : Makes s.made s.done s.seat s.truth s.desk id k v.closed
+    place = (s.each_seat id v at).maker k is
+
+    -- the new client's seat was not merged
+    unmerged : ¬ IsOn k s.done
+    unmerged on = let b = place in let c = told_by k v.closed (subst (IsOn k) (sym b.clients) on) in let small = (b.told c.0 c.1).made_it in let next = b.count in let e = c.2 in omega arith
 
     abbrev last : ℕ
     last = length (set works id (more_seats v))
@@ -195,15 +197,15 @@ module _ {E C R S : Type 0} (history : S → List E) (legal : List E → Type 0)
     seat' = put s.seat k last
 
     seat_still : (r : ℕ) → r < s.made → put s.seat k last r ≡ s.seat r
-    seat_still r small = let next = place.1 in put_case (λ a. a ≡ s.seat r) s.seat k last r (λ e. absurd (omega arith)) (λ _. refl)
+    seat_still r small = let next = place.count in put_case (λ a. a ≡ s.seat r) s.seat k last r (λ e. absurd (omega arith)) (λ _. refl)
 
     -- the lock word isn't the new client's
     unlocked : lock_now words homes works s ≢ k + 1
-    unlocked e = let next = place.1 in ⊎_elim (λ u. let zero = u.zero in omega arith) (λ h. let number = h.number in let small = h.client in omega arith) s.lock
+    unlocked e = let next = place.count in ⊎_elim (λ u. let zero = u.zero in omega arith) (λ h. let number = h.number in let small = h.client in omega arith) s.lock
 
     trusts_more : (j : ℕ) (u : Work E C R) → (is_maker u.stage → ⊥) → Trusts s.made s.done s.seat s.truth (lock_now words homes works s) s.desk j u → Trusts (s.made + 1) s.done (put s.seat k last) s.truth (lock_now words homes works s) s.desk j u
     trusts_more j u other t = record {
-      maker = λ a b e. absurd (other (subst is_maker (sym e) tt));
+      maker = λ a e. absurd (other (subst is_maker (sym e) tt));
       client = λ r h. let c = t.client r h in let small = c.made_it in record {
         made_it = omega arith;
         live = c.live;
@@ -226,8 +228,25 @@ module _ {E C R S : Type 0} (history : S → List E) (legal : List E → Type 0)
     }
 
     maker_true : Trusts (s.made + 1) s.done (put s.seat k last) s.truth (lock_now words homes works s) s.desk id (more_seats v)
-    maker_true = let t = s.each_seat id v at in let next = place.1 in let counted : seats_of v.stage ≡ k = ap seats_of is in record {
-      maker = λ a b e. let c : seats_of v.stage + 1 ≡ a = ap seats_of e in let d : 0 ≡ b = ap done_of e in (place.0, omega arith, sym d ∙ place.2);
+    maker_true = let t = s.each_seat id v at in let next = place.count in let counted : seats_of v.stage ≡ k = ap seats_of is in record {
+      maker = λ a e. let c : seats_of v.stage + 1 ≡ a = ap seats_of e in let b = place in record {
+        first = b.first;
+        count = omega arith;
+        clients = b.clients;
+        distinct = b.distinct;
+        told = λ c on. let g = b.told c on in let small = g.made_it in record {
+          made_it = omega arith;
+          seat_is = seat_still c.client small ∙ g.seat_is;
+          client = g.client;
+          home = g.home;
+          stage = g.stage;
+          entered = g.entered;
+          got = g.got;
+          begun = g.begun;
+          saw = g.saw;
+          met = λ r h. let l = g.met r h in let y = l.0 in (omega arith, l.1);
+        };
+      };
       client = λ r h. absurd h;
       token = λ r e. absurd (subst is_token (sym e) tt);
       combines = λ h. let b = t.combines h in absurd (subst (IsClient b.client.0) is b.client.1);
@@ -238,12 +257,12 @@ module _ {E C R S : Type 0} (history : S → List E) (legal : List E → Type 0)
     }
 
     client_true : Trusts (s.made + 1) s.done (put s.seat k last) s.truth (lock_now words homes works s) s.desk last (new_client v)
-    client_true = let next = place.1 in let none = place.2 in let counted : seats_of v.stage ≡ k = ap seats_of is in let blank : s.truth k ≡ unmade = s.unmade_are k (omega arith) in record {
-      maker = λ a b e. absurd (subst is_maker (sym e) tt);
+    client_true = let next = place.count in let counted : seats_of v.stage ≡ k = ap seats_of is in let blank : s.truth k ≡ unmade = s.unmade_are k (omega arith) in record {
+      maker = λ a e. absurd (subst is_maker (sym e) tt);
       client = λ r h. let here : r ≡ k = sym h ∙ counted in subst (λ (z : ℕ). Tells (s.made + 1) s.done (put s.seat k last) (lock_now words homes works s) last z (new_client v) (s.truth z)) (sym here)
           (subst (Tells (s.made + 1) s.done (put s.seat k last) (lock_now words homes works s) last k (new_client v)) (sym blank) record {
             made_it = omega arith;
-            live = omega arith;
+            live = unmerged;
             seat_is = put_at s.seat k last k refl;
             stage = refl;
             entered = refl;
@@ -263,7 +282,7 @@ module _ {E C R S : Type 0} (history : S → List E) (legal : List E → Type 0)
     }
 
     makes_client : Half words homes (set works id (more_seats v) ++ new_client v ∷ [])
-    makes_client = let next = place.1 in record {
+    makes_client = let next = place.count in record {
       truth = s.truth;
       desk = s.desk;
       made = s.made + 1;
@@ -292,18 +311,18 @@ module _ {E C R S : Type 0} (history : S → List E) (legal : List E → Type 0)
             (λ (b : (j ≢ id) × (get_elem? works j ≡ some u)). trusts_more j u (λ m. not_maker j u b.0 b.1 m) (s.each_seat j u b.1)) (at_set works id j (more_seats v) u a))
             (λ (b : (j ≡ last) × (new_client v ≡ u)). subst (λ (x : ℕ × Work E C R). Trusts (s.made + 1) s.done (put s.seat k last) s.truth (lock_now words homes works s) s.desk x.0 x.1) (λ i. (sym b.0 i, b.1 i)) client_true) h
           where
-            maker_is : (st : Stage C) → is_maker st → st ≡ Maker (seats_of st) (done_of st)
+            maker_is : (st : Stage C) → is_maker st → st ≡ Maker (seats_of st)
             maker_is Spent h = absurd h
-            maker_is (Maker a b) h = refl
+            maker_is (Maker a) h = refl
             maker_is (Away c) h = absurd h
             maker_is (Free c) h = absurd h
             maker_is (Asking c x) h = absurd h
             maker_is (Token c) h = absurd h
 
             not_maker : (j : ℕ) (u : Work E C R) → j ≢ id → get_elem? works j ≡ some u → is_maker u.stage → ⊥
-            not_maker j u other at' m = other (((s.each_seat j u at').maker (seats_of u.stage) (done_of u.stage) (maker_is u.stage m)).0 ∙ sym place.0)
+            not_maker j u other at' m = other (((s.each_seat j u at').maker (seats_of u.stage) (maker_is u.stage m)).first ∙ sym place.first)
 
-  pub lets_make : (id k : ℕ) (v : Work E C R) → v.stage ≡ Maker k 0 → k < n → LetsSplit n Half id v (more_seats v) (new_client v)
+  pub lets_make : (id k : ℕ) (v : Work E C R) → v.stage ≡ Maker k → k < n → LetsSplit n Half id v (more_seats v) (new_client v)
   lets_make id k v is room words homes works s at = makes_client words homes works s id k v at is room
 
   -- the start
@@ -312,7 +331,7 @@ module _ {E C R S : Type 0} (history : S → List E) (legal : List E → Type 0)
     truth = λ _. unmade;
     desk = record { hist = []; before = []; paid = []; serving = Nothing };
     made = 0;
-    done = 0;
+    done = [];
     seat = λ _. 0;
     few = omega arith;
     wide = length-replicate (word_count n) 0;
@@ -324,7 +343,7 @@ module _ {E C R S : Type 0} (history : S → List E) (legal : List E → Type 0)
     each_client = λ r small. record {
       word = all_zero (word_count n) (state_word r);
       home = at_map (λ x. some x) (slots_of n state) r slots.Empty (at_longer (replicate n slots.Empty) (slots.State state ∷ []) r slots.Empty (at_replicate n r slots.Empty small));
-      phase = record { calls = none r; even = refl; replies_are = unreplied r; was_parked = tt; taken_is = λ h. h };
+      phase = record { calls = none r; even = refl; replies_are = unreplied r; settled = inl refl; was_parked = tt; taken_is = λ h. h };
     };
     each_seat = first_true;
   }
@@ -345,10 +364,10 @@ module _ {E C R S : Type 0} (history : S → List E) (legal : List E → Type 0)
       state_at : get_elem? (map some (slots_of {C = C} {R = R} n state)) n ≡ some (some (slots.State state))
       state_at = at_map (λ x. some x) (slots_of n state) n (slots.State state) (at_last (replicate n slots.Empty) (slots.State state) n (length-replicate n slots.Empty))
 
-      first_true : (j : ℕ) (v : Work E C R) → get_elem? (opening_work ∷ []) j ≡ some v → Trusts 0 0 (λ _. 0) (λ _. unmade) (get_or (replicate (word_count n) 0) lock_word 0) record { hist = []; before = []; paid = []; serving = Nothing } j v
+      first_true : (j : ℕ) (v : Work E C R) → get_elem? (opening_work ∷ []) j ≡ some v → Trusts 0 [] (λ _. 0) (λ _. unmade) (get_or (replicate (word_count n) 0) lock_word 0) record { hist = []; before = []; paid = []; serving = Nothing } j v
       first_true (suc j) v e = absurd (some-ne-none v (sym e))
-      first_true zero v e = subst (Trusts 0 0 (λ _. 0) (λ _. unmade) (get_or (replicate (word_count n) 0) lock_word 0) record { hist = []; before = []; paid = []; serving = Nothing } 0) (some-injective opening_work v e) record {
-        maker = λ a b e. let c : 0 ≡ a = ap seats_of e in let d : 0 ≡ b = ap done_of e in (refl, sym c, sym d);
+      first_true zero v e = subst (Trusts 0 [] (λ _. 0) (λ _. unmade) (get_or (replicate (word_count n) 0) lock_word 0) record { hist = []; before = []; paid = []; serving = Nothing } 0) (some-injective opening_work v e) record {
+        maker = λ a e. record { first = refl; count = sym (ap seats_of e); clients = refl; distinct = tt; told = λ c h. absurd h };
         client = λ r h. absurd h;
         token = λ r e. absurd (subst is_token (sym e) tt);
         combines = λ e. absurd (false≢true e);

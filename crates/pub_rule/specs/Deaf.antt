@@ -11,7 +11,7 @@ use Rattle.pub_rule.specs.Work.{IsUnheld, IsHeld, Trusts, Serves}
 -- the first seat, which has made none
 abbrev pub opening_work : {E C R : Type 0} → Work E C R
 opening_work = record {
-  stage = Maker 0 0;
+  stage = Maker 0;
   holds = false;
   seen = [];
   before = [];
@@ -25,6 +25,7 @@ opening_work = record {
   heard = [];
   passed = [];
   past = false;
+  closed = [];
 }
 
 -- neither the lock word nor a state word is one of the list's

@@ -23,7 +23,7 @@ owner_of _ = 0
 
 -- how many clients have a seat
 abbrev pub seats_of : {C : Type 0} → Stage C → ℕ
-seats_of (Maker k m) = k
+seats_of (Maker k) = k
 seats_of _ = 0
 
 -- the longer of two histories, of which one goes on from the other
@@ -44,7 +44,7 @@ module _ {E C R : Type 0} where
 
   -- split: the first seat makes the next client's
   abbrev pub more_seats : Work E C R → Work E C R
-  more_seats v = record v { stage = Maker (seats_of v.stage + 1) 0 }
+  more_seats v = record v { stage = Maker (seats_of v.stage + 1) }
 
   abbrev pub new_client : Work E C R → Work E C R
   new_client v = blank_work (Away (seats_of v.stage))
@@ -88,7 +88,7 @@ module _ {E C R S : Type 0} (history : S → List E) (legal : List E → Type 0)
 
   -- the first seat, which has made those of the clients below k, makes that of client k
   abbrev pub KeptByClientSplit : Type 0
-  KeptByClientSplit = (id k : ℕ) (v : View (Work E C R)) → v.walk.role ≡ roles.Maker k → v.work.stage ≡ Maker k 0 → k < n → Splits (Ruled n (Serves history legal own replies n)) id v (maker_after v) (client_made v)
+  KeptByClientSplit = (id k : ℕ) (v : View (Work E C R)) → v.walk.role ≡ roles.Maker k → v.work.stage ≡ Maker k → k < n → Splits (Ruled n (Serves history legal own replies n)) id v (maker_after v) (client_made v)
 
   -- a client that joined makes a token, and knows what it knew
   abbrev pub KeptByTokenSplit : Type 0

@@ -1,9 +1,10 @@
 -- What each kind of step on the publication records tells the seat that takes it. A seat before the step is m, with its view m.0; the step found the number k and left the seat m'.
-use Rattle.std.specs.Prelude.{◌≡◌, ◌≢◌, ◌⊎◌, ℕ, true, false, ◌+◌, ◌-◌, ◌<◌, List, [], ◌∷◌, ◌++◌}
+use Rattle.std.specs.Prelude.{◌≡◌, ◌≢◌, ◌⊎◌, ℕ, Bool, true, false, ◌+◌, ◌-◌, ◌<◌, List, [], ◌∷◌, ◌++◌, ◌==◌, if◌then◌else◌}
 use mathlib.Core.Option.{some}
 use Rattle.atomic_table.specs.Table.{Step, Me, rest}
 use Rattle.pub_rule.specs.declared.walk.View.{View}
 use Rattle.pub_rule.specs.declared.work.Work.{Work}
+use Rattle.pub_rule.specs.declared.work.Stage.{Stage}
 use Rattle.pub_rule.specs.declared.work.Stage.TheVariants.{Away, Free, Asking}
 use Rattle.pub_rule.specs.declared.work.Serving.TheVariants.{Nothing, Posted, Parked}
 use Rattle.pub_rule.specs.declared.served.Slot.{Slot}
@@ -14,6 +15,16 @@ use Rattle.pub_rule.specs.Work.{GoesOn, IsClient}
 -- the other half of a view is replaced
 abbrev pub with_work : {W : Type 0} → W → View W → View W
 with_work w v = record v { work = w }
+
+-- the posts of client r among those marked
+abbrev pub marks_of : ℕ → List (ℕ × ℕ) → List (ℕ × ℕ)
+marks_of r [] = []
+marks_of r (x ∷ xs) = if x.0 == r then x ∷ marks_of r xs else marks_of r xs
+
+-- the seat is that of client r, whose call is in flight
+abbrev pub is_own : {C : Type 0} → ℕ → Stage C → Bool
+is_own r (Asking q k) = r == q
+is_own r _ = false
 
 module _ {E C R : Type 0} where
   -- the client has its slot in its hands
@@ -47,19 +58,23 @@ module _ {E C R : Type 0} where
   abbrev pub resuming : ℕ → C → Work E C R → Work E C R
   resuming r c w = record w { serving = Parked r c }
 
+  -- it dealt with the last post of client r, be it one that it heard of, or its own
+  abbrev pub dealt : ℕ → Work E C R → Work E C R
+  dealt r w = record w { passed = marks_of r w.heard ++ w.passed; past = if is_own r w.stage then true else w.past }
+
   -- it answered with the event of this history, or left the call parked
   abbrev pub entering : ℕ → List E → Work E C R → Work E C R
-  entering r h w = record w { seen = h; before = w.seen; paid = r ∷ []; serving = Nothing }
+  entering r h w = dealt r (record w { seen = h; before = w.seen; paid = r ∷ []; serving = Nothing })
 
-  abbrev pub leaving : List E → Work E C R → Work E C R
-  leaving h w = record w { seen = h; before = w.seen; paid = []; serving = Nothing }
+  abbrev pub leaving : ℕ → List E → Work E C R → Work E C R
+  leaving r h w = dealt r (record w { seen = h; before = w.seen; paid = []; serving = Nothing })
 
-  -- it handed out a parked call's reply, or refused a call for memory
+  -- it refused a call for memory, or handed out a parked call's reply
+  abbrev pub refusing : ℕ → Work E C R → Work E C R
+  refusing r w = dealt r (record w { serving = Nothing })
+
   abbrev pub paying : ℕ → Work E C R → Work E C R
   paying r w = record w { paid = r ∷ w.paid; serving = Nothing }
-
-  abbrev pub refusing : Work E C R → Work E C R
-  refusing w = record w { serving = Nothing }
 
   -- it combines no more
   abbrev pub released : Work E C R → Work E C R
@@ -82,9 +97,10 @@ module _ {E C R S : Type 0} (st : Step (Slot C R S)) (m : Me (Slot C R S) (View 
         ⊎ ((x : R) × (m' ≡ (with_work (answered q c x h m.0.work) m.0, (q, slots.Reply x) ∷ m.1)) × (own h q ≡ m.0.work.entered ++ c ∷ []) × (replies h q ≡ m.0.work.got ++ x ∷ []))))
         × (k ≢ 4 → m' ≡ m)
 
-  -- take from posted, by the holder: the record's word was 1, so its call comes into the holder's hands, or it was another one
+  -- take from posted, by the holder: the record's word was 1, so its call comes into the holder's hands; or it was another one, so a combiner dealt with its last post
   abbrev pub call_taken : Type 0
-  call_taken = (k ≡ 1 → (r : ℕ) × (c : C) × (st.word ≡ state_word r) × (m' ≡ (with_work (taking r c m.0.work) m.0, (r, slots.Call c) ∷ m.1))) × (k ≢ 1 → m' ≡ m)
+  call_taken = (k ≡ 1 → (r : ℕ) × (c : C) × (st.word ≡ state_word r) × (m' ≡ (with_work (taking r c m.0.work) m.0, (r, slots.Call c) ∷ m.1)))
+      × (k ≢ 1 → (r : ℕ) × (st.word ≡ state_word r) × (m' ≡ (with_work (dealt r m.0.work) m.0, m.1)))
 
   -- seize: nobody combined, so the state comes into the client's hands with the history; or another client combines
   abbrev pub state_seized : (S → List E) → (List E → Type 0) → Type 0
@@ -98,3 +114,19 @@ module _ {E C R S : Type 0} (st : Step (Slot C R S)) (m : Me (Slot C R S) (View 
   -- answer, by the holder: the reply goes home, and the history has one event more
   abbrev pub call_answered : (S → List E) → Type 0
   call_answered history = (r : ℕ) × (x : S) × (st.word ≡ state_word r) × (st.said ≡ some (slots.State x)) × (m' ≡ (with_work (entering r (history x) m.0.work) m.0, rest m.1))
+
+  -- mark parked, by the holder: the slot goes home empty, and the history has one event more
+  abbrev pub call_parked : (S → List E) → Type 0
+  call_parked history = (r : ℕ) × (x : S) × (st.word ≡ state_word r) × (st.said ≡ some (slots.State x)) × (m' ≡ (with_work (leaving r (history x) m.0.work) m.0, rest m.1))
+
+  -- answer Memory, by the holder: Memory goes home, and the history stays
+  abbrev pub call_refused : Type 0
+  call_refused = (r : ℕ) × (st.word ≡ state_word r) × (m' ≡ (with_work (refusing r m.0.work) m.0, rest m.1))
+
+  -- take from parked, by the holder: the record's word was 3, and its empty slot comes into the holder's hands
+  abbrev pub call_resumed : Type 0
+  call_resumed = (k ≡ 3) × (r : ℕ) × (c : C) × (st.word ≡ state_word r) × (m' ≡ (with_work (resuming r c m.0.work) m.0, (r, slots.Empty) ∷ m.1))
+
+  -- answer from parked, by the holder: the reply goes home, and the history stays, which has it
+  abbrev pub reply_handed : Type 0
+  reply_handed = (r : ℕ) × (st.word ≡ state_word r) × (m' ≡ (with_work (paying r m.0.work) m.0, rest m.1))

@@ -21,7 +21,7 @@ pub use served::{Served, Slot};
 pub use steps::{ExchangeHead, LoadHead, LoadNext, MergeToken, SplitClient, SplitToken, StoreNext};
 pub use walk::{Role, View, Walk};
 pub use words::{head_word, lock_word, next_word, state_word, word_count};
-pub use work::{Serving, Stage, Work};
+pub use work::{Closed, Serving, Stage, Work};
 pub use work_steps::{
     AnswerPosted, CollectReply, FetchSlot, PostCall, ReleaseState, SeizeState, TakePosted,
 };

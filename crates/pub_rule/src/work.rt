@@ -6,9 +6,8 @@ use std::collections::LinkedList;
 pub enum Stage<C> {
     /// A seat that was merged into another one.
     Spent,
-    /// The first seat, which has made the seats of the clients below the first number, and taken in again
-    /// those below the second.
-    Maker(u64, u64),
+    /// The first seat, which has made the seats of the clients below this number.
+    Maker(u64),
     /// The seat of this client, which asks nothing, and whose slot lies empty at home.
     Away(u64),
     /// The seat of this client, which asks nothing, and has its slot in its hands.
@@ -28,6 +27,25 @@ pub enum Serving<C> {
     Posted(u64, C),
     /// One that was parked.
     Parked(u64, C),
+}
+
+/// What a client told when its seat was merged into the first one, as the list was closed. It is the
+/// project's own. No value of it is made.
+pub struct Closed<E, C, R> {
+    /// The client.
+    pub client: u64,
+    /// How far it was, with its slot at home.
+    pub stage: Stage<C>,
+    /// The history as it saw it last.
+    pub seen: LinkedList<E>,
+    /// Its calls that were answered, but for those refused for memory.
+    pub entered: LinkedList<C>,
+    /// The replies to them.
+    pub got: LinkedList<R>,
+    /// How often it began to combine.
+    pub begun: u64,
+    /// The clients that it found to combine.
+    pub met: LinkedList<u64>,
 }
 
 /// What a seat knows of what is served. It is the project's own. No value of it is made: it stands in proofs
@@ -61,4 +79,6 @@ pub struct Work<E, C, R> {
     pub passed: LinkedList<(u64, u64)>,
     /// Whether a combiner is known to have dealt with the client's last post.
     pub past: bool,
+    /// What the clients told whose seats were merged into the first one.
+    pub closed: LinkedList<Closed<E, C, R>>,
 }

@@ -11,6 +11,10 @@ ghost use Rattle.pub_rule.specs.WorkLaws.{
   KeptByTake,
   KeptByAnswer,
   KeptByRelease,
+  KeptByPark,
+  KeptByRefuse,
+  KeptByResume,
+  KeptByHand,
 };
 
 use crate::served::Served;
@@ -49,4 +53,27 @@ pub fn release<S: Served>()
 /// reply of the call's event, which is the last in the history.
 pub fn answer<S: Served>()
     ensures { (n : ℕ) → KeptByAnswer S.history S.legal S.own S.replies n S.client S.call }
+{}
+
+/// Mark parked: the holder, which has taken a posted record and owes nothing, makes its state word 3, with the
+/// call's event, which brings its client no reply.
+pub fn mark_parked<S: Served>()
+    ensures { (n : ℕ) → KeptByPark S.history S.legal S.own S.replies n S.client S.call }
+{}
+
+/// Answer Memory: the holder, which has taken a posted record, makes its state word 4, and the history stays.
+pub fn answer_memory<S: Served>()
+    ensures { (n : ℕ) → KeptByRefuse S.history S.legal S.own S.replies n }
+{}
+
+/// Take from parked: the holder, which has taken no record, makes the state word of a client 2 that is owed a
+/// reply. The word was 3.
+pub fn take_parked<S: Served>()
+    ensures { (n : ℕ) → KeptByResume S.history S.legal S.own S.replies n }
+{}
+
+/// Answer from parked: the holder, which has taken a parked record, makes its state word 4, with the last of
+/// its client's replies in the history, which stays.
+pub fn answer_parked<S: Served>()
+    ensures { (n : ℕ) → KeptByHand S.history S.legal S.own S.replies n }
 {}
