@@ -8,5 +8,6 @@ pub mod Walk
 pub mod Words
 pub mod Work
 pub mod WorkLaws
+pub mod WorkPlays
 pub mod WorkSplits
 pub mod WorkSteps
