@@ -150,6 +150,9 @@ module _ {E C R S : Type 0} (history : S → List E) (legal : List E → Type 0)
   owed_parked d q (refused c) clear owed off h t = absurd (⊎_elim owed off h)
   owed_parked d q (replied c x) clear owed off h t = absurd (⊎_elim owed off h)
 
+  reply_owed : (d : Desk E C) (q : ℕ) (got : List R) (c : C) → ¬ (replies d.hist q ≡ replies d.before q) → HasReplies own replies d q got (parked c) → (x : R) × (replies d.hist q ≡ got ++ x ∷ [])
+  reply_owed d q got c owed h = ⊎_elim (λ same. absurd (owed (same ∙ sym h.0))) (λ g. (g.0, g.1)) h.1
+
   pub resume : KeptByResume history legal own replies n
   resume size id p q me was holds nothing inside owed off = let v : Work E C R = me.0.work in let told : ℕ → Me (Slot C R S) (View (Work E C R)) → Type 0 = call_resumed (step size (state_word q) 3 2 none) me in
       let half : ℕ → Me (Slot C R S) (Work E C R) → Type 0 = λ k m'. told k (with_work m'.0 me.0, m'.1) in
@@ -173,7 +176,7 @@ module _ {E C R S : Type 0} (history : S → List E) (legal : List E → Type 0)
             refl refl record {
               calls = old.calls;
               even = old.even;
-              replies_are = ⊎_elim (λ same. absurd (owed' (same ∙ sym old.replies_are.0))) (λ g. (g.0, g.1)) old.replies_are.1;
+              replies_are = reply_owed d q o.got c owed' old.replies_are;
               settled = tt;
               was_parked = old.was_parked;
               taken_is = refl;
@@ -227,7 +230,7 @@ module _ {E C R S : Type 0} (history : S → List E) (legal : List E → Type 0)
             (holder_step history legal own replies n s.words s.homes s.views r id p q 4 (some (slots.Reply y)) v (record o { phase = replied c y }) (record d { paid = q ∷ d.paid; serving = Nothing }) v.passed v.past at was holds
             (seated s.words s.homes s.views r q (λ z. let a = ap word_of f in omega arith))
             (subst (λ (z : Phase C R). Stays (record o { phase = z }) (record o { phase = replied c y })) (sym f) record { stage = in_replied R c y; entered = refl; got = refl; posts = refl; begun = refl; dealt = λ _. tt })
-            refl refl record { calls = old.calls; even = old.even; replies_are = old.replies_are.1 ∙ ap (λ (z : R). o.got ++ z ∷ []) same; settled = inr (inl refl); was_parked = tt; taken_is = λ z. z }
+            refl refl record { calls = old.calls; even = old.even; replies_are = subst (λ (z : R). replies d.hist q ≡ o.got ++ z ∷ []) same old.replies_are.1; settled = inr (inl refl); was_parked = tt; taken_is = λ z. z }
             (λ i _ other h. record {
               calls = h.calls;
               even = h.even;

@@ -15,6 +15,9 @@ ghost use Rattle.pub_rule.specs.WorkLaws.{
   KeptByRefuse,
   KeptByResume,
   KeptByHand,
+  KeptByGive,
+  KeptByLook,
+  KeptByWatch,
 };
 
 use crate::served::Served;
@@ -76,4 +79,19 @@ pub fn take_parked<S: Served>()
 /// its client's replies in the history, which stays.
 pub fn answer_parked<S: Served>()
     ensures { (n : ℕ) → KeptByHand S.history S.legal S.own S.replies n }
+{}
+
+/// Read state, for the last time: a client that has its empty slot in its hands gives it back.
+pub fn give<S: Served>()
+    ensures { (n : ℕ) → KeptByGive S.history S.legal S.own S.replies n }
+{}
+
+/// Read state: any seat reads the state word of any client. It tells the word, and no more.
+pub fn look<S: Served>()
+    ensures { (n : ℕ) → KeptByLook S.history S.legal S.own S.replies n }
+{}
+
+/// Read state: a client that posted reads its own state word, and sees the history.
+pub fn watch<S: Served>()
+    ensures { (n : ℕ) → KeptByWatch S.history S.legal S.own S.replies n }
 {}
