@@ -19,6 +19,7 @@ ghost use Rattle.pub_rule.specs.WorkLaws.{
   KeptByLook,
   KeptByWatch,
 };
+ghost use Rattle.pub_rule.specs.WorkClosing.{KeptByClose, KnownAtEnd};
 
 use crate::served::Served;
 
@@ -94,4 +95,16 @@ pub fn look<S: Served>()
 /// Read state: a client that posted reads its own state word, and sees the history.
 pub fn watch<S: Served>()
     ensures { (n : ℕ) → KeptByWatch S.history S.legal S.own S.replies n }
+{}
+
+/// Merge, as the list is closed: the seat of a client that doesn't combine, and has its slot at home, is spent,
+/// and the first seat keeps what it told. The clients come in any order.
+pub fn close<S: Served>()
+    ensures { (n : ℕ) → KeptByClose S.history S.legal S.own S.replies n }
+{}
+
+/// The end: where n clients told, nobody combines, the state and each client's slot lie at home, and the
+/// history is as each client told, but for a call that was in flight.
+pub fn end<S: Served>()
+    ensures { (n : ℕ) → KnownAtEnd S.history S.legal S.own S.replies n }
 {}
