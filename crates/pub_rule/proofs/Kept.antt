@@ -141,9 +141,9 @@ module _ (n : ℕ) (words : List ℕ) (views : List Walk) (r : Walks n words vie
     told = told;
   }
 
-  -- a token is spent
-  pub spends : (id : ℕ) (v : Walk) → get_elem? views id ≡ some v → v.role ≡ Token → Walks n words (set views id (blank Spent))
-  spends id v at is = becomes id v (blank Spent) at (λ q h. absurd (subst (IsOnByRole q r.list) is h)) record { role = tt; loaded = (r.list, nil_behind r.list); tried = omega arith; told = λ c h. absurd h }
+  -- a seat is spent
+  pub spends : (id : ℕ) (v : Walk) → get_elem? views id ≡ some v → Walks n words (set views id (blank Spent))
+  spends id v at = becomes id v (blank Spent) at (λ _ _. tt) record { role = tt; loaded = (r.list, nil_behind r.list); tried = omega arith; told = λ c h. absurd h }
 
   -- an unjoined client stores to its next word
   pub stores : (id c x : ℕ) (v : Walk) → get_elem? views id ≡ some v → v.role ≡ Fresh c → Walks n (set words (next_word c) x) (set views id (with_stored x v))

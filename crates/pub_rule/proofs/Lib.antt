@@ -3,6 +3,7 @@ pub mod Clients
 pub mod Clientwork
 pub mod Closings
 pub mod Combiner
+pub mod Endings
 pub mod Exchanging
 pub mod Kept
 pub mod Lift
@@ -12,5 +13,7 @@ pub mod Numbers
 pub mod Parking
 pub mod Passing
 pub mod Resuming
+pub mod Spending
 pub mod Splitting
 pub mod Tables
+pub mod Told

@@ -95,8 +95,9 @@ last_is : {A : Type 0} (d x : A) (l : List A) → last_of d (l ++ x ∷ []) ≡ 
 last_is d x [] = refl
 last_is d x (y ∷ l) = last_is y x l
 
-last_same : {A : Type 0} (x y : A) (some_before before all : List A) → all ≡ some_before ++ x ∷ [] → all ≡ before ++ y ∷ [] → x ≡ y
-last_same x y some_before before all e f = sym (last_is y x some_before) ∙ (ap (last_of y) (sym e ∙ f) ∙ last_is y y before)
+-- the last of a list is one
+ends_with : {A : Type 0} (x y : A) (some_before before all : List A) → all ≡ some_before ++ x ∷ [] → all ≡ before ++ y ∷ [] → all ≡ some_before ++ y ∷ []
+ends_with x y some_before before all e f = let same : x ≡ y = sym (last_is y x some_before) ∙ (ap (last_of y) (sym e ∙ f) ∙ last_is y y before) in e ∙ (λ i. some_before ++ same i ∷ [])
 
 module _ {E C R S : Type 0} (history : S → List E) (legal : List E → Type 0) (own : List E → ℕ → List C) (replies : List E → ℕ → List R) (n : ℕ) where
   abbrev Half : State (Slot C R S) (Work E C R) → Type 0
@@ -150,6 +151,9 @@ module _ {E C R S : Type 0} (history : S → List E) (legal : List E → Type 0)
   owed_parked d q (refused c) clear owed off h t = absurd (⊎_elim owed off h)
   owed_parked d q (replied c x) clear owed off h t = absurd (⊎_elim owed off h)
 
+  reply_owed : (d : Desk E C) (q : ℕ) (got : List R) (c : C) → ¬ (replies d.hist q ≡ replies d.before q) → HasReplies own replies d q got (parked c) → (x : R) × (replies d.hist q ≡ got ++ x ∷ [])
+  reply_owed d q got c owed h = ⊎_elim (λ same. absurd (owed (same ∙ sym h.0))) (λ g. (g.0, g.1)) h.1
+
   pub resume : KeptByResume history legal own replies n
   resume size id p q me was holds nothing inside owed off = let v : Work E C R = me.0.work in let told : ℕ → Me (Slot C R S) (View (Work E C R)) → Type 0 = call_resumed (step size (state_word q) 3 2 none) me in
       let half : ℕ → Me (Slot C R S) (Work E C R) → Type 0 = λ k m'. told k (with_work m'.0 me.0, m'.1) in
@@ -173,7 +177,7 @@ module _ {E C R S : Type 0} (history : S → List E) (legal : List E → Type 0)
             refl refl record {
               calls = old.calls;
               even = old.even;
-              replies_are = ⊎_elim (λ same. absurd (owed' (same ∙ sym old.replies_are.0))) (λ g. (g.0, g.1)) old.replies_are.1;
+              replies_are = reply_owed d q o.got c owed' old.replies_are;
               settled = tt;
               was_parked = old.was_parked;
               taken_is = refl;
@@ -218,8 +222,7 @@ module _ {E C R S : Type 0} (history : S → List E) (legal : List E → Type 0)
   hand_half size id p q c front y v hands was holds parks last s r sz at _ = let b = (r.each_seat id v at).combines holds in let o : Client E C R = r.truth q in let d : Desk E C = r.desk in
       let serving : d.serving ≡ Parked q c = sym b.serving ∙ parks in let has : IsTaken q d.serving = subst (IsTaken q) (sym serving) refl in let inside : q < n = r.taken_below q has in let rec = (r.each_client q inside).phase in
       let f : o.phase ≡ resumed c = phase_resumed q c o.phase d.serving serving rec.taken_is in
-      let old : IsInPhase own replies d q (record o { phase = resumed c }) = subst (λ (z : Phase C R). IsInPhase own replies d q (record o { phase = z })) f rec in let x : R = old.replies_are.0 in
-      let same : x ≡ y = last_same x y o.got front (replies d.hist q) old.replies_are.1 (subst (λ (h : List E). replies h q ≡ front ++ y ∷ []) b.seen last) in (
+      let old : IsInPhase own replies d q (record o { phase = resumed c }) = subst (λ (z : Phase C R). IsInPhase own replies d q (record o { phase = z })) f rec in let last' : replies d.hist q ≡ front ++ y ∷ [] = subst (λ (h : List E). replies h q ≡ front ++ y ∷ []) b.seen last in (
         paying q v,
         gives,
         tt,
@@ -227,7 +230,7 @@ module _ {E C R S : Type 0} (history : S → List E) (legal : List E → Type 0)
             (holder_step history legal own replies n s.words s.homes s.views r id p q 4 (some (slots.Reply y)) v (record o { phase = replied c y }) (record d { paid = q ∷ d.paid; serving = Nothing }) v.passed v.past at was holds
             (seated s.words s.homes s.views r q (λ z. let a = ap word_of f in omega arith))
             (subst (λ (z : Phase C R). Stays (record o { phase = z }) (record o { phase = replied c y })) (sym f) record { stage = in_replied R c y; entered = refl; got = refl; posts = refl; begun = refl; dealt = λ _. tt })
-            refl refl record { calls = old.calls; even = old.even; replies_are = old.replies_are.1 ∙ ap (λ (z : R). o.got ++ z ∷ []) same; settled = inr (inl refl); was_parked = tt; taken_is = λ z. z }
+            refl refl record { calls = old.calls; even = old.even; replies_are = ends_with old.replies_are.0 y o.got front (replies d.hist q) old.replies_are.1 last'; settled = inr (inl refl); was_parked = tt; taken_is = λ z. z }
             (λ i _ other h. record {
               calls = h.calls;
               even = h.even;

@@ -18,7 +18,7 @@ use Rattle.pub_rule.specs.Work.{GoesOn, IsMarked, unmade, IsClient, Tells, Makes
 use Rattle.pub_rule.specs.WorkSplits.{owner_of, seats_of, longer, is_marked, more_seats, new_client, telling, taught, spent_work, maker_after, client_made, token_made, view_taught, view_spent, Opens, KeptByClientSplit, KeptByTokenSplit, KeptByTokenMerge}
 use Rattle.pub_rule.specs.Lists.{IsOn}
 use Rattle.pub_rule.proofs.Clientwork.{all_of}
-use Rattle.pub_rule.proofs.Closings.{told_by}
+use Rattle.pub_rule.proofs.Told.{told_by}
 use Rattle.pub_rule.proofs.Kept.{starts}
 use Rattle.pub_rule.proofs.Tables.{split_client, split_token, merge_token}
 use Rattle.pub_rule.proofs.Moves.{put, put_case, put_at, view_step}

@@ -134,7 +134,7 @@ module _ {T W : Type 0} (n : ℕ) (serves : List ℕ → List (Option T) → Lis
       let from_it = (k.each_seat other w.walk (sym (set_else vs id other (learned v.walk w.walk) apart) ∙ token_there)).told in let own = k.each_seat id v.walk mine in
       let told = looks n s.words vs k id v.walk v.walk.list (w.walk.known ++ v.walk.known) v.walk.tries mine own.loaded own.tried (λ c h. ⊎_elim (from_it c) (own.told c) (on_in_front c w.walk.known v.walk.known h)) in record {
         walks = subst (Walks n s.words) (sym (map-set walk_of (set s.views id both) other gone ∙ (ap (λ (l : List Walk). set l other gone.walk) walks_are ∙ ap (set (set vs id (learned v.walk w.walk)) other) g)))
-            (spends n s.words (set vs id (learned v.walk w.walk)) told other w.walk token_there is);
+            (spends n s.words (set vs id (learned v.walk w.walk)) told other w.walk token_there);
         works = subst (serves s.words s.homes) (sym (map-set work_of (set s.views id both) other gone ∙ ap (λ (l : List W). set l other gone.work) works_are))
             (lets s.words s.homes (map work_of s.views) r.works (at_map work_of s.views id v at) apart
             (ap (λ (l : List W). get_elem? l other) (sym works_are) ∙ at_map work_of (set s.views id both) other w there));

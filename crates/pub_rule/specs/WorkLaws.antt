@@ -13,7 +13,7 @@ use Rattle.pub_rule.specs.Words.{lock_word, state_word}
 use Rattle.pub_rule.specs.Lists.{IsOn}
 use Rattle.pub_rule.specs.Rule.{Ruled}
 use Rattle.pub_rule.specs.Work.{Serves, IsClient}
-use Rattle.pub_rule.specs.WorkSteps.{call_posted, reply_collected, call_taken, state_seized, slot_fetched, state_released, call_answered, call_parked, call_refused, call_resumed, reply_handed}
+use Rattle.pub_rule.specs.WorkSteps.{call_posted, reply_collected, call_taken, state_seized, slot_fetched, slot_given, word_seen, own_seen, state_released, call_answered, call_parked, call_refused, call_resumed, reply_handed}
 
 module _ {E C R S : Type 0} (history : S → List E) (legal : List E → Type 0) (own : List E → ℕ → List C) (replies : List E → ℕ → List R) (n : ℕ) where
   -- a client that has its slot in its hands, with its call, makes its state word 1
@@ -40,6 +40,20 @@ module _ {E C R S : Type 0} (history : S → List E) (legal : List E → Type 0)
   abbrev pub KeptByFetch : Type 0
   KeptByFetch = (size id q : ℕ) (me : Me (Slot C R S) (View (Work E C R))) → me.0.work.stage ≡ Away q
       → Allows (Ruled n (Serves history legal own replies n)) size id me (state_word q) (λ k. k) (slot_fetched (step size (state_word q) 0 0 none) me)
+
+  -- a client that has its empty slot in its hands reads its state word, and gives the slot back
+  abbrev pub KeptByGive : Type 0
+  KeptByGive = (size id q : ℕ) (me : Me (Slot C R S) (View (Work E C R))) → me.0.work.stage ≡ Free q → me.1 ≡ (q, slots.Empty) ∷ rest me.1
+      → Allows (Ruled n (Serves history legal own replies n)) size id me (state_word q) (λ k. k) (λ k. slot_given (step size (state_word q) 0 0 none) me k)
+
+  -- any seat reads the state word of a client
+  abbrev pub KeptByLook : Type 0
+  KeptByLook = (size id r : ℕ) (me : Me (Slot C R S) (View (Work E C R))) → r < n → Allows (Ruled n (Serves history legal own replies n)) size id me (state_word r) (λ k. k) (word_seen (step size (state_word r) 0 0 none) me)
+
+  -- a client that posted reads its state word
+  abbrev pub KeptByWatch : Type 0
+  KeptByWatch = (size id q : ℕ) (c : C) (me : Me (Slot C R S) (View (Work E C R))) → me.0.work.stage ≡ Asking q c
+      → Allows (Ruled n (Serves history legal own replies n)) size id me (state_word q) (λ k. k) (λ k m'. own_seen (step size (state_word q) 0 0 none) me k m' legal own replies)
 
   -- the holder, which has taken no record and owes nothing, makes the lock word 0
   abbrev pub KeptByRelease : Type 0

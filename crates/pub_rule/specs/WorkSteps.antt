@@ -43,6 +43,18 @@ module _ {E C R : Type 0} where
   abbrev pub refused : ℕ → List E → Work E C R → Work E C R
   refused q h w = record w { stage = Free q; seen = h; past = false }
 
+  -- it gave its slot back
+  abbrev pub given : ℕ → Work E C R → Work E C R
+  given q w = record w { stage = Away q }
+
+  -- it saw this history
+  abbrev pub seeing : List E → Work E C R → Work E C R
+  seeing h w = record w { seen = h }
+
+  -- client q's call c waits: the history has it, and a beginning of the history has it without its reply
+  abbrev pub IsWaiting : (List E → ℕ → List C) → (List E → ℕ → List R) → ℕ → C → List E → Work E C R → Type 0
+  IsWaiting own replies q c h w = (own h q ≡ w.entered ++ c ∷ []) × (part : List E) × GoesOn part h × (own part q ≡ w.entered ++ c ∷ []) × (replies part q ≡ w.got)
+
   -- it combines, by this history
   abbrev pub holding : List E → Work E C R → Work E C R
   holding h w = record w { holds = true; seen = h; before = h; paid = []; serving = Nothing; begun = w.begun + 1 }
@@ -85,17 +97,30 @@ module _ {E C R S : Type 0} (st : Step (Slot C R S)) (m : Me (Slot C R S) (View 
   abbrev pub slot_fetched : Type 0
   slot_fetched = (q : ℕ) × (m.0.work.stage ≡ Away q) × (m' ≡ (with_work (fetched q m.0.work) m.0, (q, slots.Empty) ∷ m.1))
 
+  -- the last read of the own state: the slot goes home empty
+  abbrev pub slot_given : Type 0
+  slot_given = (q : ℕ) × (m.0.work.stage ≡ Free q) × (m.1 ≡ (q, slots.Empty) ∷ rest m.1) × (m' ≡ (with_work (given q m.0.work) m.0, rest m.1))
+
+  -- read state of any record
+  abbrev pub word_seen : Type 0
+  word_seen = (k < 5) × (m' ≡ m)
+
   -- post: the call goes home
   abbrev pub call_posted : Type 0
   call_posted = (q : ℕ) × (c : C) × (m.0.work.stage ≡ Free q) × (m.1 ≡ (q, slots.Call c) ∷ rest m.1) × (m' ≡ (with_work (asking q c m.0.work) m.0, rest m.1))
 
   module _ (legal : List E → Type 0) (own : List E → ℕ → List C) (replies : List E → ℕ → List R) where
-    -- collect: the own word was 4, so the reply comes into the client's hands, and the history has its call and its reply at the end of those entered and got; or the call was refused for memory; or the word was another one
+    -- read state of the own record, while a call is in flight: the history is seen; where the word is 3, or a combiner is known to have dealt with the call that isn't answered, the call waits
+    abbrev pub own_seen : Type 0
+    own_seen = (q : ℕ) × (c : C) × (h : List E) × (m.0.work.stage ≡ Asking q c) × (m' ≡ (with_work (seeing h m.0.work) m.0, m.1)) × GoesOn m.0.work.seen h × legal h × (0 < k) × (k < 5) × (m.0.work.past ≡ true → k ≢ 1)
+        × ((k ≡ 3) ⊎ ((m.0.work.past ≡ true) × (k ≢ 4)) → IsWaiting own replies q c h m.0.work)
+
+    -- collect: the own word was 4, so the reply comes into the client's hands, and the history has its call and its reply at the end of those entered and got; or the call was refused for memory; or the word was another one, and the client saw it
     abbrev pub reply_collected : Type 0
     reply_collected = (k ≡ 4 → (q : ℕ) × (c : C) × (h : List E) × (m.0.work.stage ≡ Asking q c) × GoesOn m.0.work.seen h × legal h
         × (((m' ≡ (with_work (refused q h m.0.work) m.0, (q, slots.Memory) ∷ m.1)) × (own h q ≡ m.0.work.entered) × (replies h q ≡ m.0.work.got))
         ⊎ ((x : R) × (m' ≡ (with_work (answered q c x h m.0.work) m.0, (q, slots.Reply x) ∷ m.1)) × (own h q ≡ m.0.work.entered ++ c ∷ []) × (replies h q ≡ m.0.work.got ++ x ∷ []))))
-        × (k ≢ 4 → m' ≡ m)
+        × (k ≢ 4 → own_seen)
 
   -- take from posted, by the holder: the record's word was 1, so its call comes into the holder's hands; or it was another one, so a combiner dealt with its last post
   abbrev pub call_taken : Type 0

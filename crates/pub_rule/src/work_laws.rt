@@ -15,7 +15,11 @@ ghost use Rattle.pub_rule.specs.WorkLaws.{
   KeptByRefuse,
   KeptByResume,
   KeptByHand,
+  KeptByGive,
+  KeptByLook,
+  KeptByWatch,
 };
+ghost use Rattle.pub_rule.specs.WorkClosing.{KeptByClose, KnownAtEnd};
 
 use crate::served::Served;
 
@@ -76,4 +80,31 @@ pub fn take_parked<S: Served>()
 /// its client's replies in the history, which stays.
 pub fn answer_parked<S: Served>()
     ensures { (n : ℕ) → KeptByHand S.history S.legal S.own S.replies n }
+{}
+
+/// Read state, for the last time: a client that has its empty slot in its hands gives it back.
+pub fn give<S: Served>()
+    ensures { (n : ℕ) → KeptByGive S.history S.legal S.own S.replies n }
+{}
+
+/// Read state: any seat reads the state word of any client. It tells the word, and no more.
+pub fn look<S: Served>()
+    ensures { (n : ℕ) → KeptByLook S.history S.legal S.own S.replies n }
+{}
+
+/// Read state: a client that posted reads its own state word, and sees the history.
+pub fn watch<S: Served>()
+    ensures { (n : ℕ) → KeptByWatch S.history S.legal S.own S.replies n }
+{}
+
+/// Merge, as the list is closed: the seat of a client that doesn't combine, and has its slot at home, is spent,
+/// and the first seat keeps what it told. The clients come in any order.
+pub fn close<S: Served>()
+    ensures { (n : ℕ) → KeptByClose S.history S.legal S.own S.replies n }
+{}
+
+/// The end: where n clients told, nobody combines, the state and each client's slot lie at home, and the
+/// history is as each client told, but for a call that was in flight.
+pub fn end<S: Served>()
+    ensures { (n : ℕ) → KnownAtEnd S.history S.legal S.own S.replies n }
 {}
