@@ -1,3 +1,5 @@
 mod Joining
+mod Posting
 mod Seats
 mod Walking
+mod Working

@@ -1,3 +1,4 @@
+pub mod Asking
 pub mod Fresh
 pub mod Joined
 pub mod Lists

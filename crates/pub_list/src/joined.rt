@@ -2,7 +2,8 @@
 ghost use Rattle.std.specs.Prelude.{◌≡◌, ℕ, ◌+◌, ◌<◌, ◌≤◌, [], ◌∷◌, length, take, drop};
 ghost use Rattle.pub_rule.specs.Lists.{IsListOf, head_of, after};
 ghost use Rattle.pub_rule.specs.Steps.{IsKnown};
-ghost use Rattle.pub_list.specs.Joined.{IsJoined, client_at, IsStill, SeesAll, SeesFrom, seen, told, tries};
+ghost use Rattle.pub_list.specs.Joined.{IsJoined, client_at, IsStill, SeesAll, SeesFrom, seen, told, tries, work};
+ghost use Rattle.pub_rule.specs.WorkSplits.{taught, telling};
 
 use crate::lists::{List, Place};
 use pub_rule::{LoadHead, LoadNext, MergeToken, Served, SplitToken, head_word, next_word};
@@ -90,6 +91,7 @@ impl<S: Served> Joined<S> {
         ensures told { told self.new.seat ≡ other.old.client ∷ told self.old.seat }
         ensures seen { seen self.new.seat ≡ seen self.old.seat }
         ensures tries { tries self.new.seat ≡ tries self.old.seat }
+        ensures work { work self.new.seat ≡ taught (work self.old.seat) (telling (work other.old.seat)) }
         ensures other { (other.new.client ≡ other.old.client) × IsStill other.old.seat other.new.seat }
         ensures other_seen { seen other.new.seat ≡ seen other.old.seat }
     {

@@ -4,10 +4,12 @@
 //! waits for another thread, and none but `List::new` takes memory.
 #![tactic(auto)]
 
+mod asking;
 mod fresh;
 mod joined;
 mod lists;
 
+pub use asking::Answer;
 pub use fresh::Fresh;
 pub use joined::Joined;
 pub use lists::List;

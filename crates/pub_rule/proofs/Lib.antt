@@ -4,6 +4,7 @@ pub mod Clientwork
 pub mod Closings
 pub mod Combiner
 pub mod Endings
+pub mod Exchanging
 pub mod Kept
 pub mod Lift
 pub mod Locking

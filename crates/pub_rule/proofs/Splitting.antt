@@ -13,6 +13,7 @@ use Rattle.pub_rule.specs.declared.served.Slot.TheVariants as slots
 use Rattle.pub_rule.specs.Words.{lock_word, state_word, word_count}
 use Rattle.pub_rule.specs.Rule.{LetsSplit, LetsMerge, slots_of}
 use Rattle.pub_rule.specs.Deaf.{opening_work}
+use Rattle.pub_rule.specs.Served.{StartsEmpty, HasNoMoreReplies}
 use Rattle.pub_rule.specs.Work.{GoesOn, IsMarked, unmade, IsClient, Tells, Makes, Trusts, Serves}
 use Rattle.pub_rule.specs.WorkSplits.{owner_of, seats_of, longer, is_marked, more_seats, new_client, telling, taught, spent_work, maker_after, client_made, token_made, view_taught, view_spent, Opens, KeptByClientSplit, KeptByTokenSplit, KeptByTokenMerge}
 use Rattle.pub_rule.specs.Lists.{IsOn}
@@ -391,3 +392,10 @@ module _ {E C R S : Type 0} (history : S → List E) (legal : List E → Type 0)
 
   pub take_in : KeptByTokenMerge history legal own replies n
   take_in id q other r v w client token stage = merge_token n Half id other v w (view_taught v w) view_spent token refl refl (lets_teach id q other r v.work w.work client stage)
+
+  pub opens_of : StartsEmpty legal own → HasNoMoreReplies legal own replies → Opens history legal own replies n
+  opens_of e no_more = opens e.0 e.1 (λ r. no_replies (replies [] r) (let less = no_more [] r e.0 in let none = ap length (e.1 r) in omega arith))
+    where
+      no_replies : (l : List R) → length l ≡ 0 → l ≡ []
+      no_replies [] e = refl
+      no_replies (x ∷ l) e = absurd (omega arith)

@@ -9,5 +9,6 @@ pub mod Words
 pub mod Work
 pub mod WorkClosing
 pub mod WorkLaws
+pub mod WorkPlays
 pub mod WorkSplits
 pub mod WorkSteps

@@ -16,12 +16,13 @@ pub mod work_laws;
 pub mod work_splits;
 mod work_steps;
 
-pub use rule::{Combining, Half, Listed, Resting};
+pub use rule::{Combining, Half, Listed};
 pub use served::{Served, Slot};
 pub use steps::{ExchangeHead, LoadHead, LoadNext, MergeToken, SplitClient, SplitToken, StoreNext};
 pub use walk::{Role, View, Walk};
 pub use words::{head_word, lock_word, next_word, state_word, word_count};
 pub use work::{Closed, Serving, Stage, Work};
 pub use work_steps::{
-    AnswerPosted, CollectReply, FetchSlot, PostCall, ReleaseState, SeizeState, TakePosted,
+    AnswerCall, CollectReply, FetchSlot, ParkCall, PostCall, RefuseCall, ReleaseState, SeizeState,
+    TakeParked, TakePosted,
 };

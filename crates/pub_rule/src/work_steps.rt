@@ -58,15 +58,45 @@ impl<S: Served> Play<Slot<S::Call, S::Reply, S>, View<Work<S::Event, S::Call, S:
     ghost then = { λ st m k m'. call_taken st m k m' S.own S.replies };
 }
 
-/// Answer (flat combining: Hendler, Incze, Shavit, Tzafrir 2010): the reply to a posted call goes home, and
-/// the history has one event more, that of the state announced.
-pub struct AnswerPosted;
+/// Take from parked: a parked record whose client is owed a reply comes into the combiner's hands. It is the
+/// project's own.
+pub struct TakeParked;
+
+impl<E, C, R, S> Play<Slot<C, R, S>, View<Work<E, C, R>>> for TakeParked {
+    ghost use Rattle.pub_rule.specs.WorkSteps.{call_resumed};
+
+    ghost then = { call_resumed };
+}
+
+/// Answer (flat combining: Hendler, Incze, Shavit, Tzafrir 2010): a reply goes home. To a posted call the
+/// history has one event more, that of the state announced; to a parked one it has the reply already.
+pub struct AnswerCall;
 
 impl<S: Served> Play<Slot<S::Call, S::Reply, S>, View<Work<S::Event, S::Call, S::Reply>>>
-    for AnswerPosted {
-    ghost use Rattle.pub_rule.specs.WorkSteps.{call_answered};
+    for AnswerCall {
+    ghost use Rattle.pub_rule.specs.WorkPlays.{reply_put};
 
-    ghost then = { λ st m k m'. call_answered st m k m' S.history };
+    ghost then = { λ st m k m'. reply_put S.history m.0.work.serving st m k m' };
+}
+
+/// Answer, where a posted call is refused for memory: the history stays. It is the project's own.
+pub struct RefuseCall;
+
+impl<E, C, R, S> Play<Slot<C, R, S>, View<Work<E, C, R>>> for RefuseCall {
+    ghost use Rattle.pub_rule.specs.WorkSteps.{call_refused};
+
+    ghost then = { call_refused };
+}
+
+/// Mark parked: the slot of a posted call goes home empty, and the history has one event more, that of the
+/// state announced. It is the project's own.
+pub struct ParkCall;
+
+impl<S: Served> Play<Slot<S::Call, S::Reply, S>, View<Work<S::Event, S::Call, S::Reply>>>
+    for ParkCall {
+    ghost use Rattle.pub_rule.specs.WorkSteps.{call_parked};
+
+    ghost then = { λ st m k m'. call_parked st m k m' S.history };
 }
 
 /// Release (flat combining: Hendler, Incze, Shavit, Tzafrir 2010): the state goes home.
