@@ -132,7 +132,7 @@ module _ {E C R S : Type 0} (history : S → List E) (legal : List E → Type 0)
         gives,
         tt,
         event_step s.words s.homes s.views r id p q 4 (some (slots.Reply y)) v c e (q ∷ []) (record o { phase = replied c y }) at was holds posts whose (subst legal now law) owes
-            (subst (λ (z : Phase C R). Stays (record o { phase = z }) (record o { phase = replied c y })) (sym g.0) record { stage = in_stage R c y; entered = refl; got = refl; posts = refl; begun = refl; dealt = λ _. tt }) refl refl
+            (subst (λ (z : Phase C R). Stays (record o { phase = z }) (record o { phase = replied c y })) (sym g.0) record { stage = in_stage R c y; entered = refl; got = refl; posts = refl; begun = refl; dealt = λ _. tt; ready = λ h. absurd (omega arith) }) refl refl
             record {
               calls = subst (λ (z : ℕ). own (hist ++ e ∷ []) z ≡ own hist z ++ call e ∷ []) whose (own_call hist e) ∙ (λ i. g.3 i ++ what i ∷ []);
               even = g.5;

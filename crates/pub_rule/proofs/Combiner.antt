@@ -1,5 +1,5 @@
 -- The steps of the holder keep the rule.
-use Rattle.std.proofs.Common.{◌≡◌, ◌≢◌, ℕ, eqb, ◌<◌, List, get_or, set, sym, refl, ap, ◌∙◌, subst, inl, ⊎_elim, arith, lt_of_not-le}
+use Rattle.std.proofs.Common.{◌≡◌, ◌≢◌, ℕ, eqb, ◌<◌, List, length, get_or, set, sym, refl, ap, ◌∙◌, subst, inl, ⊎_elim, arith, lt_of_not-le}
 use lib.Seq.{set-get_or}
 use mathlib.Core.Logic.{dite}
 use native.Mathlib.Decide.{dec_le}
@@ -95,8 +95,11 @@ module _ {E C R S : Type 0} (history : S → List E) (legal : List E → Type 0)
   abbrev Half : State (Slot C R S) (Work E C R) → Type 0
   Half = Served n (Serves history legal own replies n)
 
+  as_many : (hist seen : List E) (q : ℕ) (entered : List C) (got : List R) → seen ≡ hist → own hist q ≡ entered → replies hist q ≡ got → length entered ≡ length got → length (own seen q) ≡ length (replies seen q)
+  as_many hist seen q entered got same calls answers even = subst (λ (h : List E). length (own h q) ≡ length (replies h q)) (sym same) (ap length calls ∙ (even ∙ sym (ap length answers)))
+
   pub take : KeptByTake history legal own replies n
-  take size id p q me was holds nothing inside = let v : Work E C R = me.0.work in let then : ℕ → Me (Slot C R S) (View (Work E C R)) → Type 0 = call_taken (step size (state_word q) 1 2 none) me in
+  take size id p q me was holds nothing inside = let v : Work E C R = me.0.work in let then : ℕ → Me (Slot C R S) (View (Work E C R)) → Type 0 = λ k m'. call_taken (step size (state_word q) 1 2 none) me k m' own replies in
       let half : ℕ → Me (Slot C R S) (Work E C R) → Type 0 = λ k m'. then k (with_work m'.0 me.0, m'.1) in
       lift n (Serves history legal own replies n) size id (state_word q) (λ k. either (eqb k 1) 2 k) me half then (λ e. state_from_head q (sym e)) (λ r e. state_from_next q r (sym e))
       (λ s r sz at _. let found : ℕ = get_or s.words (state_word q) 0 in
@@ -107,18 +110,19 @@ module _ {E C R S : Type 0} (history : S → List E) (legal : List E → Type 0)
       (λ hit. let y = one o.phase (sym rec.word ∙ hit) in let c : C = y.0 in let e : o.phase ≡ posted c = y.1 in
       let old : IsInPhase own replies r.desk q (record o { phase = posted c }) = subst (λ (z : Phase C R). IsInPhase own replies r.desk q (record o { phase = z })) e rec.phase in
       let small : q < r.made = (dite (dec_le r.made q) (λ h. absurd (subst (λ (z : Phase C R). IsDealt z → ⊥) (sym e ∙ has_seat history legal own replies n s.words s.homes s.views r q h) (λ f. f) tt)) (λ h. lt_of_not-le h)) in
-      let desk' : Desk E C = record r.desk { serving = Posted q c } in (
+      let desk' : Desk E C = record r.desk { serving = Posted q c } in
+      let even_now : length (own v.seen q) ≡ length (replies v.seen q) = as_many (r.desk.hist) v.seen q o.entered o.got b.seen old.calls old.replies_are old.even in (
         taking q c v,
         takes q (slots.Call c),
         rec.home ∙ ap (λ (z : Phase C R). some (home_of z)) e,
         subst (λ (w : Work E C R). Serves history legal own replies n (set s.words (state_word q) 2) (set s.homes q none) (set s.views id w)) (λ i. record v { seen = sym b.seen i; before = sym b.before i; paid = sym b.paid i; serving = Posted q c })
             (holder_step history legal own replies n s.words s.homes s.views r id p q 2 none v (record o { phase = taken c }) desk' v.passed v.past at was holds small
             (subst (λ (z : Phase C R). Stays (record o { phase = z }) (record o { phase = taken c })) (sym e)
-            record { stage = taken_from R c; entered = refl; got = refl; posts = refl; begun = refl; dealt = λ h. h })
+            record { stage = taken_from R c; entered = refl; got = refl; posts = refl; begun = refl; dealt = λ h. h; ready = λ h. absurd (omega arith) })
             refl refl record { calls = old.calls; even = old.even; replies_are = old.replies_are; settled = old.settled; was_parked = tt; taken_is = refl }
             (λ i _ other h. record { calls = h.calls; even = h.even; replies_are = same_replies own replies r.desk (Posted q c) i (r.truth i).got (r.truth i).phase h.replies_are; settled = same_settled own replies r.desk (Posted q c) i (r.truth i).phase h.settled; was_parked = h.was_parked; taken_is = retaken i (r.truth i).phase r.desk.serving (Posted q c) unserved other h.taken_is })
             (all_of r.desk.hist) r.is_legal (λ i h. subst (λ (z : ℕ). z < n) (sym h) inside) (λ _ _ m. inl m) (λ h. inl h)),
-        ((λ _. (q, c, refl, refl)), λ other. absurd (other hit)),
+        ((λ _. (q, c, refl, even_now, refl)), λ other. absurd (other hit)),
       ))
       (λ miss. let deal : IsDealt o.phase = is_dealt q o.phase r.desk.serving unserved (λ e. miss (rec.word ∙ e)) rec.phase.taken_is in (
         dealt q v,
@@ -136,6 +140,7 @@ module _ {E C R S : Type 0} (history : S → List E) (legal : List E → Type 0)
             posts = d.posts;
             begun = d.begun;
             past = λ h. ⊎_elim d.past (λ (e : i ≡ q). subst (λ (z : ℕ). IsDealt (r.truth z).phase) (sym e) deal) (past_is i q v.stage v.past is h);
+            ready = d.ready;
             holds = d.holds;
             waits = d.waits;
           };

@@ -1,5 +1,6 @@
 -- What combiners serve, after a step of one seat.
-use Rattle.std.proofs.Common.{◌≡◌, ◌≢◌, ◌⊎◌, ℕ, Bool, true, ◌+◌, ◌<◌, ◌≤◌, List, [], ◌∷◌, ◌++◌, length, get_or, set, sym, refl, ap, ◌∙◌, subst, inl, inr, ⊎_elim, arith, length-set, get_or-set_other, get_or-set_same}
+use Rattle.std.proofs.Common.{◌≡◌, ◌≢◌, ◌⊎◌, ℕ, Bool, true, false, ◌+◌, ◌<◌, ◌≤◌, List, [], ◌∷◌, ◌++◌, length, get_or, set, sym, refl, ap, ◌∙◌, subst, inl, inr, ⊎_elim, arith, length-set, get_or-set_other, get_or-set_same}
+use Rattle.std.proofs.lemmas.Bool.{false≢true}
 use mathlib.Core.Option.{Option, some}
 use native.Mathlib.Decide.{ℕ_discrete}
 use lib.ListN.{get_elem?}
@@ -48,12 +49,13 @@ module _ {E C R : Type 0} where
     pub posts : o.posts ≡ t.posts
     pub begun : o.begun ≡ t.begun
     pub dealt : IsDealt o.phase → IsDealt t.phase
+    pub ready : word_of o.phase ≡ 4 → word_of t.phase ≡ 4
 
   pub follows_itself : (o : Client E C R) → Follows o o
   follows_itself o = record { posts = omega arith; begun = omega arith; dealt = λ _ h. h }
 
   pub stays_itself : (o : Client E C R) → Stays o o
-  stays_itself o = record { stage = λ _ h. h; entered = refl; got = refl; posts = refl; begun = refl; dealt = λ h. h }
+  stays_itself o = record { stage = λ _ h. h; entered = refl; got = refl; posts = refl; begun = refl; dealt = λ h. h; ready = λ h. h }
 
 module _ {E C R S : Type 0} (history : S → List E) (legal : List E → Type 0) (own : List E → ℕ → List C) (replies : List E → ℕ → List R) (n : ℕ) (words : List ℕ) (homes : List (Option (Slot C R S))) (works : List (Work E C R))
     (s : Serves history legal own replies n words homes works) where
@@ -119,6 +121,7 @@ module _ {E C R S : Type 0} (history : S → List E) (legal : List E → Type 0)
           posts = c.posts ∙ a.posts;
           begun = c.begun ∙ a.begun;
           past = λ h. a.dealt (c.past h);
+          ready = λ h. a.ready (c.ready h);
           holds = λ h. (locks r ne).0 (c.holds h);
           waits = λ h. (locks r ne).1 (c.waits h);
         };
@@ -207,10 +210,10 @@ module _ {E C R S : Type 0} (history : S → List E) (legal : List E → Type 0)
   -- A client's step: it changes its own state word and slot, and what is known of itself
   pub client_step : (id q x : ℕ) (y : Option (Slot C R S)) (v : Work E C R) (t : Client E C R) (st : Stage C) (seen : List E) (past : Bool) → get_elem? works id ≡ some v → IsClient q v.stage → IsClient q st → Follows (s.truth q) t → t.begun ≡ (s.truth q).begun
       → x ≡ word_of t.phase → y ≡ home_of t.phase → IsInPhase own replies s.desk q t → IsInStage st t.phase → (past ≡ true → IsDealt t.phase) → GoesOn seen s.desk.hist → (v.holds ≡ true → seen ≡ s.desk.hist)
-      → (w : Work E C R) → w ≡ record v { stage = st; seen = seen; entered = t.entered; got = t.got; posts = t.posts; past = past }
+      → (w : Work E C R) → w ≡ record v { stage = st; seen = seen; entered = t.entered; got = t.got; posts = t.posts; past = past; ready = false }
       → Serves history legal own replies n (set words (state_word q) x) (set homes q y) (set works id w)
   client_step id q x y v t st seen past at was is f begun number slot phase stage dealt saw still w same = let k = s.each_seat id v at in let c = k.client q was in let few = s.few in let small = c.made_it in let inside : q < n = omega arith in
-      let w' : Work E C R = record v { stage = st; seen = seen; entered = t.entered; got = t.got; posts = t.posts; past = past } in
+      let w' : Work E C R = record v { stage = st; seen = seen; entered = t.entered; got = t.got; posts = t.posts; past = past; ready = false } in
       subst (λ (z : Work E C R). Serves history legal own replies n (set words (state_word q) x) (set homes q y) (set works id z)) (sym same)
       (steps id q t f (λ other. absurd (other c.seat_is)) (get_or words lock_word 0) s.desk ([], nil_behind s.desk.hist) (λ _ _. (λ e. e, λ e. e)) (λ _ _ _ _ _ h. h) (set words (state_word q) x) (set homes q y) w'
       (lock_else q x) (length-set words (state_word q) x ∙ s.wide) (length-set homes q y ∙ s.deep) s.is_legal (lock_same q t y f small) s.taken_below small
@@ -228,6 +231,7 @@ module _ {E C R S : Type 0} (history : S → List E) (legal : List E → Type 0)
         posts = refl;
         begun = c.begun ∙ sym begun;
         past = dealt;
+        ready = λ h. absurd (false≢true h);
         holds = c.holds;
         waits = c.waits;
       })
@@ -271,6 +275,7 @@ module _ {E C R S : Type 0} (history : S → List E) (legal : List E → Type 0)
         posts = c.posts ∙ a.posts;
         begun = c.begun ∙ a.begun;
         past = λ h. ⊎_elim (λ b. a.dealt (c.past b)) (λ (d : (p ≡ q) × IsDealt t.phase). put_case (λ b. IsDealt b.phase) s.truth q t p (λ _. d.1) (λ other. absurd (other d.0))) (pasts h);
+        ready = λ h. a.ready (c.ready h);
         holds = c.holds;
         waits = c.waits;
       }

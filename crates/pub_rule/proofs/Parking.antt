@@ -50,7 +50,7 @@ module _ {E C R S : Type 0} (history : S → List E) (legal : List E → Type 0)
         gives,
         tt,
         event_step history legal own replies n client call own_call own_other one_more no_more s.words s.homes s.views r id p q 3 (some slots.Empty) v c e [] (record o { phase = parked c; parked_by = hist ++ e ∷ [] }) at was holds posts whose law' owes
-            (subst (λ (z : Phase C R). Stays (record o { phase = z }) (record o { phase = parked c; parked_by = hist ++ e ∷ [] })) (sym g.0) record { stage = left_parked R c; entered = refl; got = refl; posts = refl; begun = refl; dealt = λ _. tt }) refl refl
+            (subst (λ (z : Phase C R). Stays (record o { phase = z }) (record o { phase = parked c; parked_by = hist ++ e ∷ [] })) (sym g.0) record { stage = left_parked R c; entered = refl; got = refl; posts = refl; begun = refl; dealt = λ _. tt; ready = λ h. absurd (omega arith) }) refl refl
             record { calls = calls; even = g.5; replies_are = (g.4, inl still); settled = tt; was_parked = (all_of (hist ++ e ∷ []), calls, still); taken_is = λ z. z } tt (λ i other on. on) (leaving q h v)
             (λ i. dealt q (record v { seen = now i; before = g.2 i; paid = []; serving = Nothing })),
         refl,

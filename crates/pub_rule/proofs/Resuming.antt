@@ -119,7 +119,7 @@ module _ {E C R S : Type 0} (history : S → List E) (legal : List E → Type 0)
             (λ i. record v { seen = sym b.seen i; before = sym b.before i; paid = sym b.paid i; serving = Nothing; passed = marks_of q v.heard ++ v.passed; past = if is_own q v.stage then true else v.past })
             (holder_step history legal own replies n s.words s.homes s.views r id p q 4 (some slots.Memory) v (record o { phase = refused c }) (record d { serving = Nothing }) (marks_of q v.heard ++ v.passed) (if is_own q v.stage then true else v.past)
             at was holds (seated s.words s.homes s.views r q (λ z. let a = ap word_of f in omega arith))
-            (subst (λ (z : Phase C R). Stays (record o { phase = z }) (record o { phase = refused c })) (sym f) record { stage = in_refused R c; entered = refl; got = refl; posts = refl; begun = refl; dealt = λ _. tt })
+            (subst (λ (z : Phase C R). Stays (record o { phase = z }) (record o { phase = refused c })) (sym f) record { stage = in_refused R c; entered = refl; got = refl; posts = refl; begun = refl; dealt = λ _. tt; ready = λ h. absurd (omega arith) })
             refl refl record { calls = old.calls; even = old.even; replies_are = old.replies_are; settled = old.settled; was_parked = tt; taken_is = λ z. z }
             (λ i _ other h. record {
               calls = h.calls;
@@ -173,7 +173,7 @@ module _ {E C R S : Type 0} (history : S → List E) (legal : List E → Type 0)
         subst (λ (w : Work E C R). Serves history legal own replies n (set s.words (state_word q) 2) (set s.homes q none) (set s.views id w)) (λ i. record v { seen = sym b.seen i; before = sym b.before i; paid = sym b.paid i; serving = Parked q c })
             (holder_step history legal own replies n s.words s.homes s.views r id p q 2 none v (record o { phase = resumed c }) (record d { serving = Parked q c }) v.passed v.past at was holds
             (seated s.words s.homes s.views r q (λ z. let a = ap word_of e in omega arith))
-            (subst (λ (z : Phase C R). Stays (record o { phase = z }) (record o { phase = resumed c })) (sym e) record { stage = in_resumed R c; entered = refl; got = refl; posts = refl; begun = refl; dealt = λ h. h })
+            (subst (λ (z : Phase C R). Stays (record o { phase = z }) (record o { phase = resumed c })) (sym e) record { stage = in_resumed R c; entered = refl; got = refl; posts = refl; begun = refl; dealt = λ h. h; ready = λ h. absurd (omega arith) })
             refl refl record {
               calls = old.calls;
               even = old.even;
@@ -229,7 +229,7 @@ module _ {E C R S : Type 0} (history : S → List E) (legal : List E → Type 0)
         subst (λ (w : Work E C R). Serves history legal own replies n (set s.words (state_word q) 4) (set s.homes q (some (slots.Reply y))) (set s.views id w)) (λ i. record v { seen = sym b.seen i; before = sym b.before i; paid = q ∷ sym b.paid i; serving = Nothing })
             (holder_step history legal own replies n s.words s.homes s.views r id p q 4 (some (slots.Reply y)) v (record o { phase = replied c y }) (record d { paid = q ∷ d.paid; serving = Nothing }) v.passed v.past at was holds
             (seated s.words s.homes s.views r q (λ z. let a = ap word_of f in omega arith))
-            (subst (λ (z : Phase C R). Stays (record o { phase = z }) (record o { phase = replied c y })) (sym f) record { stage = in_replied R c y; entered = refl; got = refl; posts = refl; begun = refl; dealt = λ _. tt })
+            (subst (λ (z : Phase C R). Stays (record o { phase = z }) (record o { phase = replied c y })) (sym f) record { stage = in_replied R c y; entered = refl; got = refl; posts = refl; begun = refl; dealt = λ _. tt; ready = λ h. absurd (omega arith) })
             refl refl record { calls = old.calls; even = old.even; replies_are = ends_with old.replies_are.0 y o.got front (replies d.hist q) old.replies_are.1 last'; settled = inr (inl refl); was_parked = tt; taken_is = λ z. z }
             (λ i _ other h. record {
               calls = h.calls;

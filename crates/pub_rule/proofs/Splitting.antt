@@ -155,6 +155,7 @@ module _ {E C R S : Type 0} (history : S → List E) (legal : List E → Type 0)
         begun = t.begun;
         past = λ e. ⊎_elim t.past (λ m. (let mark = marked (owner_of v.stage) v.posts w.passed m in let mine : IsMarked p v.posts w.passed = subst (λ (z : ℕ). IsMarked z v.posts w.passed) (owner_is p v.stage h) mark in (f.passed p v.posts mine).2 (sym t.posts)))
             (or_true v.past (is_marked (owner_of v.stage) v.posts w.passed) e);
+        ready = t.ready;
         holds = t.holds;
         waits = t.waits;
       };
@@ -216,6 +217,7 @@ module _ {E C R S : Type 0} (history : S → List E) (legal : List E → Type 0)
         posts = c.posts;
         begun = c.begun;
         past = c.past;
+        ready = c.ready;
         holds = c.holds;
         waits = c.waits;
       };
@@ -270,6 +272,7 @@ module _ {E C R S : Type 0} (history : S → List E) (legal : List E → Type 0)
             posts = refl;
             begun = refl;
             past = λ e. absurd (false≢true e);
+            ready = λ e. absurd (false≢true e);
             holds = λ e. absurd (false≢true e);
             waits = λ _. unlocked;
           });

@@ -25,6 +25,7 @@ opening_work = record {
   heard = [];
   passed = [];
   past = false;
+  ready = false;
   closed = [];
 }
 

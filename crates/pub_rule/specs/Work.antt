@@ -206,6 +206,7 @@ module _ {E C R : Type 0} where
     pub posts : v.posts ≡ t.posts
     pub begun : v.begun ≡ t.begun
     pub past : v.past ≡ true → IsDealt t.phase
+    pub ready : v.ready ≡ true → word_of t.phase ≡ 4
     pub holds : v.holds ≡ true → lock ≡ r + 1
     pub waits : v.holds ≡ false → lock ≢ r + 1
 

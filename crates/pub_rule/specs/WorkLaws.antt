@@ -5,7 +5,7 @@ use prog.Atomic.{either}
 use Rattle.atomic_table.specs.Table.{Me, step, rest, Allows}
 use Rattle.pub_rule.specs.declared.walk.View.{View}
 use Rattle.pub_rule.specs.declared.work.Work.{Work}
-use Rattle.pub_rule.specs.declared.work.Stage.TheVariants.{Away, Free, Asking}
+use Rattle.pub_rule.specs.declared.work.Stage.TheVariants.{Away, Free}
 use Rattle.pub_rule.specs.declared.work.Serving.TheVariants.{Nothing, Posted, Parked}
 use Rattle.pub_rule.specs.declared.served.Slot.{Slot}
 use Rattle.pub_rule.specs.declared.served.Slot.TheVariants as slots
@@ -13,7 +13,7 @@ use Rattle.pub_rule.specs.Words.{lock_word, state_word}
 use Rattle.pub_rule.specs.Lists.{IsOn}
 use Rattle.pub_rule.specs.Rule.{Ruled}
 use Rattle.pub_rule.specs.Work.{Serves, IsClient}
-use Rattle.pub_rule.specs.WorkSteps.{call_posted, reply_collected, call_taken, state_seized, slot_fetched, slot_given, word_seen, own_seen, state_released, call_answered, call_parked, call_refused, call_resumed, reply_handed}
+use Rattle.pub_rule.specs.WorkSteps.{call_posted, reply_collected, call_taken, state_seized, slot_fetched, slot_given, word_seen, own_looked, state_released, call_answered, call_parked, call_refused, call_resumed, reply_handed}
 
 module _ {E C R S : Type 0} (history : S → List E) (legal : List E → Type 0) (own : List E → ℕ → List C) (replies : List E → ℕ → List R) (n : ℕ) where
   -- a client that has its slot in its hands, with its call, makes its state word 1
@@ -21,15 +21,15 @@ module _ {E C R S : Type 0} (history : S → List E) (legal : List E → Type 0)
   KeptByPost = (size id q : ℕ) (c : C) (me : Me (Slot C R S) (View (Work E C R))) → me.0.work.stage ≡ Free q → me.1 ≡ (q, slots.Call c) ∷ rest me.1
       → Allows (Ruled n (Serves history legal own replies n)) size id me (state_word q) (λ _. 1) (λ _. call_posted (step size (state_word q) 1 0 none) me 1)
 
-  -- a client that posted makes its state word 0 where it is 4
+  -- a client makes its state word 0 where it is 4
   abbrev pub KeptByCollect : Type 0
-  KeptByCollect = (size id q : ℕ) (c : C) (me : Me (Slot C R S) (View (Work E C R))) → me.0.work.stage ≡ Asking q c
+  KeptByCollect = (size id q : ℕ) (me : Me (Slot C R S) (View (Work E C R))) → IsClient q me.0.work.stage
       → Allows (Ruled n (Serves history legal own replies n)) size id me (state_word q) (λ k. either (k == 4) 0 k) (λ k m'. reply_collected (step size (state_word q) 4 0 none) me k m' legal own replies)
 
   -- the holder, which has taken no record, makes the state word of client r 2 where it is 1
   abbrev pub KeptByTake : Type 0
   KeptByTake = (size id p r : ℕ) (me : Me (Slot C R S) (View (Work E C R))) → IsClient p me.0.work.stage → me.0.work.holds ≡ true → me.0.work.serving ≡ Nothing → r < n
-      → Allows (Ruled n (Serves history legal own replies n)) size id me (state_word r) (λ k. either (k == 1) 2 k) (call_taken (step size (state_word r) 1 2 none) me)
+      → Allows (Ruled n (Serves history legal own replies n)) size id me (state_word r) (λ k. either (k == 1) 2 k) (λ k m'. call_taken (step size (state_word r) 1 2 none) me k m' own replies)
 
   -- a client that doesn't combine makes the lock word its own number + 1 where it is 0
   abbrev pub KeptBySeize : Type 0
@@ -41,19 +41,19 @@ module _ {E C R S : Type 0} (history : S → List E) (legal : List E → Type 0)
   KeptByFetch = (size id q : ℕ) (me : Me (Slot C R S) (View (Work E C R))) → me.0.work.stage ≡ Away q
       → Allows (Ruled n (Serves history legal own replies n)) size id me (state_word q) (λ k. k) (slot_fetched (step size (state_word q) 0 0 none) me)
 
-  -- a client that has its empty slot in its hands reads its state word, and gives the slot back
+  -- a client reads its state word, and gives its empty slot back where it has it in its hands
   abbrev pub KeptByGive : Type 0
-  KeptByGive = (size id q : ℕ) (me : Me (Slot C R S) (View (Work E C R))) → me.0.work.stage ≡ Free q → me.1 ≡ (q, slots.Empty) ∷ rest me.1
-      → Allows (Ruled n (Serves history legal own replies n)) size id me (state_word q) (λ k. k) (λ k. slot_given (step size (state_word q) 0 0 none) me k)
+  KeptByGive = (size id q : ℕ) (me : Me (Slot C R S) (View (Work E C R))) → IsClient q me.0.work.stage → (me.0.work.stage ≡ Free q → me.1 ≡ (q, slots.Empty) ∷ rest me.1)
+      → Allows (Ruled n (Serves history legal own replies n)) size id me (state_word q) (λ k. k) (slot_given (step size (state_word q) 0 0 none) me)
 
   -- any seat reads the state word of a client
   abbrev pub KeptByLook : Type 0
   KeptByLook = (size id r : ℕ) (me : Me (Slot C R S) (View (Work E C R))) → r < n → Allows (Ruled n (Serves history legal own replies n)) size id me (state_word r) (λ k. k) (word_seen (step size (state_word r) 0 0 none) me)
 
-  -- a client that posted reads its state word
+  -- a client reads its state word
   abbrev pub KeptByWatch : Type 0
-  KeptByWatch = (size id q : ℕ) (c : C) (me : Me (Slot C R S) (View (Work E C R))) → me.0.work.stage ≡ Asking q c
-      → Allows (Ruled n (Serves history legal own replies n)) size id me (state_word q) (λ k. k) (λ k m'. own_seen (step size (state_word q) 0 0 none) me k m' legal own replies)
+  KeptByWatch = (size id q : ℕ) (me : Me (Slot C R S) (View (Work E C R))) → IsClient q me.0.work.stage
+      → Allows (Ruled n (Serves history legal own replies n)) size id me (state_word q) (λ k. k) (λ k m'. own_looked (step size (state_word q) 0 0 none) me k m' legal own replies)
 
   -- the holder, which has taken no record and owes nothing, makes the lock word 0
   abbrev pub KeptByRelease : Type 0

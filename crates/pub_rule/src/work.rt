@@ -79,6 +79,8 @@ pub struct Work<E, C, R> {
     pub passed: LinkedList<(u64, u64)>,
     /// Whether a combiner is known to have dealt with the client's last post.
     pub past: bool,
+    /// Whether the client found its own state word to be 4.
+    pub ready: bool,
     /// What the clients told whose seats were merged into the first one.
     pub closed: LinkedList<Closed<E, C, R>>,
 }

@@ -28,7 +28,7 @@ pub fn post<S: Served>()
     ensures { (n : ℕ) → KeptByPost S.history S.legal S.own S.replies n }
 {}
 
-/// Collect: a client that posted makes its own state word 0 where it is 4.
+/// Collect: a client makes its own state word 0 where it is 4; else it sees the history.
 pub fn collect<S: Served>()
     ensures { (n : ℕ) → KeptByCollect S.history S.legal S.own S.replies n }
 {}
@@ -82,7 +82,8 @@ pub fn answer_parked<S: Served>()
     ensures { (n : ℕ) → KeptByHand S.history S.legal S.own S.replies n }
 {}
 
-/// Read state, for the last time: a client that has its empty slot in its hands gives it back.
+/// Read state, for the last time: a client that has its slot in its hands, which is empty, gives it back; one
+/// that has it at home stays as it was.
 pub fn give<S: Served>()
     ensures { (n : ℕ) → KeptByGive S.history S.legal S.own S.replies n }
 {}
@@ -92,7 +93,7 @@ pub fn look<S: Served>()
     ensures { (n : ℕ) → KeptByLook S.history S.legal S.own S.replies n }
 {}
 
-/// Read state: a client that posted reads its own state word, and sees the history.
+/// Read state: a client reads its own state word, and sees the history.
 pub fn watch<S: Served>()
     ensures { (n : ℕ) → KeptByWatch S.history S.legal S.own S.replies n }
 {}

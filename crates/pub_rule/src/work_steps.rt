@@ -51,10 +51,11 @@ impl<S: Served> Play<Slot<S::Call, S::Reply, S>, View<Work<S::Event, S::Call, S:
 /// hands, where the record's word was 1.
 pub struct TakePosted;
 
-impl<E, C, R, S> Play<Slot<C, R, S>, View<Work<E, C, R>>> for TakePosted {
+impl<S: Served> Play<Slot<S::Call, S::Reply, S>, View<Work<S::Event, S::Call, S::Reply>>>
+    for TakePosted {
     ghost use Rattle.pub_rule.specs.WorkSteps.{call_taken};
 
-    ghost then = { call_taken };
+    ghost then = { λ st m k m'. call_taken st m k m' S.own S.replies };
 }
 
 /// Take from parked: a parked record whose client is owed a reply comes into the combiner's hands. It is the
