@@ -1,6 +1,9 @@
 mod Joining
+mod Looking
 mod Posting
+mod Replying
 mod Seats
 mod Seizing
+mod Taking
 mod Walking
 mod Working
