@@ -1,5 +1,6 @@
 mod Joining
 mod Posting
 mod Seats
+mod Seizing
 mod Walking
 mod Working

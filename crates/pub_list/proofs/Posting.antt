@@ -1,5 +1,5 @@
 -- A client's seat while it posts, and while it collects.
-use Rattle.std.proofs.Common.{◌≡◌, ◌≢◌, ◌⊎◌, ℕ, Some, false, eqb, ◌-◌, List, [], ◌∷◌, ◌++◌, sym, refl, ap, ◌∙◌, subst, inl, inr, ⊎_elim}
+use Rattle.std.proofs.Common.{◌≡◌, ◌≢◌, ◌⊎◌, ℕ, Some, false, eqb, ◌-◌, ◌<◌, arith, List, [], ◌∷◌, ◌++◌, sym, refl, ap, ◌∙◌, subst, inl, inr, ⊎_elim, zero, suc, Ok, Err}
 use mathlib.Core.Option.{Option, some, none, some-injective, some-ne-none}
 use prog.Atomic.{either}
 use Rattle.atomic_table.specs.Table.{Me, step, rest, Allows}
@@ -12,14 +12,41 @@ use Rattle.pub_rule.specs.declared.served.Slot.TheVariants as slots
 use Rattle.pub_rule.specs.Words.{state_word}
 use Rattle.pub_rule.specs.Rule.{Ruled}
 use Rattle.pub_rule.specs.Work.{Serves}
-use Rattle.pub_rule.specs.WorkSteps.{with_work, asking, answered, refused, call_posted, reply_collected}
+use Rattle.pub_rule.specs.WorkSteps.{with_work, asking, answered, refused, call_posted, reply_collected, own_seen, IsWaiting}
 use Rattle.pub_rule.proofs.Clientwork.{post, collect}
 use Rattle.pub_list.specs.Joined.{IsJoined, IsWorking, is_live, own_slot, with_state, with_taken}
 use Rattle.pub_rule.specs.declared.work.Serving.TheVariants.{Nothing}
 use Rattle.pub_rule.specs.WorkSplits.{owner_of}
 use Rattle.pub_list.specs.declared.asking.Answer.TheVariants as answers
-use Rattle.pub_list.specs.Asking.{IsAsking, IsCollected}
+use Rattle.pub_list.specs.Asking.{IsAsking, IsOpen, IsCollected}
+use Rattle.pub_list.specs.Records.{state_at}
+use Rattle.pub_list.specs.declared.records.WordState.{WordState}
+use Rattle.pub_list.specs.declared.records.WordState.TheVariants as states
 use Rattle.pub_list.proofs.Working.{place_in, slot_in, call_in, alone, rejoined}
+
+-- the number of a state
+abbrev code : WordState → ℕ
+code states.Free = 0
+code states.Posted = 1
+code states.Taken = 2
+code states.Parked = 3
+code states.Answered = 4
+
+code_at : (k : ℕ) → k < 5 → code (state_at k) ≡ k
+code_at zero h = refl
+code_at (suc zero) h = refl
+code_at (suc (suc zero)) h = refl
+code_at (suc (suc (suc zero))) h = refl
+code_at (suc (suc (suc (suc zero)))) h = refl
+code_at (suc (suc (suc (suc (suc k))))) h = absurd (omega arith)
+
+open_at : (k : ℕ) → 0 < k → k < 5 → k ≢ 4 → IsOpen (state_at k)
+open_at zero l h o = absurd (omega arith)
+open_at (suc zero) l h o = tt
+open_at (suc (suc zero)) l h o = tt
+open_at (suc (suc (suc zero))) l h o = tt
+open_at (suc (suc (suc (suc zero)))) l h o = absurd (o refl)
+open_at (suc (suc (suc (suc (suc k))))) l h o = absurd (omega arith)
 
 module _ {E C R S : Type 0} where
   -- the seat was old, mid when its slot had the call, and is new
@@ -57,9 +84,29 @@ module _ {E C R S : Type 0} where
     abbrev none_held : old.me.1 ≡ []
     none_held = alone client (old.table_id.slots - 1) old.me.0.work old.me.1 (Asking client asks.0) own.working asks.1 free
 
-    pub still_asks : k ≢ 4 → mid.table_id ≡ old.table_id → IsJoined client mid
-    still_asks other same = rejoined client old mid own same (ap (λ (m : Me (Slot C R S) (View (Work E C R))). m.0.walk) (did.1 other))
-        (subst (λ (m : Me (Slot C R S) (View (Work E C R))). IsWorking client (old.table_id.slots - 1) m.0.work m.1) (sym (did.1 other)) own.working)
+    module _ (other : k ≢ 4) where
+      abbrev saw : own_seen (step 0 0 0 0 none) old.me k mid.me legal owns replies
+      saw = did.1 other
+
+      abbrev owns_it : saw.0 ≡ client
+      owns_it = sym (ap owner_of saw.3) ∙ ap owner_of asks.1
+
+      pub still_asks : mid.table_id ≡ old.table_id → IsJoined client mid
+      still_asks same = rejoined client old mid own same (ap (λ (m : Me (Slot C R S) (View (Work E C R))). m.0.walk) saw.4)
+          (subst (λ (m : Me (Slot C R S) (View (Work E C R))). IsWorking client (old.table_id.slots - 1) m.0.work m.1) (sym saw.4) record { own = own.working.own; live = own.working.live; hands_are = own.working.hands_are; quiet = own.working.quiet })
+
+      pub not_collected : IsCollected legal owns replies client old.me.0 mid.me.0 (Err (state_at k))
+      not_collected = (
+        saw.1,
+        saw.2,
+        saw.3 ∙ ap (λ z. Asking z saw.1) owns_it,
+        saw.5,
+        saw.6,
+        ap (λ (m : Me (Slot C R S) (View (Work E C R))). m.0) saw.4,
+        open_at k saw.7 saw.8 other,
+        (λ past e. saw.9 past (sym (code_at k saw.8) ∙ ap code e)),
+        (λ h. subst (λ (z : ℕ). IsWaiting owns replies z saw.1 saw.2 old.me.0.work) owns_it (saw.10 (⊎_elim (λ e. inl (sym (code_at k saw.8) ∙ ap code e)) (λ past. inr (past, other)) h))),
+      )
 
     module _ (hit : k ≡ 4) where
       abbrev itself : (did.0 hit).0 ≡ client
@@ -99,7 +146,7 @@ module _ {E C R S : Type 0} where
         at_client : (F : ℕ → Type 0) → F (did.0 hit).0 → F client
         at_client F f = subst F itself f
 
-        pub collected_memory : x ≡ slots.Memory → IsCollected legal owns replies client old.me.0 new.me.0 (Some answers.Memory)
+        pub collected_memory : x ≡ slots.Memory → IsCollected legal owns replies client old.me.0 new.me.0 (Ok answers.Memory)
         collected_memory e = ⊎_elim (λ h. (
           event_of,
           (did.0 hit).4,
@@ -109,7 +156,7 @@ module _ {E C R S : Type 0} where
           view_now ∙ (ap (λ (m : Me (Slot C R S) (View (Work E C R))). m.0) h.0 ∙ (λ i. with_work (refused (itself i) event_of old.me.0.work) old.me.0)),
         )) (λ h. absurd (some-ne-none h.0 (ap reply_in (ap slot_in (sym (ap (λ (m : Me (Slot C R S) (View (Work E C R))). m.1) h.1) ∙ was) ∙ e)))) (did.0 hit).6
 
-        pub collected_reply : (y : R) → x ≡ slots.Reply y → IsCollected legal owns replies client old.me.0 new.me.0 (Some (answers.Reply y))
+        pub collected_reply : (y : R) → x ≡ slots.Reply y → IsCollected legal owns replies client old.me.0 new.me.0 (Ok (answers.Reply y))
         collected_reply y e = ⊎_elim (λ h. absurd (some-ne-none y (sym (ap reply_in (ap slot_in (sym (ap (λ (m : Me (Slot C R S) (View (Work E C R))). m.1) h.0) ∙ was) ∙ e)))))
             (λ h. let same : h.0 ≡ y = some-injective h.0 y (ap reply_in (ap slot_in (sym (ap (λ (m : Me (Slot C R S) (View (Work E C R))). m.1) h.1) ∙ was) ∙ e)) in (
               (did.0 hit).1,

@@ -1,4 +1,6 @@
 pub mod Asking
+pub mod Combining
 pub mod Fresh
 pub mod Joined
 pub mod Lists
+pub mod Records

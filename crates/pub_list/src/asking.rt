@@ -5,6 +5,7 @@ ghost use Rattle.pub_list.specs.Asking.{IsIdle, IsAsking, IsPosted, IsCollected}
 
 use crate::joined::Joined;
 use crate::lists::List;
+use crate::records::{WordState, state_of};
 use pub_rule::{CollectReply, PostCall, Served, Slot, state_word};
 
 /// How a call was answered.
@@ -32,8 +33,9 @@ impl<S: Served> Joined<S> {
     }
 
     /// Collects the answer to the call that was posted (flat combining: Hendler, Incze, Shavit, Tzafrir
-    /// 2010); `None` where no combiner has answered it yet. The client doesn't combine.
-    pub fn collect(&mut self, list: &List<S>) -> Option<Answer<S::Reply>>
+    /// 2010). The error is how far the record is where the call isn't answered: posted, taken or parked. The
+    /// client doesn't combine.
+    pub fn collect(&mut self, list: &List<S>) -> Result<Answer<S::Reply>, WordState>
         requires list { self.old.seat.table_id ≡ list.now.table.shared.table_id }
         requires asking { IsAsking self.old.client self.old.seat.me.0 }
         requires unheld { (work self.old.seat).holds ≡ false }
@@ -41,18 +43,14 @@ impl<S: Served> Joined<S> {
         ensures collected { IsCollected S.legal S.own S.replies self.old.client self.old.seat.me.0 self.new.seat.me.0 result }
     {
         let table = &list.table.shared;
-        let found = table.compare_exchange::<CollectReply>(
-            &mut self.seat,
-            state_word(self.client),
-            4,
-            0,
-        );
+        let word = state_word(self.client);
+        let found = table.compare_exchange::<CollectReply>(&mut self.seat, word, 4, 0);
         if found != 4 {
-            return None;
+            return Err(state_of(found));
         }
         match table.exchange(&mut self.seat, self.client as usize, Slot::Empty) {
-            Slot::Reply(reply) => Some(Answer::Reply(reply)),
-            Slot::Memory => Some(Answer::Memory),
+            Slot::Reply(reply) => Ok(Answer::Reply(reply)),
+            Slot::Memory => Ok(Answer::Memory),
             _ => unreachable!(),
         }
     }

@@ -5,11 +5,15 @@
 #![tactic(auto)]
 
 mod asking;
+mod combining;
 mod fresh;
 mod joined;
 mod lists;
+mod records;
 
 pub use asking::Answer;
+pub use combining::Took;
 pub use fresh::Fresh;
 pub use joined::Joined;
 pub use lists::List;
+pub use records::WordState;

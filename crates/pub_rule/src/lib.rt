@@ -23,6 +23,6 @@ pub use walk::{Role, View, Walk};
 pub use words::{head_word, lock_word, next_word, state_word, word_count};
 pub use work::{Closed, Serving, Stage, Work};
 pub use work_steps::{
-    AnswerCall, CollectReply, FetchSlot, ParkCall, PostCall, RefuseCall, ReleaseState, SeizeState,
-    TakeParked, TakePosted,
+    AnswerCall, CollectReply, FetchSlot, GiveSlot, LookAt, ParkCall, PostCall, RefuseCall,
+    ReleaseState, SeizeState, TakeParked, TakePosted,
 };

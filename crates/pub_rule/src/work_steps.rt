@@ -99,6 +99,24 @@ impl<S: Served> Play<Slot<S::Call, S::Reply, S>, View<Work<S::Event, S::Call, S:
     ghost then = { λ st m k m'. call_parked st m k m' S.history };
 }
 
+/// Read state (flat combining: Hendler, Incze, Shavit, Tzafrir 2010): the word of any record is seen.
+pub struct LookAt;
+
+impl<E, C, R, S> Play<Slot<C, R, S>, View<Work<E, C, R>>> for LookAt {
+    ghost use Rattle.pub_rule.specs.WorkSteps.{word_seen};
+
+    ghost then = { λ st m k m'. word_seen st m k m' };
+}
+
+/// Read state, for the last time: the client's slot goes home empty. It is the project's own.
+pub struct GiveSlot;
+
+impl<E, C, R, S> Play<Slot<C, R, S>, View<Work<E, C, R>>> for GiveSlot {
+    ghost use Rattle.pub_rule.specs.WorkSteps.{slot_given};
+
+    ghost then = { λ st m k m'. slot_given st m k m' };
+}
+
 /// Release (flat combining: Hendler, Incze, Shavit, Tzafrir 2010): the state goes home.
 pub struct ReleaseState;
 

@@ -1,10 +1,10 @@
 use Rattle.std.proofs.Common.{◌∙◌, ap, arith}
 use Rattle.pub_rule.proofs.Numbers.{state_within}
-use Rattle.pub_list.proofs.Posting.{reply_collects, still_asks, holds_one, collected_joined}
+use Rattle.pub_list.proofs.Posting.{reply_collects, still_asks, not_collected, holds_one, collected_joined}
 use Rattle.pub_list.proofs.joined.Joined.collect.Goals as goal
 
 pub compare_exchange-found-requires : goal.compare_exchange-found-requires
-compare_exchange-found-requires g c = let self = c.args.self.now in let list = c.args.list.now in let sized = list.sized.0 in let slots = list.sized.1 in let word = c.state_word.ensures in let at = ap (λ z. z.slots) c.requires.list in
+compare_exchange-found-requires g c = let self = c.args.self.now in let list = c.args.list.now in let sized = list.sized.0 in let slots = list.sized.1 in let word = c.state_word-word.ensures in let at = ap (λ z. z.slots) c.requires.list in
     let small = self.own.small in let within = state_within self.client list.clients (omega arith) in
     (c.requires.list, omega arith, reply_collects g.S.Served.history g.S.Served.legal g.S.Served.own g.S.Served.replies _ _ _ _ _ self.client c.requires.asking.0 word c.requires.asking.1)
 
