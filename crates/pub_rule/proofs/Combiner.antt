@@ -16,7 +16,7 @@ use Rattle.pub_rule.specs.declared.work.Serving.TheVariants.{Nothing, Posted}
 use Rattle.pub_rule.specs.declared.served.Slot.{Slot}
 use Rattle.pub_rule.specs.declared.served.Slot.TheVariants as slots
 use Rattle.pub_rule.specs.Words.{state_word}
-use Rattle.pub_rule.specs.Work.{Phase, away, free, posted, taken, parked, resumed, refused, replied, Client, Desk, IsTaken, IsTakenIn, word_of, home_of, IsDealt, IsInPhase, IsMarked, HasReplies, IsSettled, IsInStage, Serves}
+use Rattle.pub_rule.specs.Work.{Phase, away, free, posted, taken, parked, resumed, refused, replied, Client, Desk, IsTaken, IsTakenIn, word_of, home_of, IsDealt, IsInPhase, IsMarked, HasReplies, IsSettled, IsInStage, IsClient, Serves}
 use Rattle.pub_rule.specs.WorkSteps.{with_work, dealt, taking, call_taken}
 use Rattle.pub_rule.specs.WorkLaws.{KeptByTake}
 use Rattle.pub_rule.proofs.Numbers.{state_from_head, state_from_next}
@@ -91,6 +91,15 @@ taken_from {C} R c (stages.Free q) h = absurd (subst (λ (p : Phase C R). IsDeal
 taken_from R c (stages.Asking q k) h = h
 taken_from R c (stages.Token q) h = tt
 
+-- a client whose record is posted asks
+own_posted : {C : Type 0} (R : Type 0) (q : ℕ) (c : C) (st : Stage C) → IsClient q st → IsInStage {C = C} {R = R} st (posted c) → st ≡ stages.Asking q c
+own_posted R q c stages.Spent h i = absurd h
+own_posted R q c (stages.Maker k) h i = absurd h
+own_posted {C} R q c (stages.Away a) h i = absurd (subst (λ (p : Phase C R). IsDealt p → ⊥) i (λ f. f) tt)
+own_posted {C} R q c (stages.Free a) h i = absurd (subst (λ (p : Phase C R). IsDealt p → ⊥) i (λ f. f) tt)
+own_posted R q c (stages.Asking a k) h i = λ j. stages.Asking (h j) (sym i j)
+own_posted R q c (stages.Token a) h i = absurd h
+
 module _ {E C R S : Type 0} (history : S → List E) (legal : List E → Type 0) (own : List E → ℕ → List C) (replies : List E → ℕ → List R) (n : ℕ) where
   abbrev Half : State (Slot C R S) (Work E C R) → Type 0
   Half = Served n (Serves history legal own replies n)
@@ -122,7 +131,7 @@ module _ {E C R S : Type 0} (history : S → List E) (legal : List E → Type 0)
             refl refl record { calls = old.calls; even = old.even; replies_are = old.replies_are; settled = old.settled; was_parked = tt; taken_is = refl }
             (λ i _ other h. record { calls = h.calls; even = h.even; replies_are = same_replies own replies r.desk (Posted q c) i (r.truth i).got (r.truth i).phase h.replies_are; settled = same_settled own replies r.desk (Posted q c) i (r.truth i).phase h.settled; was_parked = h.was_parked; taken_is = retaken i (r.truth i).phase r.desk.serving (Posted q c) unserved other h.taken_is })
             (all_of r.desk.hist) r.is_legal (λ i h. subst (λ (z : ℕ). z < n) (sym h) inside) (λ _ _ m. inl m) (λ h. inl h)),
-        ((λ _. (q, c, refl, even_now, refl)), λ other. absurd (other hit)),
+        ((λ _. (q, c, refl, even_now, (λ is. own_posted R q c v.stage is (subst (λ (z : Phase C R). IsInStage v.stage z) e (k.client q is).stage)), refl)), λ other. absurd (other hit)),
       ))
       (λ miss. let deal : IsDealt o.phase = is_dealt q o.phase r.desk.serving unserved (λ e. miss (rec.word ∙ e)) rec.phase.taken_is in (
         dealt q v,

@@ -136,9 +136,9 @@ module _ {E C R S : Type 0} (st : Step (Slot C R S)) (m : Me (Slot C R S) (View 
         × (k ≢ 4 → own_looked)
 
   module _ (own : List E → ℕ → List C) (replies : List E → ℕ → List R) where
-    -- take from posted, by the holder: the record's word was 1, so its call comes into the holder's hands, and each of its client's calls in the history has its reply there; or it was another one, so a combiner dealt with its last post
+    -- take from posted, by the holder: the record's word was 1, so its call comes into the holder's hands, each of its client's calls in the history has its reply there, and where the client is its own, it asks just this; or it was another one, so a combiner dealt with its last post
     abbrev pub call_taken : Type 0
-    call_taken = (k ≡ 1 → (r : ℕ) × (c : C) × (st.word ≡ state_word r) × (length (own m.0.work.seen r) ≡ length (replies m.0.work.seen r)) × (m' ≡ (with_work (taking r c m.0.work) m.0, (r, slots.Call c) ∷ m.1)))
+    call_taken = (k ≡ 1 → (r : ℕ) × (c : C) × (st.word ≡ state_word r) × (length (own m.0.work.seen r) ≡ length (replies m.0.work.seen r)) × (IsClient r m.0.work.stage → m.0.work.stage ≡ Asking r c) × (m' ≡ (with_work (taking r c m.0.work) m.0, (r, slots.Call c) ∷ m.1)))
         × (k ≢ 1 → (r : ℕ) × (st.word ≡ state_word r) × (m' ≡ (with_work (dealt r m.0.work) m.0, m.1)))
 
   -- seize: nobody combined, so the state comes into the client's hands with the history; or another client combines

@@ -35,7 +35,8 @@ pub fn merge<T, W, P: Half<T, W>>()
     ensures { (n : ℕ) → KeptByMerge n (P.serves n) }
 {}
 
-/// Merge, as the list is closed: a seat is spent, and the one that takes it in knows of the list what it knew.
+/// Merge, as the list is closed: a seat is spent, and the one that takes it in knows of the list what it
+/// knew.
 pub fn merge_seat<T, W, P: Half<T, W>>()
     ensures { (n : ℕ) → KeptByMergeSeat n (P.serves n) }
 {}

@@ -1,6 +1,12 @@
 //! What a publication list serves, and what its slots hold.
 ghost use Rattle.std.specs.Prelude.{◌≡◌, ℕ, List, length};
-ghost use Rattle.pub_rule.specs.Served.{AddsCall, AddsNoOther, AddsAtMostOneReply, HasNoMoreReplies, StartsEmpty};
+ghost use Rattle.pub_rule.specs.Served.{
+  AddsCall,
+  AddsNoOther,
+  AddsAtMostOneReply,
+  HasNoMoreReplies,
+  StartsEmpty,
+};
 
 /// A state that combiners serve: it means a history of events, each of them a call of one client. Whose reply
 /// an event brings is for the history to say. What clients call and what they are replied is the project's

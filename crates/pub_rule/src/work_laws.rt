@@ -59,8 +59,8 @@ pub fn answer<S: Served>()
     ensures { (n : ℕ) → KeptByAnswer S.history S.legal S.own S.replies n S.client S.call }
 {}
 
-/// Mark parked: the holder, which has taken a posted record and owes nothing, makes its state word 3, with the
-/// call's event, which brings its client no reply.
+/// Mark parked: the holder, which has taken a posted record and owes nothing, makes its state word 3, with
+/// the call's event, which brings its client no reply.
 pub fn mark_parked<S: Served>()
     ensures { (n : ℕ) → KeptByPark S.history S.legal S.own S.replies n S.client S.call }
 {}
@@ -98,8 +98,8 @@ pub fn watch<S: Served>()
     ensures { (n : ℕ) → KeptByWatch S.history S.legal S.own S.replies n }
 {}
 
-/// Merge, as the list is closed: the seat of a client that doesn't combine, and has its slot at home, is spent,
-/// and the first seat keeps what it told. The clients come in any order.
+/// Merge, as the list is closed: the seat of a client that doesn't combine, and has its slot at home, is
+/// spent, and the first seat keeps what it told. The clients come in any order.
 pub fn close<S: Served>()
     ensures { (n : ℕ) → KeptByClose S.history S.legal S.own S.replies n }
 {}
