@@ -1,6 +1,8 @@
 //! A counter that a publication list can serve, and the tests of the list with it.
 #![tactic(auto)]
 
+#[cfg(test)]
+mod combining_tests;
 mod counter;
 pub mod service;
 #[cfg(test)]
