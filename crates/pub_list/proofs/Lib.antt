@@ -4,3 +4,5 @@ mod Seats
 mod Seizing
 mod Walking
 mod Working
+mod Handing
+mod Ended
