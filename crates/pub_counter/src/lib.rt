@@ -2,6 +2,7 @@
 #![tactic(auto)]
 
 mod counter;
+pub mod service;
 #[cfg(test)]
 mod tests;
 

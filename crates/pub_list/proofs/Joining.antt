@@ -137,7 +137,7 @@ module _ {E C R S : Type 0} (client count word k : ℕ) (won new : Seat (Slot C 
   pub is_joined : IsJoined client new
   is_joined = record {
     role = ap (λ (v : Walk). v.role) walk_still ∙ w.role;
-    working = subst (λ (m : Work E C R × List (ℕ × Slot C R S)). IsWorking client (new.table_id.slots - 1) m.0 m.1) (λ i. (sym knows_now i, sym (ap (λ (m : Me (Slot C R S) (View (Work E C R))). m.1) me_now) i)) record { own = refl; live = refl; hands_are = refl; quiet = λ _. refl };
+    working = subst (λ (m : Work E C R × List (ℕ × Slot C R S)). IsWorking client (new.table_id.slots - 1) m.0 m.1) (λ i. (sym knows_now i, sym (ap (λ (m : Me (Slot C R S) (View (Work E C R))). m.1) me_now) i)) record { own = refl; live = refl; hands_are = refl; quiet = λ _. refl; below = λ r h. absurd h };
     small = subst (λ (z : TableId). client + 1 < z.slots) (sym same) w.small;
     listed = λ c h. subst (λ (z : TableId). c < z.slots - 1) (sym same) (w.listed c (subst (IsOn c) (ap (λ (v : Walk). v.list) walk_still) h));
     others = λ c h. absurd (subst (IsOn c) (ap (λ (v : Walk). v.known) walk_still ∙ w.told) h);

@@ -1,7 +1,10 @@
 mod Joining
+mod Looking
 mod Posting
+mod Replying
 mod Seats
 mod Seizing
+mod Taking
 mod Walking
 mod Working
 mod Handing

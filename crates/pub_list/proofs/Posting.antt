@@ -1,5 +1,5 @@
 -- A client's seat while it posts, and while it collects.
-use Rattle.std.proofs.Common.{◌≡◌, ◌≢◌, ◌⊎◌, ℕ, Some, false, eqb, ◌-◌, ◌<◌, arith, List, [], ◌∷◌, ◌++◌, sym, refl, ap, ◌∙◌, subst, inl, inr, ⊎_elim, zero, suc, Ok, Err}
+use Rattle.std.proofs.Common.{◌≡◌, ◌≢◌, ◌⊎◌, ℕ, false, eqb, ◌-◌, List, [], ◌∷◌, ◌++◌, sym, refl, ap, ◌∙◌, subst, inl, inr, ⊎_elim, Ok, Err}
 use mathlib.Core.Option.{Option, some, none, some-injective, some-ne-none}
 use prog.Atomic.{either}
 use Rattle.atomic_table.specs.Table.{Me, step, rest, Allows}
@@ -12,41 +12,17 @@ use Rattle.pub_rule.specs.declared.served.Slot.TheVariants as slots
 use Rattle.pub_rule.specs.Words.{state_word}
 use Rattle.pub_rule.specs.Rule.{Ruled}
 use Rattle.pub_rule.specs.Work.{Serves}
-use Rattle.pub_rule.specs.WorkSteps.{with_work, asking, answered, refused, call_posted, reply_collected, own_seen, IsWaiting}
+use Rattle.pub_rule.specs.WorkSteps.{with_work, asking, answered, refused, call_posted, reply_collected}
 use Rattle.pub_rule.proofs.Clientwork.{post, collect}
 use Rattle.pub_list.specs.Joined.{IsJoined, IsWorking, is_live, own_slot, with_state, with_taken}
 use Rattle.pub_rule.specs.declared.work.Serving.TheVariants.{Nothing}
 use Rattle.pub_rule.specs.WorkSplits.{owner_of}
 use Rattle.pub_list.specs.declared.asking.Answer.TheVariants as answers
-use Rattle.pub_list.specs.Asking.{IsAsking, IsOpen, IsCollected}
+use Rattle.pub_list.specs.Asking.{IsCollected}
 use Rattle.pub_list.specs.Records.{state_at}
-use Rattle.pub_list.specs.declared.records.WordState.{WordState}
-use Rattle.pub_list.specs.declared.records.WordState.TheVariants as states
+use Rattle.pub_rule.specs.Work.{IsClient, IsTaken}
+use Rattle.pub_list.proofs.Looking.{code, code_at, looks, below_five, looked_joined}
 use Rattle.pub_list.proofs.Working.{place_in, slot_in, call_in, alone, rejoined}
-
--- the number of a state
-abbrev code : WordState → ℕ
-code states.Free = 0
-code states.Posted = 1
-code states.Taken = 2
-code states.Parked = 3
-code states.Answered = 4
-
-code_at : (k : ℕ) → k < 5 → code (state_at k) ≡ k
-code_at zero h = refl
-code_at (suc zero) h = refl
-code_at (suc (suc zero)) h = refl
-code_at (suc (suc (suc zero))) h = refl
-code_at (suc (suc (suc (suc zero)))) h = refl
-code_at (suc (suc (suc (suc (suc k))))) h = absurd (omega arith)
-
-open_at : (k : ℕ) → 0 < k → k < 5 → k ≢ 4 → IsOpen (state_at k)
-open_at zero l h o = absurd (omega arith)
-open_at (suc zero) l h o = tt
-open_at (suc (suc zero)) l h o = tt
-open_at (suc (suc (suc zero))) l h o = tt
-open_at (suc (suc (suc (suc zero)))) l h o = absurd (o refl)
-open_at (suc (suc (suc (suc (suc k))))) l h o = absurd (omega arith)
 
 module _ {E C R S : Type 0} where
   -- the seat was old, mid when its slot had the call, and is new
@@ -76,41 +52,25 @@ module _ {E C R S : Type 0} where
             live = refl;
             hands_are = nothing_left;
             quiet = own.working.quiet;
+            below = own.working.below;
           })
 
   -- the seat was old, mid when its word was exchanged, and is new when its slot is empty again
-  module _ (legal : List E → Type 0) (owns : List E → ℕ → List C) (replies : List E → ℕ → List R) (client k : ℕ) (old mid : Seat (Slot C R S) (View (Work E C R))) (own : IsJoined client old) (asks : IsAsking client old.me.0) (free : old.me.0.work.holds ≡ false)
+  module _ (legal : List E → Type 0) (owns : List E → ℕ → List C) (replies : List E → ℕ → List R) (client k : ℕ) (old mid : Seat (Slot C R S) (View (Work E C R))) (own : IsJoined client old) (free : old.me.0.work.holds ≡ false)
       (did : reply_collected (step 0 0 0 0 none) old.me k mid.me legal owns replies) where
-    abbrev none_held : old.me.1 ≡ []
-    none_held = alone client (old.table_id.slots - 1) old.me.0.work old.me.1 (Asking client asks.0) own.working asks.1 free
-
     module _ (other : k ≢ 4) where
-      abbrev saw : own_seen (step 0 0 0 0 none) old.me k mid.me legal owns replies
-      saw = did.1 other
-
-      abbrev owns_it : saw.0 ≡ client
-      owns_it = sym (ap owner_of saw.3) ∙ ap owner_of asks.1
-
       pub still_asks : mid.table_id ≡ old.table_id → IsJoined client mid
-      still_asks same = rejoined client old mid own same (ap (λ (m : Me (Slot C R S) (View (Work E C R))). m.0.walk) saw.4)
-          (subst (λ (m : Me (Slot C R S) (View (Work E C R))). IsWorking client (old.table_id.slots - 1) m.0.work m.1) (sym saw.4) record { own = own.working.own; live = own.working.live; hands_are = own.working.hands_are; quiet = own.working.quiet })
+      still_asks same = looked_joined legal owns replies client k old mid own (did.1 other) same
 
       pub not_collected : IsCollected legal owns replies client old.me.0 mid.me.0 (Err (state_at k))
-      not_collected = (
-        saw.1,
-        saw.2,
-        saw.3 ∙ ap (λ z. Asking z saw.1) owns_it,
-        saw.5,
-        saw.6,
-        ap (λ (m : Me (Slot C R S) (View (Work E C R))). m.0) saw.4,
-        open_at k saw.7 saw.8 other,
-        (λ past e. saw.9 past (sym (code_at k saw.8) ∙ ap code e)),
-        (λ h. subst (λ (z : ℕ). IsWaiting owns replies z saw.1 saw.2 old.me.0.work) owns_it (saw.10 (⊎_elim (λ e. inl (sym (code_at k saw.8) ∙ ap code e)) (λ past. inr (past, other)) h))),
-      )
+      not_collected = (looks legal owns replies client k old mid own (did.1 other), λ e. other (sym (code_at k (below_five legal owns replies client k old mid own (did.1 other))) ∙ ap code e))
 
     module _ (hit : k ≡ 4) where
       abbrev itself : (did.0 hit).0 ≡ client
-      itself = sym (ap owner_of (did.0 hit).3) ∙ ap owner_of asks.1
+      itself = sym (ap owner_of (did.0 hit).3) ∙ own.working.own
+
+      abbrev none_held : old.me.1 ≡ []
+      none_held = alone client (old.table_id.slots - 1) old.me.0.work old.me.1 (Asking (did.0 hit).0 (did.0 hit).1) own.working (did.0 hit).3 free
 
       -- its slot has a reply or Memory, and nothing else is in its hands
       pub holds_answer : (mid.me.1 ≡ (client, slots.Memory) ∷ []) ⊎ ((x : R) × (mid.me.1 ≡ (client, slots.Reply x) ∷ []))
@@ -148,7 +108,9 @@ module _ {E C R S : Type 0} where
 
         pub collected_memory : x ≡ slots.Memory → IsCollected legal owns replies client old.me.0 new.me.0 (Ok answers.Memory)
         collected_memory e = ⊎_elim (λ h. (
+          (did.0 hit).1,
           event_of,
+          (did.0 hit).3 ∙ ap (λ z. Asking z (did.0 hit).1) itself,
           (did.0 hit).4,
           (did.0 hit).5,
           at_client (λ q. owns event_of q ≡ old.me.0.work.entered) h.1,
@@ -177,6 +139,7 @@ module _ {E C R S : Type 0} where
               live = ap is_live stage;
               hands_are = λ i. with_taken (sym nothing i) (with_state (old.table_id.slots - 1) (sym unheld i) (own_slot (sym stage i)));
               quiet = λ _. nothing;
+              below = λ r h. absurd (subst (IsTaken r) nothing h);
             })
 
         pub collected_joined : new.table_id ≡ old.table_id → IsJoined client new
@@ -190,7 +153,7 @@ module _ {E C R S : Type 0} where
         → Allows (Ruled n (Serves history legal owns replies n)) size id me word (λ _. 1) (λ _. call_posted (step size word 1 0 none) me 1)
     call_posts q c e is hands = subst (λ (i : ℕ). Allows (Ruled n (Serves history legal owns replies n)) size id me i (λ _. 1) (λ _. call_posted (step size i 1 0 none) me 1)) (sym e) (post history legal owns replies n size id q c me is hands)
 
-    pub reply_collects : (q : ℕ) (c : C) → word ≡ state_word q → me.0.work.stage ≡ Asking q c
+    pub reply_collects : (q : ℕ) → word ≡ state_word q → IsClient q me.0.work.stage
         → Allows (Ruled n (Serves history legal owns replies n)) size id me word (λ k. either (eqb k 4) 0 k) (λ k m'. reply_collected (step size word 4 0 none) me k m' legal owns replies)
-    reply_collects q c e is = subst (λ (i : ℕ). Allows (Ruled n (Serves history legal owns replies n)) size id me i (λ k. either (eqb k 4) 0 k) (λ k m'. reply_collected (step size i 4 0 none) me k m' legal owns replies)) (sym e)
-        (collect history legal owns replies n size id q c me is)
+    reply_collects q e is = subst (λ (i : ℕ). Allows (Ruled n (Serves history legal owns replies n)) size id me i (λ k. either (eqb k 4) 0 k) (λ k m'. reply_collected (step size i 4 0 none) me k m' legal owns replies)) (sym e)
+        (collect history legal owns replies n size id q me is)

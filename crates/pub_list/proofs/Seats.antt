@@ -119,7 +119,7 @@ module _ {E C R S : Type 0} (client teacher : ℕ) (old new from said : Seat (Sl
   told_more = ap (λ (m : Me (Slot C R S) (View (Work E C R))). m.0.walk.known) did ∙ (ap (λ (m : Me (Slot C R S) (View (Work E C R))). m.0.walk.known ++ told old) tells ∙ ap (λ (c : ℕ). c ∷ told old) (ap client_of its.role))
 
   still_working : {n : ℕ} → IsWorking client n (work old) old.me.1 → IsWorking client n (taught (work old) (work said)) old.me.1
-  still_working w = record { own = w.own; live = w.live; hands_are = w.hands_are; quiet = w.quiet }
+  still_working w = record { own = w.own; live = w.live; hands_are = w.hands_are; quiet = w.quiet; below = w.below }
 
   pub has_learned : IsJoined client new
   has_learned = record {

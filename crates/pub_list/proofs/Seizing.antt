@@ -1,25 +1,22 @@
 -- A client's seat while it seizes the state, and while it releases it.
-use Rattle.std.proofs.Common.{◌≡◌, ◌≢◌, ◌⊎◌, ℕ, Ok, Err, true, false, eqb, ◌+◌, ◌-◌, ◌<◌, List, [], ◌∷◌, sym, refl, ap, ◌∙◌, subst, arith}
-use Rattle.std.proofs.lemmas.Bool.{false≢true}
-use mathlib.Core.Option.{Option, some, none, some-injective, some-ne-none}
+use Rattle.std.proofs.Common.{◌≡◌, ◌≢◌, ℕ, Ok, Err, false, eqb, ◌+◌, ◌-◌, ◌<◌, List, ◌∷◌, sym, refl, ap, ◌∙◌, subst, arith}
+use mathlib.Core.Option.{Option, some, none, some-injective}
 use prog.Atomic.{either}
 use Rattle.atomic_table.specs.Table.{Me, step, rest, Allows}
 use Rattle.atomic_table.specs.declared.shared.Seat.{Seat}
 use Rattle.pub_rule.specs.declared.walk.View.{View}
 use Rattle.pub_rule.specs.declared.work.Work.{Work}
-use Rattle.pub_rule.specs.declared.work.Serving.{Serving}
-use Rattle.pub_rule.specs.declared.work.Serving.TheVariants.{Nothing, Posted, Parked}
+use Rattle.pub_rule.specs.declared.work.Serving.TheVariants.{Nothing}
 use Rattle.pub_rule.specs.declared.served.Slot.{Slot}
 use Rattle.pub_rule.specs.declared.served.Slot.TheVariants as slots
 use Rattle.pub_rule.specs.Rule.{Ruled}
 use Rattle.pub_rule.specs.Words.{lock_word}
-use Rattle.pub_rule.specs.Lists.{IsOn}
 use Rattle.pub_rule.specs.Work.{IsClient, GoesOn, Serves}
 use Rattle.pub_rule.specs.WorkSteps.{with_work, holding, meeting, released, state_seized, state_released}
 use Rattle.pub_rule.proofs.Locking.{seize, release}
-use Rattle.pub_list.specs.Joined.{IsJoined, IsWorking, own_slot, with_state, with_taken, work}
+use Rattle.pub_list.specs.Joined.{IsJoined, IsWorking, own_slot, with_state, with_taken}
 use Rattle.pub_list.specs.Combining.{IsCombining, OwesNothing, IsSeized}
-use Rattle.pub_list.proofs.Working.{place_in, slot_in, is_client, with_both, rejoined}
+use Rattle.pub_list.proofs.Working.{slot_in, is_client, with_both, rejoined}
 
 -- the state in a slot
 abbrev state_in : {C R S : Type 0} → Slot C R S → Option S
@@ -36,7 +33,7 @@ module _ {E C R S : Type 0} where
 
       pub met_joined : mid.table_id ≡ old.table_id → IsJoined client mid
       met_joined same = rejoined client old mid own same (ap (λ (m : Me (Slot C R S) (View (Work E C R))). m.0.walk) (did.1 other).4)
-          (subst (λ (m : Me (Slot C R S) (View (Work E C R))). IsWorking client (old.table_id.slots - 1) m.0.work m.1) (sym (did.1 other).4) record { own = own.working.own; live = own.working.live; hands_are = own.working.hands_are; quiet = own.working.quiet })
+          (subst (λ (m : Me (Slot C R S) (View (Work E C R))). IsWorking client (old.table_id.slots - 1) m.0.work m.1) (sym (did.1 other).4) record { own = own.working.own; live = own.working.live; hands_are = own.working.hands_are; quiet = own.working.quiet; below = own.working.below })
 
       pub small_found : k < clients + 1
       small_found = let is = (did.1 other).1 in let below = (did.1 other).2 in omega arith
@@ -83,6 +80,7 @@ module _ {E C R S : Type 0} where
               live = own.working.live;
               hands_are = (let w = own.working in λ i. (counted_here i, slots.Empty) ∷ (w.hands_are ∙ (λ j. with_taken (w.quiet free j) (with_state (old.table_id.slots - 1) (free j) (own_slot old.me.0.work.stage)))) i);
               quiet = λ h. refl;
+              below = λ r h. absurd h;
             })
           where
             counted_here : clients ≡ old.table_id.slots - 1
@@ -106,7 +104,7 @@ module _ {E C R S : Type 0} where
 
         pub released_joined : new.table_id ≡ old.table_id → IsJoined client new
         released_joined same = rejoined client old new own same (ap (λ (m : Me (Slot C R S) (View (Work E C R))). m.0.walk) releases)
-            (subst (λ (m : Me (Slot C R S) (View (Work E C R))). IsWorking client (old.table_id.slots - 1) m.0.work m.1) (sym releases) record { own = own.working.own; live = own.working.live; hands_are = refl; quiet = λ _. refl })
+            (subst (λ (m : Me (Slot C R S) (View (Work E C R))). IsWorking client (old.table_id.slots - 1) m.0.work m.1) (sym releases) record { own = own.working.own; live = own.working.live; hands_are = refl; quiet = λ _. refl; below = λ r h. absurd h })
 
   -- the laws at a word that the code names
   module _ (history : S → List E) (legal : List E → Type 0) (owns : List E → ℕ → List C) (replies : List E → ℕ → List R) (n size id word : ℕ) (me : Me (Slot C R S) (View (Work E C R))) where

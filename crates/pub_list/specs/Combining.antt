@@ -37,12 +37,12 @@ module _ {E C R : Type 0} where
   MayTake replies client v Parked = IsOwed replies client v
   MayTake replies client v _ = ⊥
 
-  -- it took the record from that word; or the word was another one, so a combiner has dealt with each post of this client that was heard of
-  abbrev pub IsTook : ℕ → View (Work E C R) → View (Work E C R) → WordState → Took C → Type 0
-  IsTook client v w Posted (FromPosted c) = w ≡ with_work (taking client c v.work) v
-  IsTook client v w Posted Not = w ≡ with_work (dealt client v.work) v
-  IsTook client v w Parked FromParked = (c : C) × (w ≡ with_work (resuming client c v.work) v)
-  IsTook client v w _ _ = ⊥
+  -- it took the record from that word, and if that was posted, each of its client's calls in the history has its reply there; or the word was another one, so a combiner has dealt with each post of this client that was heard of
+  abbrev pub IsTook : (List E → ℕ → List C) → (List E → ℕ → List R) → ℕ → View (Work E C R) → View (Work E C R) → WordState → Took C → Type 0
+  IsTook own replies client v w Posted (FromPosted c) = (length (own v.work.seen client) ≡ length (replies v.work.seen client)) × (w ≡ with_work (taking client c v.work) v)
+  IsTook own replies client v w Posted Not = w ≡ with_work (dealt client v.work) v
+  IsTook own replies client v w Parked FromParked = (c : C) × (w ≡ with_work (resuming client c v.work) v)
+  IsTook own replies client v w _ _ = ⊥
 
 module _ {E C R S : Type 0} (history : S → List E) where
   -- the state came into its hands; or another client combined

@@ -10,6 +10,7 @@ use Rattle.pub_rule.specs.declared.work.Serving.{Serving}
 use Rattle.pub_rule.specs.declared.work.Serving.TheVariants.{Nothing, Posted, Parked}
 use Rattle.pub_rule.specs.declared.served.Slot.{Slot}
 use Rattle.pub_rule.specs.declared.served.Slot.TheVariants as slots
+use Rattle.pub_rule.specs.Work.{IsTaken}
 use Rattle.pub_rule.specs.WorkSplits.{owner_of}
 use Rattle.pub_rule.specs.Lists.{IsOn, EndsWith}
 
@@ -76,6 +77,7 @@ module _ {E C R S : Type 0} where
     pub live : is_live w.stage ≡ true
     pub hands_are : hands ≡ with_taken w.serving (with_state n w.holds (own_slot w.stage))
     pub quiet : w.holds ≡ false → w.serving ≡ Nothing
+    pub below : (r : ℕ) → IsTaken r w.serving → r < n
 
   -- the seat of a client that has joined; all that it knows of are among the clients
   pub record IsJoined (client : ℕ) (seat : Seat (Slot C R S) (View (Work E C R))) : Type 0 where

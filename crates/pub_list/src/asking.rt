@@ -1,7 +1,7 @@
 //! A client asks, and collects the answer.
 ghost use Rattle.std.specs.Prelude.{◌≡◌, false};
 ghost use Rattle.pub_list.specs.Joined.{work};
-ghost use Rattle.pub_list.specs.Asking.{IsIdle, IsAsking, IsPosted, IsCollected};
+ghost use Rattle.pub_list.specs.Asking.{IsIdle, IsPosted, IsCollected};
 
 use crate::joined::Joined;
 use crate::lists::List;
@@ -33,11 +33,10 @@ impl<S: Served> Joined<S> {
     }
 
     /// Collects the answer to the call that was posted (flat combining: Hendler, Incze, Shavit, Tzafrir
-    /// 2010). The error is how far the record is where the call isn't answered: posted, taken or parked. The
+    /// 2010). The error is how far the record is where it has no answer: free, posted, taken or parked. The
     /// client doesn't combine.
     pub fn collect(&mut self, list: &List<S>) -> Result<Answer<S::Reply>, WordState>
         requires list { self.old.seat.table_id ≡ list.now.table.shared.table_id }
-        requires asking { IsAsking self.old.client self.old.seat.me.0 }
         requires unheld { (work self.old.seat).holds ≡ false }
         ensures client { (self.new.client ≡ self.old.client) × (self.new.seat.table_id ≡ self.old.seat.table_id) }
         ensures collected { IsCollected S.legal S.own S.replies self.old.client self.old.seat.me.0 self.new.seat.me.0 result }

@@ -70,7 +70,7 @@ impl<S: Served> Joined<S> {
         requires combines { IsCombining self.old.seat.me.0 }
         requires from { MayTake S.replies client self.old.seat.me.0 from }
         ensures client { (self.new.client ≡ self.old.client) × (self.new.seat.table_id ≡ self.old.seat.table_id) }
-        ensures took { IsTook client self.old.seat.me.0 self.new.seat.me.0 from result }
+        ensures took { IsTook S.own S.replies client self.old.seat.me.0 self.new.seat.me.0 from result }
     {
         match from {
             WordState::Posted => self.take_posted(list, client),
@@ -84,7 +84,7 @@ impl<S: Served> Joined<S> {
         requires client { client < list.now.clients }
         requires combines { IsCombining self.old.seat.me.0 }
         ensures client { (self.new.client ≡ self.old.client) × (self.new.seat.table_id ≡ self.old.seat.table_id) }
-        ensures took { IsTook client self.old.seat.me.0 self.new.seat.me.0 states.Posted result }
+        ensures took { IsTook S.own S.replies client self.old.seat.me.0 self.new.seat.me.0 states.Posted result }
     {
         let table = &list.table.shared;
         let found = table.compare_exchange::<TakePosted>(&mut self.seat, state_word(client), 1, 2);
@@ -103,7 +103,7 @@ impl<S: Served> Joined<S> {
         requires combines { IsCombining self.old.seat.me.0 }
         requires owed { IsOwed S.replies client self.old.seat.me.0 }
         ensures client { (self.new.client ≡ self.old.client) × (self.new.seat.table_id ≡ self.old.seat.table_id) }
-        ensures took { IsTook client self.old.seat.me.0 self.new.seat.me.0 states.Parked result }
+        ensures took { IsTook S.own S.replies client self.old.seat.me.0 self.new.seat.me.0 states.Parked result }
     {
         list.table
             .shared

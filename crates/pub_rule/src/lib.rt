@@ -25,6 +25,6 @@ pub use words::{head_word, lock_word, next_word, state_word, word_count};
 pub use work_joins::MergeClient;
 pub use work::{Closed, Serving, Stage, Work};
 pub use work_steps::{
-    AnswerCall, CollectReply, FetchSlot, GiveSlot, LookAt, ParkCall, PostCall, RefuseCall,
+    AnswerCall, CollectReply, FetchSlot, GiveSlot, LookAt, LookOwn, ParkCall, PostCall, RefuseCall,
     ReleaseState, SeizeState, TakeParked, TakePosted,
 };

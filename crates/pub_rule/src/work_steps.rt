@@ -108,6 +108,17 @@ impl<E, C, R, S> Play<Slot<C, R, S>, View<Work<E, C, R>>> for LookAt {
     ghost then = { λ st m k m'. word_seen st m k m' };
 }
 
+/// Read state (flat combining: Hendler, Incze, Shavit, Tzafrir 2010), of the own record: the history is seen
+/// with it.
+pub struct LookOwn;
+
+impl<S: Served> Play<Slot<S::Call, S::Reply, S>, View<Work<S::Event, S::Call, S::Reply>>>
+    for LookOwn {
+    ghost use Rattle.pub_rule.specs.WorkSteps.{own_looked};
+
+    ghost then = { λ st m k m'. own_looked st m k m' S.legal S.own S.replies };
+}
+
 /// Read state, for the last time: the client's slot goes home empty. It is the project's own.
 pub struct GiveSlot;
 

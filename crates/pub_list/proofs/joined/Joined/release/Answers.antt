@@ -1,4 +1,4 @@
-use Rattle.std.proofs.Common.{◌≡◌, ◌-◌, ◌∙◌, sym, ap, subst, arith}
+use Rattle.std.proofs.Common.{◌∙◌, sym, ap, subst, arith}
 use Rattle.pub_rule.proofs.Numbers.{lock_within}
 use Rattle.pub_rule.specs.Work.{IsClient}
 use Rattle.pub_list.specs.Combining.{IsCombining, OwesNothing}

@@ -1,7 +1,7 @@
-use Rattle.std.proofs.Common.{◌+◌, ◌∙◌, ap, refl, arith}
+use Rattle.std.proofs.Common.{◌+◌, ◌∙◌, ap, arith}
 use Rattle.pub_rule.proofs.Numbers.{lock_within}
 use Rattle.pub_list.proofs.Working.{is_client}
-use Rattle.pub_list.proofs.Seizing.{lock_seizes, met_joined, small_found, meets, holds_one, is_state, seizes, seized_joined}
+use Rattle.pub_list.proofs.Seizing.{lock_seizes, met_joined, holds_one, seized_joined}
 use Rattle.pub_list.proofs.joined.Joined.seize.Goals as goal
 
 pub compare_exchange-found-requires : goal.compare_exchange-found-requires
