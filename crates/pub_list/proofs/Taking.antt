@@ -15,6 +15,7 @@ use Rattle.pub_rule.specs.Words.{state_word}
 use Rattle.pub_rule.proofs.Numbers.{state_from_state}
 use Rattle.pub_list.specs.Joined.{IsJoined, IsWorking, own_slot, with_state, with_taken}
 use Rattle.pub_list.proofs.Working.{slot_in, rejoined}
+use Rattle.pub_rule.specs.declared.work.Stage.TheVariants.{Asking}
 use Rattle.pub_rule.specs.Work.{IsClient, Serves}
 use Rattle.pub_rule.specs.WorkSteps.{with_work, taking, resuming, dealt, call_taken, call_resumed}
 use Rattle.pub_rule.proofs.Combiner.{take}
@@ -69,7 +70,7 @@ module _ {E C R S : Type 0} where
       call_was = (did.0 hit).1
 
       me_then : mid.me ≡ (with_work (taking r call_was old.me.0.work) old.me.0, (r, slots.Call call_was) ∷ old.me.1)
-      me_then = (did.0 hit).4 ∙ (λ i. (with_work (taking (itself i) call_was old.me.0.work) old.me.0, (itself i, slots.Call call_was) ∷ old.me.1))
+      me_then = (did.0 hit).5 ∙ (λ i. (with_work (taking (itself i) call_was old.me.0.work) old.me.0, (itself i, slots.Call call_was) ∷ old.me.1))
 
       pub holds_one : (x : Slot C R S) × (mid.me.1 ≡ (r, x) ∷ rest mid.me.1)
       holds_one = (slots.Call call_was, ap (λ (m : Me (Slot C R S) (View (Work E C R))). m.1) me_then ∙ ap (λ (m : Me (Slot C R S) (View (Work E C R))). (r, slots.Call call_was) ∷ rest m.1) (sym me_then))
@@ -82,9 +83,10 @@ module _ {E C R S : Type 0} where
         me_now = put ∙ ap (λ (m : Me (Slot C R S) (View (Work E C R))). (m.0, (r, slots.Empty) ∷ rest m.1)) me_then
 
         pub takes : (call : C) → x ≡ slots.Call call → IsTook owns replies r old.me.0 new.me.0 states.Posted (took.FromPosted call)
-        takes call e = (
+        takes call e = let same : call_was ≡ call = some-injective call_was call (ap call_of (sym is_call ∙ e)) in (
           subst (λ (z : ℕ). length (owns old.me.0.work.seen z) ≡ length (replies old.me.0.work.seen z)) itself (did.0 hit).3,
-          ap (λ (m : Me (Slot C R S) (View (Work E C R))). m.0) me_now ∙ ap (λ (z : C). with_work (taking r z old.me.0.work) old.me.0) (some-injective call_was call (ap call_of (sym is_call ∙ e))),
+          (λ own. (did.0 hit).4 (subst (λ (z : ℕ). IsClient z old.me.0.work.stage) (sym itself) own) ∙ (λ i. Asking (itself i) (same i))),
+          ap (λ (m : Me (Slot C R S) (View (Work E C R))). m.0) me_now ∙ ap (λ (z : C). with_work (taking r z old.me.0.work) old.me.0) same,
         )
 
         pub taken_joined : new.table_id ≡ old.table_id → IsJoined p new

@@ -67,9 +67,7 @@ impl<S: Served> Closing<S> {
             End::Joined(joined) => {
                 let Joined { mut seat, client } = joined;
                 let table = &self.table;
-                table
-                    .shared
-                    .load::<GiveSlot>(&mut seat, state_word(client));
+                table.shared.load::<GiveSlot>(&mut seat, state_word(client));
                 self.merge(seat);
             }
         }
@@ -85,9 +83,7 @@ impl<S: Served> Closing<S> {
         ensures told { told_at_close self.new.first ≡ last_told (work seat) ∷ told_at_close self.old.first }
     {
         let table = &self.table;
-        table
-            .shared
-            .join_seat::<MergeClient>(&mut self.first, seat);
+        table.shared.join_seat::<MergeClient>(&mut self.first, seat);
     }
 
     /// The state, after each client of the list was handed in: its history is as they told. It is the

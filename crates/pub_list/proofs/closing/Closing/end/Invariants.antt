@@ -1,4 +1,4 @@
-use Rattle.std.proofs.Common.{◌≡◌, ℕ, ◌-◌, ◌<◌, false, get_or}
+use Rattle.std.proofs.Common.{◌≡◌, ℕ, ◌<◌, false, get_or}
 use Rattle.std.specs.Slots.{slots_filled, slots_len, slots_items}
 use Rattle.std.specs.Mem.Slots.Ownership.{Filled}
 use Rattle.pub_list.proofs.closing.Closing.end.Given as goal
