@@ -11,11 +11,11 @@ use Rattle.pub_rule.specs.declared.work.Serving.TheVariants.{Nothing}
 use Rattle.pub_rule.specs.declared.served.Slot.{Slot}
 use Rattle.pub_rule.specs.declared.served.Slot.TheVariants as slots
 use Rattle.pub_rule.specs.Rule.{Ruled}
+use Rattle.pub_rule.specs.declared.work.Stage.TheVariants.{Asking}
 use Rattle.pub_rule.specs.Words.{state_word}
 use Rattle.pub_rule.proofs.Numbers.{state_from_state}
 use Rattle.pub_list.specs.Joined.{IsJoined, IsWorking, own_slot, with_state, with_taken}
 use Rattle.pub_list.proofs.Working.{slot_in, rejoined}
-use Rattle.pub_rule.specs.declared.work.Stage.TheVariants.{Asking}
 use Rattle.pub_rule.specs.Work.{IsClient, Serves}
 use Rattle.pub_rule.specs.WorkSteps.{with_work, taking, resuming, dealt, call_taken, call_resumed}
 use Rattle.pub_rule.proofs.Combiner.{take}
@@ -82,11 +82,14 @@ module _ {E C R S : Type 0} where
         me_now : new.me ≡ (with_work (taking r call_was old.me.0.work) old.me.0, (r, slots.Empty) ∷ old.me.1)
         me_now = put ∙ ap (λ (m : Me (Slot C R S) (View (Work E C R))). (m.0, (r, slots.Empty) ∷ rest m.1)) me_then
 
+        same : (call : C) → x ≡ slots.Call call → call_was ≡ call
+        same call e = some-injective call_was call (ap call_of (sym is_call ∙ e))
+
         pub takes : (call : C) → x ≡ slots.Call call → IsTook owns replies r old.me.0 new.me.0 states.Posted (took.FromPosted call)
-        takes call e = let same : call_was ≡ call = some-injective call_was call (ap call_of (sym is_call ∙ e)) in (
+        takes call e = (
           subst (λ (z : ℕ). length (owns old.me.0.work.seen z) ≡ length (replies old.me.0.work.seen z)) itself (did.0 hit).3,
-          (λ own. (did.0 hit).4 (subst (λ (z : ℕ). IsClient z old.me.0.work.stage) (sym itself) own) ∙ (λ i. Asking (itself i) (same i))),
-          ap (λ (m : Me (Slot C R S) (View (Work E C R))). m.0) me_now ∙ ap (λ (z : C). with_work (taking r z old.me.0.work) old.me.0) same,
+          (λ h. (did.0 hit).4 (subst (λ (z : ℕ). IsClient z old.me.0.work.stage) (sym itself) h) ∙ ap (λ (z : ℕ). Asking z call_was) itself ∙ ap (λ (z : C). Asking r z) (same call e)),
+          ap (λ (m : Me (Slot C R S) (View (Work E C R))). m.0) me_now ∙ ap (λ (z : C). with_work (taking r z old.me.0.work) old.me.0) (some-injective call_was call (ap call_of (sym is_call ∙ e))),
         )
 
         pub taken_joined : new.table_id ≡ old.table_id → IsJoined p new

@@ -2,9 +2,9 @@
 use Rattle.std.specs.Prelude.{◌≡◌, ◌≢◌, ◌⊎◌, ℕ, true, ◌+◌, ◌<◌, List, [], ◌∷◌, ◌++◌, length, Result, Ok, Err}
 use Rattle.pub_rule.specs.declared.walk.View.{View}
 use Rattle.pub_rule.specs.declared.work.Work.{Work}
-use Rattle.pub_rule.specs.declared.work.Stage.TheVariants.{Asking}
 use Rattle.pub_rule.specs.declared.work.Serving.TheVariants as servings
 use Rattle.pub_rule.specs.Lists.{IsOn}
+use Rattle.pub_rule.specs.declared.work.Stage.TheVariants.{Asking}
 use Rattle.pub_rule.specs.Work.{GoesOn, IsClient}
 use Rattle.pub_rule.specs.WorkSteps.{with_work, holding, meeting, taking, resuming, dealt, leaving, refusing, released}
 use Rattle.pub_rule.specs.WorkPlays.{replying}
@@ -38,7 +38,7 @@ module _ {E C R : Type 0} where
   MayTake replies client v Parked = IsOwed replies client v
   MayTake replies client v _ = ⊥
 
-  -- it took the record from that word, and if that was posted, each of its client's calls in the history has its reply there, and where the client is the combiner itself, it asks just this; or the word was another one, so a combiner has dealt with each post of this client that was heard of
+  -- it took the record from that word, and if that was posted, each of its client's calls in the history has its reply there, and its own record has the call that it asks; or the word was another one, so a combiner has dealt with each post of this client that was heard of
   abbrev pub IsTook : (List E → ℕ → List C) → (List E → ℕ → List R) → ℕ → View (Work E C R) → View (Work E C R) → WordState → Took C → Type 0
   IsTook own replies client v w Posted (FromPosted c) = (length (own v.work.seen client) ≡ length (replies v.work.seen client)) × (IsClient client v.work.stage → v.work.stage ≡ Asking client c) × (w ≡ with_work (taking client c v.work) v)
   IsTook own replies client v w Posted Not = w ≡ with_work (dealt client v.work) v
