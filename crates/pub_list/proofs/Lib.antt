@@ -7,3 +7,5 @@ mod Seizing
 mod Taking
 mod Walking
 mod Working
+mod Handing
+mod Ended

@@ -1,4 +1,5 @@
 pub mod Asking
+pub mod Closing
 pub mod Combining
 pub mod Fresh
 pub mod Joined

@@ -192,7 +192,7 @@ impl<S: Served> Joined<S> {
 }
 
 // The state that was announced.
-fn state_in<S: Served>(said: Record<S>) -> S
+pub(crate) fn state_in<S: Served>(said: Record<S>) -> S
     requires { (x : S) × (said ≡ slots.State x) }
     ensures { said ≡ slots.State result }
 {

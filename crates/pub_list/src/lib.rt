@@ -5,6 +5,7 @@
 #![tactic(auto)]
 
 mod asking;
+mod closing;
 mod combining;
 mod fresh;
 mod joined;
@@ -12,6 +13,7 @@ mod lists;
 mod records;
 
 pub use asking::Answer;
+pub use closing::{Closing, End};
 pub use combining::Took;
 pub use fresh::Fresh;
 pub use joined::Joined;

@@ -24,8 +24,10 @@ pub(crate) type Place<S> = Seat<Record<S>, Knowledge<S>>;
 #[derive(Drop)]
 pub struct List<S: Served> {
     pub(crate) table: Records<S>,
+    pub(crate) first: Place<S>,
     pub(crate) clients: u32,
     ghost sized: { IsSized table.shared.table_id table.shared.key clients },
+    ghost maker: { (first.table_id ≡ table.shared.table_id) × IsMaker clients first },
 }
 
 impl<S: Served> List<S> {
@@ -49,8 +51,13 @@ impl<S: Served> List<S> {
             Ok(made) => made,
             Err(_) => return Err(AllocError),
         };
-        let fresh = make_clients(alloc, &table, first, clients)?;
-        Ok((List { table, clients }, fresh))
+        let (fresh, first) = make_clients(alloc, &table, first, clients)?;
+        let list = List {
+            table,
+            first,
+            clients,
+        };
+        Ok((list, fresh))
     }
 
     /// The number of clients, 1 to 64. They have the numbers below it. The bound is the project's own.
@@ -78,23 +85,24 @@ fn empty_slots<S: Served>(
     Ok(slots)
 }
 
-// A seat for each client, by its number.
+// A seat for each client, by its number, and the first seat, which made them.
 fn make_clients<S: Served>(
     alloc: Global,
     table: &Records<S>,
     mut first: Place<S>,
     clients: u32,
-) -> Result<Vec<Fresh<S>>, AllocError>
+) -> Result<(Vec<Fresh<S>>, Place<S>), AllocError>
     requires table { IsSized table.now.shared.table_id table.now.shared.key clients }
     requires first { (first.table_id ≡ table.now.shared.table_id) × IsMaker 0 first }
-    ensures count { IfOk result (λ m. length m.items ≡ clients) }
-    ensures numbers { IfOk result (λ m. (k : ℕ) → IfSome (slice_get m.items k) (λ f. f.client ≡ k)) }
-    ensures seats { IfOk result (λ m. All (λ f. f.seat.table_id ≡ table.now.shared.table_id) m.items) }
+    ensures count { IfOk result (λ m. length m.0.items ≡ clients) }
+    ensures numbers { IfOk result (λ m. (k : ℕ) → IfSome (slice_get m.0.items k) (λ f. f.client ≡ k)) }
+    ensures seats { IfOk result (λ m. All (λ f. f.seat.table_id ≡ table.now.shared.table_id) m.0.items) }
+    ensures first { IfOk result (λ m. (m.1.table_id ≡ table.now.shared.table_id) × IsMaker clients m.1) }
 {
     let mut made = Vec::with_capacity(alloc, clients as usize)?;
     for client in 0..clients {
         let seat = table.shared.split_seat::<SplitClient>(&mut first);
         made.push(Fresh { seat, client })?;
     }
-    Ok(made)
+    Ok((made, first))
 }

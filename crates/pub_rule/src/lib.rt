@@ -12,6 +12,7 @@ mod steps;
 mod walk;
 mod words;
 mod work;
+mod work_joins;
 pub mod work_laws;
 pub mod work_splits;
 mod work_steps;
@@ -22,6 +23,7 @@ pub use steps::{ExchangeHead, LoadHead, LoadNext, MergeToken, SplitClient, Split
 pub use walk::{Role, View, Walk};
 pub use words::{head_word, lock_word, next_word, state_word, word_count};
 pub use work::{Closed, Serving, Stage, Work};
+pub use work_joins::MergeClient;
 pub use work_steps::{
     AnswerCall, CollectReply, FetchSlot, GiveSlot, LookAt, LookOwn, ParkCall, PostCall, RefuseCall,
     ReleaseState, SeizeState, TakeParked, TakePosted,
