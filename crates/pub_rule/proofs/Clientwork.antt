@@ -93,6 +93,7 @@ module _ {E C R S : Type 0} (history : S → List E) (legal : List E → Type 0)
         token = k.token;
         combines = λ e. let b = k.combines e in record { client = b.client; seen = refl; before = b.before; paid = b.paid; serving = b.serving };
         saw = all_of r.desk.hist;
+        was_told = k.was_told;
         met = k.met;
         heard = k.heard;
         passed = k.passed;
@@ -160,7 +161,8 @@ module _ {E C R S : Type 0} (history : S → List E) (legal : List E → Type 0)
         omega arith,
         (λ past e. dealt_unposted o.phase (cl.past past) (sym word ∙ e)),
         (λ ready. word ∙ cl.ready ready),
-        λ f. waiting r.desk q o c o.phase v cl.entered cl.got flies (⊎_elim (λ e. inl (sym word ∙ e)) (λ t. inr (cl.past t.0, λ e. t.1 (word ∙ e))) f) rec.phase,
+        (λ f. waiting r.desk q o c o.phase v cl.entered cl.got flies (⊎_elim (λ e. inl (sym word ∙ e)) (λ t. inr (cl.past t.0, λ e. t.1 (word ∙ e))) f) rec.phase),
+        k.was_told,
       )
 
   at_zero : (p : Phase C R) → (p ≡ away) ⊎ (p ≡ free) → (word_of p ≢ 0) → ⊥
@@ -189,7 +191,7 @@ module _ {E C R S : Type 0} (history : S → List E) (legal : List E → Type 0)
   idle_look words homes works r id q st me at was idle = let v : Work E C R = me.0.work in let k = r.each_seat id v at in let cl = k.client q was in let o : Client E C R = r.truth q in let few = r.few in let small = cl.made_it in let inside : q < n = omega arith in let rec = r.each_client q inside in
       let F : Phase C R → Type 0 = λ p. (word_of p ≡ 0) × (own r.desk.hist q ≡ o.entered) × (replies r.desk.hist q ≡ o.got) in
       let at_rest : (p : Phase C R) → (p ≡ away) ⊎ (p ≡ free) → IsInPhase own replies r.desk q (record o { phase = p }) → F p = λ p e h. resting r.desk q o p e h in
-      let f : F o.phase = at_rest o.phase (idle_phase v.stage o.phase idle cl.stage) rec.phase in (q, r.desk.hist, was, idle, refl, k.saw, r.is_legal, rec.word ∙ f.0, f.1 ∙ sym cl.entered, f.2 ∙ sym cl.got)
+      let f : F o.phase = at_rest o.phase (idle_phase v.stage o.phase idle cl.stage) rec.phase in (q, r.desk.hist, was, idle, refl, k.saw, r.is_legal, rec.word ∙ f.0, f.1 ∙ sym cl.entered, f.2 ∙ sym cl.got, k.was_told)
 
   own_look : (words : List ℕ) (homes : List (Option (Slot C R S))) (works : List (Work E C R)) (r : Serves history legal own replies n words homes works) (id q : ℕ) (st : Step (Slot C R S)) (me : Me (Slot C R S) (View (Work E C R))) → get_elem? works id ≡ some me.0.work → IsClient q me.0.work.stage
       → own_looked st me (get_or words (state_word q) 0) (with_work (seeing r.desk.hist (eqb (get_or words (state_word q) 0) 4) me.0.work) me.0, me.1) legal own replies

@@ -74,6 +74,7 @@ module _ {E C R S : Type 0} (history : S → List E) (legal : List E → Type 0)
       token = λ r e. absurd (subst is_spent e tt);
       combines = λ e. absurd (false≢true e);
       saw = (s.desk.hist, refl);
+      was_told = (s.desk.hist, refl);
       met = λ r h. absurd h;
       heard = λ r m h. absurd h;
       passed = λ r m h. absurd h;
@@ -99,6 +100,7 @@ module _ {E C R S : Type 0} (history : S → List E) (legal : List E → Type 0)
       token = t.token;
       combines = t.combines;
       saw = t.saw;
+      was_told = t.was_told;
       met = t.met;
       heard = t.heard;
       passed = t.passed;
@@ -138,6 +140,7 @@ module _ {E C R S : Type 0} (history : S → List E) (legal : List E → Type 0)
       token = t.token;
       combines = λ h. let b = t.combines h in record { client = b.client; seen = b.seen; before = b.before; paid = b.paid; serving = b.serving };
       saw = t.saw;
+      was_told = t.was_told;
       met = t.met;
       heard = t.heard;
       passed = t.passed;

@@ -156,6 +156,7 @@ module _ {E C R S : Type 0} (history : S → List E) (legal : List E → Type 0)
           token = k.token;
           combines = λ h. let c = k.combines h in record { client = c.client; seen = c.seen; before = c.before; paid = c.paid; serving = c.serving };
           saw = k.saw;
+          was_told = k.was_told;
           met = k.met;
           heard = k.heard;
           passed = λ i j m. ⊎_elim (λ (h : (i ≡ q) × IsMarked i j v.heard). let g = k.heard i j h.1 in (g.0, g.1, λ _. subst (λ (z : ℕ). IsDealt (r.truth z).phase) (sym h.0) deal)) (k.passed i j) (marks_are q i j v.heard v.passed m);

@@ -62,7 +62,7 @@ module _ {E C R S : Type 0} (history : S → List E) (legal : List E → Type 0)
           holds = λ _. refl;
           waits = λ e. absurd (false≢true (sym e));
         })
-        (λ _. record { client = (p, was); seen = refl; before = sym u.before; paid = sym u.paid; serving = sym u.nothing }) (all_of s.desk.hist)
+        (λ _. record { client = (p, was); seen = refl; before = sym u.before; paid = sym u.paid; serving = sym u.nothing }) (all_of s.desk.hist) (s.each_seat id v at).was_told
         (met_still history legal own replies n words homes works s id p t f id v at) (heard_still history legal own replies n words homes works s id p t f id v at) (passed_still history legal own replies n words homes works s id p t f id v at))
 
   pub seize : KeptBySeize history legal own replies n
@@ -102,6 +102,7 @@ module _ {E C R S : Type 0} (history : S → List E) (legal : List E → Type 0)
               token = k.token;
               combines = λ e. let b = k.combines e in record { client = b.client; seen = b.seen; before = b.before; paid = b.paid; serving = b.serving };
               saw = k.saw;
+              was_told = k.was_told;
               met = λ q on. ⊎_elim (λ (e : q ≡ c). subst (λ (z : ℕ). (z < r.made) × (1 ≤ (r.truth z).begun)) (sym e) (h.client, h.begun)) (λ t. k.met q t) on;
               heard = k.heard;
               passed = k.passed;
@@ -178,7 +179,7 @@ module _ {E C R S : Type 0} (history : S → List E) (legal : List E → Type 0)
               holds = λ e. absurd (false≢true e);
               waits = λ _ e. absurd (omega arith);
             })
-            (λ e. absurd (false≢true e)) k.saw
+            (λ e. absurd (false≢true e)) k.saw k.was_told
             (met_still history legal own replies n st.words st.homes st.views s id p o (follows_itself o) id v at) (heard_still history legal own replies n st.words st.homes st.views s id p o (follows_itself o) id v at)
             (passed_still history legal own replies n st.words st.homes st.views s id p o (follows_itself o) id v at)),
         refl,

@@ -128,6 +128,7 @@ module _ {E C R S : Type 0} (history : S → List E) (legal : List E → Type 0)
         token = λ r is. let c = k.token r is in let a = (follow r).posts in let b = c.1 in (c.0, omega arith);
         combines = λ h. combine j u other at h (k.combines h);
         saw = goes_on u.seen k.saw;
+        was_told = goes_on u.hearsay k.was_told;
         met = met_still j u at;
         heard = heard_still j u at;
         passed = passed_still j u at;
@@ -178,16 +179,17 @@ module _ {E C R S : Type 0} (history : S → List E) (legal : List E → Type 0)
   lock_else q x = get_or-set_other words (state_word q) lock_word x 0 (λ e. state_from_lock q (sym e))
 
   -- the seat that steps is client p's
-  pub mine_by : (id q : ℕ) (t : Client E C R) (lock' : ℕ) (desk' : Desk E C) (p : ℕ) (w : Work E C R) → IsClient p w.stage → Tells s.made s.done s.seat lock' id p w (put s.truth q t p) → (w.holds ≡ true → Combines desk' w) → GoesOn w.seen desk'.hist
+  pub mine_by : (id q : ℕ) (t : Client E C R) (lock' : ℕ) (desk' : Desk E C) (p : ℕ) (w : Work E C R) → IsClient p w.stage → Tells s.made s.done s.seat lock' id p w (put s.truth q t p) → (w.holds ≡ true → Combines desk' w) → GoesOn w.seen desk'.hist → GoesOn w.hearsay desk'.hist
       → ((r : ℕ) → IsOn r w.met → (r < s.made) × (1 ≤ (put s.truth q t r).begun)) → ((r k : ℕ) → IsMarked r k w.heard → (r < s.made) × (k ≤ (put s.truth q t r).posts))
       → ((r k : ℕ) → IsMarked r k w.passed → (r < s.made) × (k ≤ (put s.truth q t r).posts) × ((put s.truth q t r).posts ≡ k → IsDealt (put s.truth q t r).phase))
       → Trusts s.made s.done s.seat (put s.truth q t) lock' desk' id w
-  mine_by id q t lock' desk' p w is tells combines saw met heard passed = record {
+  mine_by id q t lock' desk' p w is tells combines saw was_told met heard passed = record {
     maker = λ k e. absurd (subst (IsClient p) e is);
     client = λ r h. subst (λ (z : ℕ). Tells s.made s.done s.seat lock' id z w (put s.truth q t z)) (one_client p r w.stage is h) tells;
     token = λ r e. absurd (subst (IsClient p) e is);
     combines = combines;
     saw = saw;
+    was_told = was_told;
     met = met;
     heard = heard;
     passed = passed;
@@ -235,7 +237,7 @@ module _ {E C R S : Type 0} (history : S → List E) (legal : List E → Type 0)
         holds = c.holds;
         waits = c.waits;
       })
-      (λ h. let b = k.combines h in record { client = (q, is); seen = still h; before = b.before; paid = b.paid; serving = b.serving }) saw (met_still id q t f id v at) (heard_still id q t f id v at) (passed_still id q t f id v at)))
+      (λ h. let b = k.combines h in record { client = (q, is); seen = still h; before = b.before; paid = b.paid; serving = b.serving }) saw k.was_told (met_still id q t f id v at) (heard_still id q t f id v at) (passed_still id q t f id v at)))
     where
       nil_behind : (list : List E) → list ≡ list ++ []
       nil_behind [] = refl
@@ -279,7 +281,7 @@ module _ {E C R S : Type 0} (history : S → List E) (legal : List E → Type 0)
         holds = c.holds;
         waits = c.waits;
       }
-      (λ _. record { client = (p, was); seen = refl; before = refl; paid = refl; serving = refl }) (all_hist desk'.hist) (met_still id q t f id v at) (heard_still id q t f id v at)
+      (λ _. record { client = (p, was); seen = refl; before = refl; paid = refl; serving = refl }) (all_hist desk'.hist) (goes_on id q t f (λ _. stay) lock desk' on (λ _ _. (λ e. e, λ e. e)) (λ j u other there h _. absurd (sole id p v at was holds j u other there h)) v.hearsay k.was_told) (met_still id q t f id v at) (heard_still id q t f id v at)
       (λ r k m. ⊎_elim (λ b. passed_still id q t f id v at r k b) (λ (d : (r ≡ q) × IsMarked r k v.heard × IsDealt t.phase). let h = heard_still id q t f id v at r k d.1 in (h.0, h.1, λ _. put_case (λ b. IsDealt b.phase) s.truth q t r (λ _. d.2) (λ other. absurd (other d.0)))) (marks r k m)))
     where
       all_hist : (h : List E) → GoesOn h h

@@ -14,44 +14,13 @@ use Rattle.pub_rule.specs.Words.{lock_word, state_word, word_count}
 use Rattle.pub_rule.specs.Rule.{LetsSplit, LetsMerge, slots_of}
 use Rattle.pub_rule.specs.Deaf.{opening_work}
 use Rattle.pub_rule.specs.Served.{StartsEmpty, HasNoMoreReplies}
-use Rattle.pub_rule.specs.Work.{GoesOn, IsMarked, unmade, IsClient, Tells, Makes, Trusts, Serves}
-use Rattle.pub_rule.specs.WorkSplits.{owner_of, seats_of, longer, is_marked, more_seats, new_client, telling, taught, spent_work, maker_after, client_made, token_made, view_taught, view_spent, Opens, KeptByClientSplit, KeptByTokenSplit, KeptByTokenMerge}
+use Rattle.pub_rule.specs.Work.{IsMarked, unmade, IsClient, Tells, Makes, Trusts, Serves}
+use Rattle.pub_rule.specs.WorkSplits.{owner_of, seats_of, is_marked, more_seats, new_client, telling, taught, spent_work, maker_after, client_made, token_made, view_taught, view_spent, Opens, KeptByClientSplit, KeptByTokenSplit, KeptByTokenMerge}
 use Rattle.pub_rule.specs.Lists.{IsOn}
-use Rattle.pub_rule.proofs.Clientwork.{all_of}
 use Rattle.pub_rule.proofs.Told.{told_by}
 use Rattle.pub_rule.proofs.Kept.{starts}
 use Rattle.pub_rule.proofs.Tables.{split_client, split_token, merge_token}
 use Rattle.pub_rule.proofs.Moves.{put, put_case, put_at, view_step}
-
--- lists
-abbrev tail_of : {A : Type 0} → List A → List A
-tail_of [] = []
-tail_of (x ∷ xs) = xs
-
-abbrev head_or : {A : Type 0} → A → List A → A
-head_or a [] = a
-head_or a (x ∷ xs) = x
-
-module _ {E : Type 0} where
-  nothing_behind : (x : E) (l : List E) → [] ≡ x ∷ l → ⊥
-  nothing_behind x l e = let size = ap length e in omega arith
-
-  pub longer_begins : (h k hist : List E) → GoesOn h hist → GoesOn k hist → GoesOn (longer h k) hist × GoesOn h (longer h k) × GoesOn k (longer h k)
-  longer_begins [] k hist g f = (f, (k, refl), all_of k)
-  longer_begins (x ∷ h) [] hist g f = (g, all_of (x ∷ h), (x ∷ h, refl))
-  longer_begins (x ∷ h) (y ∷ k) [] g f = absurd (nothing_behind x (h ++ g.0) g.1)
-  longer_begins (x ∷ h) (y ∷ k) (z ∷ hist) g f = let a = longer_begins h k hist (g.0, ap tail_of g.1) (f.0, ap tail_of f.1) in
-      let zx : z ≡ x = ap (head_or z) g.1 in let zy : z ≡ y = ap (head_or z) f.1 in let xy : x ≡ y = sym zx ∙ zy in (
-        (a.0.0, λ i. zx i ∷ a.0.1 i),
-        (a.1.0, ap (λ (l : List E). x ∷ l) a.1.1),
-        (a.2.0, λ i. xy i ∷ a.2.1 i),
-      )
-
-  pub longer_whole : (h k : List E) → GoesOn k h → longer h k ≡ h
-  longer_whole [] [] g = refl
-  longer_whole [] (y ∷ k) g = absurd (nothing_behind y (k ++ g.0) g.1)
-  longer_whole (x ∷ h) [] g = refl
-  longer_whole (x ∷ h) (y ∷ k) g = ap (λ (l : List E). x ∷ l) (longer_whole h k (g.0, ap tail_of g.1))
 
 -- posts that are marked
 or_true : (a b : Bool) → (a || b) ≡ true → (a ≡ true) ⊎ (b ≡ true)
@@ -122,6 +91,7 @@ module _ {E C R S : Type 0} (history : S → List E) (legal : List E → Type 0)
       token = λ q e. let same : q ≡ r = sym (ap owner_of e) ∙ owner_is r v.stage is in subst (λ (z : ℕ). (z < s.made) × (v.posts ≤ (s.truth z).posts)) (sym same) (c.made_it, (let p = c.posts in omega arith));
       combines = λ e. absurd (false≢true e);
       saw = k.saw;
+      was_told = (s.desk.hist, refl);
       met = λ q h. absurd h;
       heard = λ q m h. absurd h;
       passed = k.passed;
@@ -135,6 +105,7 @@ module _ {E C R S : Type 0} (history : S → List E) (legal : List E → Type 0)
       token = λ q e. absurd (subst is_token (sym e) tt);
       combines = λ e. absurd (false≢true e);
       saw = (s.desk.hist, refl);
+      was_told = (s.desk.hist, refl);
       met = λ q h. absurd h;
       heard = λ q m h. absurd h;
       passed = λ q m h. absurd h;
@@ -162,12 +133,13 @@ module _ {E C R S : Type 0} (history : S → List E) (legal : List E → Type 0)
       token = λ p e. k.token p e;
       combines = λ h. let b = k.combines h in record {
         client = b.client;
-        seen = longer_whole v.seen w.seen (subst (GoesOn w.seen) (sym b.seen) f.saw) ∙ b.seen;
+        seen = b.seen;
         before = b.before;
         paid = b.paid;
         serving = b.serving;
       };
-      saw = (longer_begins v.seen w.seen s.desk.hist k.saw f.saw).0;
+      saw = k.saw;
+      was_told = f.saw;
       met = k.met;
       heard = λ p m h. ⊎_elim (λ (e : (p ≡ owner_of w.stage) × (m ≡ w.posts)). (let t = f.token r token in let same : p ≡ r = e.0 ∙ ap owner_of token in
           subst (λ (z : ℕ). (z < s.made) × (m ≤ (s.truth z).posts)) (sym same) (t.0, (let a = e.1 in let b = t.1 in omega arith)))) (k.heard p m) h;
@@ -224,6 +196,7 @@ module _ {E C R S : Type 0} (history : S → List E) (legal : List E → Type 0)
       token = λ r e. let a = t.token r e in let small = a.0 in (omega arith, a.1);
       combines = t.combines;
       saw = t.saw;
+      was_told = t.was_told;
       met = λ r h. let a = t.met r h in let small = a.0 in (omega arith, a.1);
       heard = λ r m h. let a = t.heard r m h in let small = a.0 in (omega arith, a.1);
       passed = λ r m h. let a = t.passed r m h in let small = a.0 in (omega arith, a.1, a.2);
@@ -253,6 +226,7 @@ module _ {E C R S : Type 0} (history : S → List E) (legal : List E → Type 0)
       token = λ r e. absurd (subst is_token (sym e) tt);
       combines = λ h. let b = t.combines h in absurd (subst (IsClient b.client.0) is b.client.1);
       saw = t.saw;
+      was_told = t.was_told;
       met = λ r h. let a = t.met r h in let small = a.0 in (omega arith, a.1);
       heard = λ r m h. let a = t.heard r m h in let small = a.0 in (omega arith, a.1);
       passed = λ r m h. let a = t.passed r m h in let small = a.0 in (omega arith, a.1, a.2);
@@ -279,6 +253,7 @@ module _ {E C R S : Type 0} (history : S → List E) (legal : List E → Type 0)
       token = λ r e. absurd (subst is_token (sym e) tt);
       combines = λ e. absurd (false≢true e);
       saw = (s.desk.hist, refl);
+      was_told = (s.desk.hist, refl);
       met = λ q h. absurd h;
       heard = λ q m h. absurd h;
       passed = λ q m h. absurd h;
@@ -375,6 +350,7 @@ module _ {E C R S : Type 0} (history : S → List E) (legal : List E → Type 0)
         token = λ r e. absurd (subst is_token (sym e) tt);
         combines = λ e. absurd (false≢true e);
         saw = ([], refl);
+        was_told = ([], refl);
         met = λ q h. absurd h;
         heard = λ q m h. absurd h;
         passed = λ q m h. absurd h;

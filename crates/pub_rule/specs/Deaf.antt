@@ -14,6 +14,7 @@ opening_work = record {
   stage = Maker 0;
   holds = false;
   seen = [];
+  hearsay = [];
   before = [];
   paid = [];
   serving = Nothing;

@@ -247,6 +247,8 @@ module _ {E C R : Type 0} where
     pub combines : v.holds ≡ true → Combines d v
     -- the history that it saw is the beginning of the history
     pub saw : GoesOn v.seen d.hist
+    -- and so is the one that it was told
+    pub was_told : GoesOn v.hearsay d.hist
     -- who was found to combine has begun to
     pub met : (r : ℕ) → IsOn r v.met → (r < made) × (1 ≤ (truth r).begun)
     -- the posts heard of were made

@@ -26,12 +26,6 @@ abbrev pub seats_of : {C : Type 0} → Stage C → ℕ
 seats_of (Maker k) = k
 seats_of _ = 0
 
--- the longer of two histories, of which one goes on from the other
-abbrev pub longer : {E : Type 0} → List E → List E → List E
-longer [] k = k
-longer (x ∷ h) [] = x ∷ h
-longer (x ∷ h) (y ∷ k) = x ∷ longer h k
-
 -- whether the post is among those marked
 abbrev pub is_marked : ℕ → ℕ → List (ℕ × ℕ) → Bool
 is_marked r k [] = false
@@ -56,7 +50,7 @@ module _ {E C R : Type 0} where
   -- merge: a client takes in what a token tells
   abbrev pub taught : Work E C R → Work E C R → Work E C R
   taught v w = record v {
-    seen = longer v.seen w.seen;
+    hearsay = w.seen;
     heard = (owner_of w.stage, w.posts) ∷ v.heard;
     passed = w.passed ++ v.passed;
     past = v.past || is_marked (owner_of v.stage) v.posts w.passed;

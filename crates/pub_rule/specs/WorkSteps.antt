@@ -119,11 +119,11 @@ module _ {E C R S : Type 0} (st : Step (Slot C R S)) (m : Me (Slot C R S) (View 
     -- read state of the own record, while a call is in flight: the history is seen; where the word is 3, or a combiner is known to have dealt with the call that isn't answered, the call waits
     abbrev pub own_seen : Type 0
     own_seen = (q : ℕ) × (c : C) × (h : List E) × (m.0.work.stage ≡ Asking q c) × (m' ≡ (with_work (seeing h (k == 4) m.0.work) m.0, m.1)) × GoesOn m.0.work.seen h × legal h × (0 < k) × (k < 5)
-        × (m.0.work.past ≡ true → k ≢ 1) × (m.0.work.ready ≡ true → k ≡ 4) × ((k ≡ 3) ⊎ ((m.0.work.past ≡ true) × (k ≢ 4)) → IsWaiting own replies q c h m.0.work)
+        × (m.0.work.past ≡ true → k ≢ 1) × (m.0.work.ready ≡ true → k ≡ 4) × ((k ≡ 3) ⊎ ((m.0.work.past ≡ true) × (k ≢ 4)) → IsWaiting own replies q c h m.0.work) × GoesOn m.0.work.hearsay h
 
     -- and where none is: the history that is seen has just the calls entered and the replies got
     abbrev pub idle_seen : Type 0
-    idle_seen = (q : ℕ) × (h : List E) × IsClient q m.0.work.stage × IsIdle m.0.work.stage × (m' ≡ (with_work (seeing h (k == 4) m.0.work) m.0, m.1)) × GoesOn m.0.work.seen h × legal h × (k ≡ 0) × (own h q ≡ m.0.work.entered) × (replies h q ≡ m.0.work.got)
+    idle_seen = (q : ℕ) × (h : List E) × IsClient q m.0.work.stage × IsIdle m.0.work.stage × (m' ≡ (with_work (seeing h (k == 4) m.0.work) m.0, m.1)) × GoesOn m.0.work.seen h × legal h × (k ≡ 0) × (own h q ≡ m.0.work.entered) × (replies h q ≡ m.0.work.got) × GoesOn m.0.work.hearsay h
 
     abbrev pub own_looked : Type 0
     own_looked = own_seen ⊎ idle_seen

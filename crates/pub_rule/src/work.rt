@@ -57,6 +57,8 @@ pub struct Work<E, C, R> {
     pub holds: bool,
     /// The history as the seat saw it last.
     pub seen: LinkedList<E>,
+    /// The history that another client told it last.
+    pub hearsay: LinkedList<E>,
     /// A combiner's history before the last event.
     pub before: LinkedList<E>,
     /// The clients that the combiner has answered since.
