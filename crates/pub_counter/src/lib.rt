@@ -5,7 +5,12 @@
 mod combining_tests;
 mod counter;
 pub mod service;
+mod swap;
+pub mod swapping;
+#[cfg(test)]
+mod swapping_tests;
 #[cfg(test)]
 mod tests;
 
 pub use counter::{Counter, Turn};
+pub use swap::Swap;
