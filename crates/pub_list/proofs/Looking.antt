@@ -64,7 +64,7 @@ module _ {E C R : Type 0} where
 module _ {E C R S : Type 0} where
   module _ (legal : List E → Type 0) (owns : List E → ℕ → List C) (replies : List E → ℕ → List R) (client k : ℕ) (old mid : Seat (Slot C R S) (View (Work E C R))) (own : IsJoined client old) (did : own_looked (step 0 0 0 0 none) old.me k mid.me legal owns replies) where
     abbrev Then : Type 0
-    Then = (h : List E) × (mid.me ≡ (with_work (seeing h (eqb k 4) old.me.0.work) old.me.0, old.me.1)) × GoesOn old.me.0.work.seen h × legal h × (k < 5) × Shows owns replies client h old.me.0.work (state_at k) old.me.0.work.stage
+    Then = (h : List E) × (mid.me ≡ (with_work (seeing h (eqb k 4) old.me.0.work) old.me.0, old.me.1)) × GoesOn old.me.0.work.seen h × GoesOn old.me.0.work.hearsay h × legal h × (k < 5) × Shows owns replies client h old.me.0.work (state_at k) old.me.0.work.stage
 
     sees : Then
     sees = ⊎_elim
@@ -72,6 +72,7 @@ module _ {E C R S : Type 0} where
           t.2,
           t.4,
           t.5,
+          t.12,
           t.6,
           t.8,
           subst (Shows owns replies client t.2 old.me.0.work (state_at k)) (sym t.3) (
@@ -85,6 +86,7 @@ module _ {E C R S : Type 0} where
           t.1,
           t.4,
           t.5,
+          t.10,
           t.6,
           omega arith,
           idle_shows owns replies client t.1 old.me.0.work (state_at k) old.me.0.work.stage t.3 (
@@ -96,10 +98,10 @@ module _ {E C R S : Type 0} where
         did
 
     pub looks : IsLooked legal owns replies client old.me.0 mid.me.0 (state_at k)
-    looks = let t = sees in (t.0, t.2, t.3, ap (λ (m : Me (Slot C R S) (View (Work E C R))). m.0) t.1 ∙ ap (λ b. with_work (seeing t.0 b old.me.0.work) old.me.0) (four_at k t.4), t.5)
+    looks = let t = sees in (t.0, t.2, t.3, t.4, ap (λ (m : Me (Slot C R S) (View (Work E C R))). m.0) t.1 ∙ ap (λ b. with_work (seeing t.0 b old.me.0.work) old.me.0) (four_at k t.5), t.6)
 
     pub below_five : k < 5
-    below_five = sees.4
+    below_five = sees.5
 
     pub looked_joined : mid.table_id ≡ old.table_id → IsJoined client mid
     looked_joined same = rejoined client old mid own same (ap (λ (m : Me (Slot C R S) (View (Work E C R))). m.0.walk) sees.1)

@@ -1,5 +1,5 @@
 -- The steps of a client at a word that the code names, and its seat after them.
-use Rattle.std.proofs.Common.{◌≡◌, ℕ, zero, suc, eqb, ◌+◌, ◌-◌, ◌<◌, ◌≤◌, List, [], ◌∷◌, ◌++◌, length, replicate, IfSome, sym, refl, ap, ◌∙◌, subst, inl, inr, ⊎_elim, arith, Some, None, ne_eqb}
+use Rattle.std.proofs.Common.{◌≡◌, ℕ, zero, suc, eqb, ◌+◌, ◌-◌, ◌<◌, ◌≤◌, List, [], ◌∷◌, ◌++◌, length, replicate, IfSome, sym, refl, ap, ◌∙◌, subst, inl, inr, ⊎_elim, arith, Some, None, ne_eqb, Bool, true, false, ◌||◌, ◌&&◌, eq-eqb}
 use mathlib.Core.Bool.{cond}
 use Rattle.std.specs.List.{slice_get}
 use mathlib.Core.Option.{Option, none}
@@ -13,9 +13,9 @@ use Rattle.pub_rule.specs.Words.{head_word, next_word, state_word, word_count}
 use Rattle.pub_rule.specs.Lists.{IsOn, IsListOf, EndsWith, link_to, head_of, after}
 use Rattle.pub_rule.specs.Rule.{Ruled, slots_of, opening_view}
 use Rattle.pub_rule.specs.Deaf.{opening_work, deaf, deep}
-use Rattle.pub_rule.specs.Work.{Serves}
+use Rattle.pub_rule.specs.Work.{IsMarked, Serves}
 use Rattle.pub_rule.specs.WorkSteps.{slot_fetched}
-use Rattle.pub_rule.specs.WorkSplits.{Opens, token_made, view_taught, taught, telling}
+use Rattle.pub_rule.specs.WorkSplits.{Opens, token_made, view_taught, taught, is_marked}
 use Rattle.pub_rule.specs.declared.work.Work.{Work}
 use Rattle.pub_rule.specs.declared.work.Stage.TheVariants.{Away}
 use Rattle.pub_rule.proofs.Clientwork.{fetch}
@@ -23,6 +23,9 @@ use Rattle.pub_rule.specs.declared.served.Slot.{Slot}
 use Rattle.pub_rule.specs.Steps.{IsKnown, with_list, with_walk, head_loaded, next_stored, head_exchanged, next_loaded, client_of}
 use Rattle.pub_rule.proofs.Clients.{by_equal}
 use Rattle.pub_rule.proofs.Tables.{load_head, store_next, exchange_head, load_next}
+use Rattle.pub_list.specs.Records.{IsLooked}
+use Rattle.pub_list.specs.Telling.{IsTaught}
+use Rattle.pub_list.specs.declared.records.WordState.{WordState}
 use Rattle.pub_list.specs.Joined.{IsJoined, IsWorking, SeesAll, SeesFrom, client_at, seen, told, work}
 
 pub link_small : (n : ℕ) (list : List ℕ) → IsListOf n list → link_to list ≤ n
@@ -112,8 +115,11 @@ module _ {E C R S : Type 0} where
 
 module _ {E C R S : Type 0} (client teacher : ℕ) (old new from said : Seat (Slot C R S) (View (Work E C R))) (own : IsJoined client old) (its : IsJoined teacher from) (z : TableId) (at : old.table_id ≡ z) (there : from.table_id ≡ z) (same : new.table_id ≡ old.table_id)
     (tells : said.me ≡ (token_made from.me.0, [])) (did : new.me ≡ (view_taught old.me.0 said.me.0, old.me.1)) where
-  pub works_more : work new ≡ taught (work old) (telling (work from))
-  works_more = ap (λ (m : Me (Slot C R S) (View (Work E C R))). m.0.work) did ∙ ap (λ (m : Me (Slot C R S) (View (Work E C R))). taught (work old) m.0.work) tells
+  pub teaches : new.me.0 ≡ view_taught old.me.0 (token_made from.me.0)
+  teaches = ap (λ (m : Me (Slot C R S) (View (Work E C R))). m.0) did ∙ ap (λ (m : Me (Slot C R S) (View (Work E C R))). view_taught old.me.0 m.0) tells
+
+  pub is_taught : (legal : List E → Type 0) (owns : List E → ℕ → List C) (replies : List E → ℕ → List R) (then : Seat (Slot C R S) (View (Work E C R))) (s : WordState) → IsLooked legal owns replies client new.me.0 then.me.0 s → IsTaught legal owns replies client old.me.0 from.me.0 then.me.0
+  is_taught legal owns replies then s looked = let t = subst (λ (v : View (Work E C R)). IsLooked legal owns replies client v then.me.0 s) teaches looked in (t.0, s, t.1, t.2, t.3, t.4, t.5)
 
   pub told_more : told new ≡ teacher ∷ told old
   told_more = ap (λ (m : Me (Slot C R S) (View (Work E C R))). m.0.walk.known) did ∙ (ap (λ (m : Me (Slot C R S) (View (Work E C R))). m.0.walk.known ++ told old) tells ∙ ap (λ (c : ℕ). c ∷ told old) (ap client_of its.role))
@@ -130,6 +136,21 @@ module _ {E C R S : Type 0} (client teacher : ℕ) (old new from said : Seat (Sl
     others = λ c h. subst (λ (z : TableId). c < z.slots - 1) (sym same) (⊎_elim (λ (e : c ≡ teacher). subst (λ (y : TableId). c < y.slots - 1) (there ∙ sym at) (let small = its.small in omega arith)) (own.others c)
         (subst (IsOn c) told_more h));
   }
+
+-- a post that is marked
+pub is_marked_by : (r k : ℕ) (l : List (ℕ × ℕ)) → IsMarked r k l → is_marked r k l ≡ true
+is_marked_by r k [] h = absurd h
+is_marked_by r k (x ∷ xs) h = ⊎_elim (λ (e : (r ≡ x.0) × (k ≡ x.1)). (λ i. (eqb (e.0 i) x.0 && eqb (e.1 i) x.1) || is_marked r k xs) ∙ ((λ i. (eq-eqb x.0 x.0 refl i && eq-eqb x.1 x.1 refl i) || is_marked r k xs)))
+    (λ t. (λ i. (eqb r x.0 && eqb k x.1) || is_marked_by r k xs t i) ∙ or_true (eqb r x.0 && eqb k x.1)) h
+  where
+    or_true : (b : Bool) → (b || true) ≡ true
+    or_true true = refl
+    or_true false = refl
+
+-- past holds where the other knows so
+pub past_by : (a : Bool) (q client k : ℕ) (l : List (ℕ × ℕ)) → q ≡ client → IsMarked client k l → (a || is_marked q k l) ≡ true
+past_by true q client k l e h = refl
+past_by false q client k l e h = is_marked_by q k l (subst (λ (z : ℕ). IsMarked z k l) (sym e) h)
 
 -- a list of which each element tells its place, and one more
 pub placed_push : {X : Type 0} (P : ℕ → X → Type 0) (xs : List X) (x : X) (n : ℕ) → length xs ≡ n → ((k : ℕ) → IfSome (slice_get xs k) (P k)) → P n x → (k : ℕ) → IfSome (slice_get (xs ++ x ∷ []) k) (P k)

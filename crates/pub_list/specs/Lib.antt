@@ -5,3 +5,4 @@ pub mod Fresh
 pub mod Joined
 pub mod Lists
 pub mod Records
+pub mod Telling

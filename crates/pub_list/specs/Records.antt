@@ -23,6 +23,6 @@ module _ {E C R : Type 0} where
   Shows own replies client h v s (stages.Asking q c) = (s ≢ Free) × (v.past ≡ true → s ≢ Posted) × (v.ready ≡ true → s ≡ Answered) × ((s ≡ Parked) ⊎ ((v.past ≡ true) × (s ≢ Answered)) → IsWaiting own replies client c h v)
   Shows own replies client h v s _ = (s ≡ Free) × (own h client ≡ v.entered) × (replies h client ≡ v.got)
 
-  -- it looked at its own word, and saw a legal history, which goes on from the one that it saw
+  -- it looked at its own word, and saw a legal history, which goes on from the one that it saw, and from the one that it was told
   abbrev pub IsLooked : (List E → Type 0) → (List E → ℕ → List C) → (List E → ℕ → List R) → ℕ → View (Work E C R) → View (Work E C R) → WordState → Type 0
-  IsLooked legal own replies client v w s = (h : List E) × GoesOn v.work.seen h × legal h × (w ≡ with_work (seeing h (is_answered s) v.work) v) × Shows own replies client h v.work s v.work.stage
+  IsLooked legal own replies client v w s = (h : List E) × GoesOn v.work.seen h × GoesOn v.work.hearsay h × legal h × (w ≡ with_work (seeing h (is_answered s) v.work) v) × Shows own replies client h v.work s v.work.stage

@@ -11,6 +11,7 @@ mod fresh;
 mod joined;
 mod lists;
 mod records;
+mod telling;
 
 pub use asking::Answer;
 pub use closing::{Closing, End};

@@ -40,7 +40,7 @@ impl<S: Served> Joined<S> {
         }
     }
 
-    fn look_own(&mut self, list: &List<S>) -> WordState
+    pub(crate) fn look_own(&mut self, list: &List<S>) -> WordState
         requires list { self.old.seat.table_id ≡ list.now.table.shared.table_id }
         ensures client { (self.new.client ≡ self.old.client) × (self.new.seat.table_id ≡ self.old.seat.table_id) }
         ensures own { IsLooked S.legal S.own S.replies self.old.client self.old.seat.me.0 self.new.seat.me.0 result }
