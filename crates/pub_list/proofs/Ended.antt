@@ -5,7 +5,7 @@ use lib.ListN.{get_elem?}
 use Rattle.atomic_table.specs.Table.{Final, Seen}
 use Rattle.pub_rule.specs.declared.walk.View.{View}
 use Rattle.pub_rule.specs.declared.work.Work.{Work}
-use Rattle.pub_rule.specs.declared.work.Stage.TheVariants.{Maker}
+use Rattle.pub_rule.specs.declared.work.Stage.TheVariants.{Spent}
 use Rattle.pub_rule.specs.declared.served.Slot.{Slot}
 use Rattle.pub_rule.specs.declared.served.Slot.TheVariants as slots
 use Rattle.pub_rule.specs.Rule.{Ruled}
@@ -23,9 +23,9 @@ module _ {E C R S : Type 0} (history : S → List E) (legal : List E → Type 0)
     pub is : y ≡ slots.State state
     pub true_of : (x : S) → y ≡ slots.State x → legal (history x) × AreTrue own replies (history x) v.closed
 
-  pub at_end : (n clients id : ℕ) (v : View (Work E C R)) (words : List ℕ) (items : List (Slot C R S)) (y : Slot C R S) → Final (Seen (Ruled n (Serves history legal own replies n)) id v) words items → v.work.stage ≡ Maker clients → n ≡ clients → length v.work.closed ≡ clients
+  pub at_end : (n clients id : ℕ) (v : View (Work E C R)) (words : List ℕ) (items : List (Slot C R S)) (y : Slot C R S) → Final (Seen (Ruled n (Serves history legal own replies n)) id v) words items → v.work.stage ≡ Spent → n ≡ clients → length v.work.closed ≡ clients
       → get_elem? items clients ≡ some y → IsEnd v.work y
-  at_end n clients id v words items y f is same full there = let e = end history legal own replies n f.0 id clients v f.1.0 f.1.1 is (full ∙ sym same) in
+  at_end n clients id v words items y f is same full there = let e = end history legal own replies n f.0 id v f.1.0 f.1.1 is (full ∙ sym same) in
       let at : get_elem? items clients ≡ some (slots.State e.state) = subst (λ (k : ℕ). get_elem? items k ≡ some (slots.State e.state)) same (f.4 n (slots.State e.state) e.home) in
       let it : y ≡ slots.State e.state = some-injective y (slots.State e.state) (sym there ∙ at) in record {
         state = e.state;

@@ -5,7 +5,7 @@ use Rattle.atomic_table.specs.declared.shared.Seat.{Seat}
 use Rattle.pub_rule.specs.declared.walk.View.{View}
 use Rattle.pub_rule.specs.declared.work.Work.{Work}
 use Rattle.pub_rule.specs.declared.work.Closed.{Closed}
-use Rattle.pub_rule.specs.declared.work.Stage.TheVariants.{Maker, Free, Away}
+use Rattle.pub_rule.specs.declared.work.Stage.TheVariants.{Spent, Free, Away}
 use Rattle.pub_rule.specs.declared.work.Stage.{Stage}
 use Rattle.pub_rule.specs.Work.{IsAmong}
 use Rattle.pub_rule.specs.WorkClosing.{last_told, IsTrueOf}
@@ -17,11 +17,11 @@ use Rattle.pub_list.specs.Lists.{IsSized}
 module _ {T E C R : Type 0} where
   -- what the clients told, the last first
   abbrev pub told_at_close : Seat T (View (Work E C R)) → List (Closed E C R)
-  told_at_close first = first.me.0.work.closed
+  told_at_close closer = closer.me.0.work.closed
 
-  -- the first seat, which made those of all clients
+  -- a seat of no client closes the list
   abbrev pub IsCloser : TableId → ℕ → ℕ → Seat T (View (Work E C R)) → Type 0
-  IsCloser id key clients first = IsSized id key clients × (first.table_id ≡ id) × (first.me.0.work.stage ≡ Maker clients)
+  IsCloser id key clients closer = IsSized id key clients × (closer.table_id ≡ id) × (closer.me.0.work.stage ≡ Spent)
 
 -- a client's slot is given back
 abbrev pub at_home : {C : Type 0} → Stage C → Stage C

@@ -1,5 +1,5 @@
 -- A list of publication records.
-use Rattle.std.specs.Prelude.{◌≡◌, ℕ, ◌+◌, ◌≤◌, []}
+use Rattle.std.specs.Prelude.{◌≡◌, ℕ, ◌+◌, ◌≤◌}
 use Rattle.atomic_table.specs.Seated.{TableId}
 use Rattle.atomic_table.specs.declared.shared.Seat.{Seat}
 use Rattle.pub_rule.specs.declared.walk.View.{View}
@@ -12,6 +12,6 @@ use Rattle.pub_rule.specs.Words.{word_count}
 abbrev pub IsSized : TableId → ℕ → ℕ → Type 0
 IsSized z key clients = (z.words ≡ word_count clients) × (z.slots ≡ clients + 1) × (key ≡ clients) × (1 ≤ clients) × (clients ≤ 64)
 
--- the first seat, which has made those of the clients below k, and taken in none again
+-- the first seat, which has made those of the clients below k
 abbrev pub IsMaker : {T E C R : Type 0} → ℕ → Seat T (View (Work E C R)) → Type 0
-IsMaker k seat = (seat.me.0.walk.role ≡ roles.Maker k) × (seat.me.0.work.stage ≡ Maker k) × (seat.me.0.work.closed ≡ [])
+IsMaker k seat = (seat.me.0.walk.role ≡ roles.Maker k) × (seat.me.0.work.stage ≡ Maker k)

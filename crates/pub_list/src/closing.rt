@@ -9,15 +9,15 @@ use crate::combining::state_in;
 use crate::fresh::Fresh;
 use crate::joined::Joined;
 use crate::lists::{List, Place, Records};
-use pub_rule::{GiveSlot, MergeClient, Served, state_word};
+use pub_rule::{EnterCloser, GiveSlot, MergeClient, Served, head_word, state_word};
 
 /// A list that is closed: no thread shares it any more. It is the project's own.
 #[derive(Drop)]
 pub struct Closing<S: Served> {
     pub(crate) table: Records<S>,
-    pub(crate) first: Place<S>,
+    pub(crate) closer: Place<S>,
     pub(crate) clients: u32,
-    ghost own: { IsCloser table.shared.table_id table.shared.key clients first },
+    ghost own: { IsCloser table.shared.table_id table.shared.key clients closer },
 }
 
 /// A client that is handed in. It is the project's own.
@@ -34,16 +34,13 @@ impl<S: Served> List<S> {
     pub fn closing(self) -> Closing<S>
         ensures clients { result.clients ≡ self.clients }
         ensures list { result.table.shared.table_id ≡ self.table.shared.table_id }
-        ensures told { told_at_close result.first ≡ [] }
+        ensures told { told_at_close result.closer ≡ [] }
     {
-        let List {
-            table,
-            first,
-            clients,
-        } = self;
+        let List { table, clients } = self;
+        let (_, closer) = table.shared.load_new_seat::<EnterCloser>(head_word());
         Closing {
             table,
-            first,
+            closer,
             clients,
         }
     }
@@ -57,7 +54,7 @@ impl<S: Served> Closing<S> {
         requires unheld { (work_of end).holds ≡ false }
         ensures clients { self.new.clients ≡ self.old.clients }
         ensures list { self.new.table.shared.table_id ≡ self.old.table.shared.table_id }
-        ensures told { told_at_close self.new.first ≡ last_words (work_of end) ∷ told_at_close self.old.first }
+        ensures told { told_at_close self.new.closer ≡ last_words (work_of end) ∷ told_at_close self.old.closer }
     {
         match end {
             End::Fresh(fresh) => {
@@ -80,25 +77,27 @@ impl<S: Served> Closing<S> {
         requires unheld { (work seat).holds ≡ false }
         ensures clients { self.new.clients ≡ self.old.clients }
         ensures list { self.new.table.shared.table_id ≡ self.old.table.shared.table_id }
-        ensures told { told_at_close self.new.first ≡ last_told (work seat) ∷ told_at_close self.old.first }
+        ensures told { told_at_close self.new.closer ≡ last_told (work seat) ∷ told_at_close self.old.closer }
     {
         let table = &self.table;
-        table.shared.join_seat::<MergeClient>(&mut self.first, seat);
+        table
+            .shared
+            .join_seat::<MergeClient>(&mut self.closer, seat);
     }
 
     /// The state, after each client of the list was handed in: its history is as they told. It is the
     /// project's own.
     pub fn end(self) -> S
-        requires { length (told_at_close self.first) ≡ self.clients }
+        requires { length (told_at_close self.closer) ≡ self.clients }
         ensures legal { S.legal (S.history result) }
-        ensures told { AreTrue S.own S.replies (S.history result) (told_at_close self.first) }
+        ensures told { AreTrue S.own S.replies (S.history result) (told_at_close self.closer) }
     {
         let Closing {
             table,
-            first,
+            closer,
             clients,
         } = self;
-        let mut closed = table.close_with(first);
+        let mut closed = table.close_with(closer);
         for client in 0..clients as usize {
             drop(closed.take(client));
         }

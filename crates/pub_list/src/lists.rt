@@ -24,10 +24,8 @@ pub(crate) type Place<S> = Seat<Record<S>, Knowledge<S>>;
 #[derive(Drop)]
 pub struct List<S: Served> {
     pub(crate) table: Records<S>,
-    pub(crate) first: Place<S>,
     pub(crate) clients: u32,
     ghost sized: { IsSized table.shared.table_id table.shared.key clients },
-    ghost maker: { (first.table_id ≡ table.shared.table_id) × IsMaker clients first },
 }
 
 impl<S: Served> List<S> {
@@ -51,13 +49,8 @@ impl<S: Served> List<S> {
             Ok(made) => made,
             Err(_) => return Err(AllocError),
         };
-        let (fresh, first) = make_clients(alloc, &table, first, clients)?;
-        let list = List {
-            table,
-            first,
-            clients,
-        };
-        Ok((list, fresh))
+        let fresh = make_clients(alloc, &table, first, clients)?;
+        Ok((List { table, clients }, fresh))
     }
 
     /// The number of clients, 1 to 64. They have the numbers below it. The bound is the project's own.
@@ -85,24 +78,23 @@ fn empty_slots<S: Served>(
     Ok(slots)
 }
 
-// A seat for each client, by its number, and the first seat, which made them.
+// A seat for each client, by its number.
 fn make_clients<S: Served>(
     alloc: Global,
     table: &Records<S>,
     mut first: Place<S>,
     clients: u32,
-) -> Result<(Vec<Fresh<S>>, Place<S>), AllocError>
+) -> Result<Vec<Fresh<S>>, AllocError>
     requires table { IsSized table.now.shared.table_id table.now.shared.key clients }
     requires first { (first.table_id ≡ table.now.shared.table_id) × IsMaker 0 first }
-    ensures count { IfOk result (λ m. length m.0.items ≡ clients) }
-    ensures numbers { IfOk result (λ m. (k : ℕ) → IfSome (slice_get m.0.items k) (λ f. f.client ≡ k)) }
-    ensures seats { IfOk result (λ m. All (λ f. f.seat.table_id ≡ table.now.shared.table_id) m.0.items) }
-    ensures first { IfOk result (λ m. (m.1.table_id ≡ table.now.shared.table_id) × IsMaker clients m.1) }
+    ensures count { IfOk result (λ m. length m.items ≡ clients) }
+    ensures numbers { IfOk result (λ m. (k : ℕ) → IfSome (slice_get m.items k) (λ f. f.client ≡ k)) }
+    ensures seats { IfOk result (λ m. All (λ f. f.seat.table_id ≡ table.now.shared.table_id) m.items) }
 {
     let mut made = Vec::with_capacity(alloc, clients as usize)?;
     for client in 0..clients {
         let seat = table.shared.split_seat::<SplitClient>(&mut first);
         made.push(Fresh { seat, client })?;
     }
-    Ok((made, first))
+    Ok(made)
 }

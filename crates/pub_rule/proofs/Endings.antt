@@ -13,7 +13,7 @@ use Rattle.pub_rule.specs.declared.served.Slot.{Slot}
 use Rattle.pub_rule.specs.declared.served.Slot.TheVariants as slots
 use Rattle.pub_rule.specs.Lists.{IsOn, Distinct}
 use Rattle.pub_rule.specs.Rule.{work_of}
-use Rattle.pub_rule.specs.Work.{Phase, away, free, posted, taken, parked, resumed, refused, replied, Client, Desk, IsTakenIn, home_of, IsInPhase, IsInStage, IsClient, IsAtHome, IsTold, clients_of, IsAmong}
+use Rattle.pub_rule.specs.Work.{Phase, away, free, posted, taken, parked, resumed, refused, replied, Client, Desk, IsTakenIn, home_of, IsInPhase, IsInStage, IsClient, IsAtHome, IsTold, IsNobodys, clients_of, IsAmong}
 use Rattle.pub_rule.specs.WorkClosing.{IsTrueOf, KnownAtEnd}
 use Rattle.pub_rule.proofs.Clients.{on_or_off, at_most}
 use Rattle.pub_rule.proofs.Told.{told_by}
@@ -115,9 +115,9 @@ module _ {E C R S : Type 0} (history : S → List E) (legal : List E → Type 0)
   slot_of homes q p home y = (y.0, home ∙ ap (λ (z : Option (Slot C R S)). some z) y.1)
 
   pub end : KnownAtEnd history legal own replies n
-  end s id k v ruled at is full = let r = ruled.works in let t = r.each_seat id v.work (at_map work_of s.views id v at) in let m = t.maker k is in let few = r.few in
+  end s id v ruled at is full = let r = ruled.works in let t = r.each_seat id v.work (at_map work_of s.views id v at) in let m = subst (IsNobodys r.made r.done r.seat r.truth r.desk id v.work.closed) is t.maker in let few = r.few in
       let below : (q : ℕ) → IsOn q (clients_of v.work.closed) → q < n = λ q on. let c = told_by q v.work.closed on in let small = (m.told c.0 c.1).made_it in let e = c.2 in omega arith in
-      let every : (q : ℕ) → q < n → IsOn q (clients_of v.work.closed) = all_on n (clients_of v.work.closed) (subst Distinct (sym m.clients) m.distinct) below (length_clients v.work.closed ∙ full) in
+      let every : (q : ℕ) → q < n → IsOn q (clients_of v.work.closed) = all_on n (clients_of v.work.closed) m.distinct below (length_clients v.work.closed ∙ full) in
       ⊎_elim
       (λ u. record {
         state = u.state;
@@ -128,4 +128,4 @@ module _ {E C R S : Type 0} (history : S → List E) (legal : List E → Type 0)
             (λ q h. let l = g.met q h in let inside = l.0 in met_by r.truth q v.work.closed (every q (omega arith)) (λ b h. (m.told b h).begun) l.1));
         slot = λ q inside. let b = told_by q v.work.closed (every q inside) in slot_of s.homes q (r.truth q).phase (r.each_client q inside).home (slot_by r.desk r.made r.seat r.truth id q b.0 u.nothing (m.told b.0 b.1) b.2 (r.each_client q inside).phase.taken_is);
       })
-      (λ h. let small = h.client in absurd (h.live (subst (IsOn h.holder) m.clients (every h.holder (omega arith))))) r.lock
+      (λ h. let small = h.client in absurd (h.live (m.on h.holder (every h.holder (omega arith))))) r.lock

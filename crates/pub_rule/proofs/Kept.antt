@@ -214,6 +214,22 @@ module _ (n : ℕ) (words : List ℕ) (views : List Walk) (r : Walks n words vie
             });
       }
 
+  -- a seat that is nobody's knows nothing
+  pub enters_spent : Walks n words (views ++ blank Spent ∷ [])
+  enters_spent = record {
+    list = r.list;
+    made = r.made;
+    seat = r.seat;
+    wide = r.wide;
+    few = r.few;
+    head = r.head;
+    linked = r.linked;
+    distinct = r.distinct;
+    unmade = r.unmade;
+    each_client = λ q l. let s = r.each_client q l in (s.0, at_longer views (blank Spent ∷ []) (r.seat q) s.0 s.1, s.2);
+    each_seat = λ j u e. ⊎_elim (r.each_seat j u) (λ (t : blank Spent ≡ u). subst (Knows r.made r.seat r.list words j) t record { role = tt; loaded = (r.list, nil_behind r.list); tried = omega arith; told = λ c h. absurd h }) (at_snoc views (blank Spent) u j e);
+  }
+
   -- a token that tells the truth
   pub tells : (w : Walk) → w.role ≡ Token → w.list ≡ [] → w.tries ≡ 0 → ((c : ℕ) → IsOn c w.known → IsOn c r.list) → Walks n words (views ++ w ∷ [])
   tells w role list tries told = record {

@@ -6,12 +6,13 @@ use native.Mathlib.Decide.{ℕ_discrete}
 use lib.ListN.{get_elem?}
 use Rattle.atomic_table.proofs.Lists.{at_set, set_here, set_else}
 use Rattle.pub_rule.specs.declared.work.Work.{Work}
+use Rattle.pub_rule.specs.declared.work.Closed.{Closed}
 use Rattle.pub_rule.specs.declared.work.Stage.{Stage}
 use Rattle.pub_rule.specs.declared.work.Stage.TheVariants.{Spent, Maker, Away, Free, Asking, Token}
 use Rattle.pub_rule.specs.declared.served.Slot.{Slot}
 use Rattle.pub_rule.specs.Words.{lock_word, state_word, word_count}
 use Rattle.pub_rule.specs.Lists.{IsOn}
-use Rattle.pub_rule.specs.Work.{GoesOn, IsMarked, away, Client, Desk, IsTaken, word_of, home_of, IsDealt, IsInPhase, HasRecord, IsUnheld, IsHeld, IsInStage, IsClient, Tells, Combines, Trusts, Serves}
+use Rattle.pub_rule.specs.Work.{GoesOn, IsMarked, away, Client, Desk, IsTaken, word_of, home_of, IsDealt, IsInPhase, HasRecord, IsUnheld, IsHeld, IsInStage, IsClient, Tells, Combines, IsNobodys, Trusts, Serves}
 use Rattle.pub_rule.proofs.Numbers.{state_within, state_from_state, state_from_lock}
 
 module _ {A : Type 0} where
@@ -91,26 +92,32 @@ module _ {E C R S : Type 0} (history : S → List E) (legal : List E → Type 0)
           append_all [] b c = refl
           append_all (x ∷ a) b c = ap (λ (l : List E). x ∷ l) (append_all a b c)
 
+      nobodys : (j : ℕ) (closed : List (Closed E C R)) (st : Stage C) → j ≢ id → IsNobodys s.made s.done s.seat s.truth s.desk j closed st → IsNobodys s.made s.done s.seat (put s.truth q t) desk' j closed st
+      nobodys j closed Spent other b = record {
+        distinct = b.distinct;
+        on = b.on;
+        told = λ c h. let g = b.told c h in let a = stay_all c.client (λ e. other (sym g.seat_is ∙ e)) in record {
+          made_it = g.made_it;
+          seat_is = g.seat_is;
+          client = g.client;
+          home = g.home;
+          stage = a.stage c.stage g.stage;
+          entered = g.entered ∙ a.entered;
+          got = g.got ∙ a.got;
+          begun = g.begun ∙ a.begun;
+          saw = goes_on c.seen g.saw;
+          met = λ r m. let l = g.met r m in let z = (follow r).begun in let y = l.1 in (l.0, omega arith);
+        };
+      }
+      nobodys j closed (Maker k) other b = b
+      nobodys j closed (Away c) other b = tt
+      nobodys j closed (Free c) other b = tt
+      nobodys j closed (Asking c k) other b = tt
+      nobodys j closed (Token c) other b = tt
+
       others : (j : ℕ) (u : Work E C R) → j ≢ id → get_elem? works j ≡ some u → Trusts s.made s.done s.seat (put s.truth q t) lock' desk' j u
       others j u other at = let k = s.each_seat j u at in record {
-        maker = λ m is. let b = k.maker m is in record {
-          first = b.first;
-          count = b.count;
-          clients = b.clients;
-          distinct = b.distinct;
-          told = λ c on. let g = b.told c on in let a = stay_all c.client (λ e. other (sym g.seat_is ∙ e)) in record {
-            made_it = g.made_it;
-            seat_is = g.seat_is;
-            client = g.client;
-            home = g.home;
-            stage = a.stage c.stage g.stage;
-            entered = g.entered ∙ a.entered;
-            got = g.got ∙ a.got;
-            begun = g.begun ∙ a.begun;
-            saw = goes_on c.seen g.saw;
-            met = λ r h. let l = g.met r h in let z = (follow r).begun in let y = l.1 in (l.0, omega arith);
-          };
-        };
+        maker = nobodys j u.closed u.stage other k.maker;
         client = λ r is. let c = k.client r is in let ne : s.seat r ≢ id = λ e. other (sym c.seat_is ∙ e) in let a = stay_all r ne in record {
           made_it = c.made_it;
           live = c.live;
@@ -146,6 +153,7 @@ module _ {E C R S : Type 0} (history : S → List E) (legal : List E → Type 0)
         done = s.done;
         seat = s.seat;
         few = s.few;
+        done_made = s.done_made;
         wide = wide;
         deep = deep;
         is_legal = law;
@@ -184,7 +192,7 @@ module _ {E C R S : Type 0} (history : S → List E) (legal : List E → Type 0)
       → ((r k : ℕ) → IsMarked r k w.passed → (r < s.made) × (k ≤ (put s.truth q t r).posts) × ((put s.truth q t r).posts ≡ k → IsDealt (put s.truth q t r).phase))
       → Trusts s.made s.done s.seat (put s.truth q t) lock' desk' id w
   mine_by id q t lock' desk' p w is tells combines saw was_told met heard passed = record {
-    maker = λ k e. absurd (subst (IsClient p) e is);
+    maker = clients p w.stage is;
     client = λ r h. subst (λ (z : ℕ). Tells s.made s.done s.seat lock' id z w (put s.truth q t z)) (one_client p r w.stage is h) tells;
     token = λ r e. absurd (subst (IsClient p) e is);
     combines = combines;
@@ -195,6 +203,14 @@ module _ {E C R S : Type 0} (history : S → List E) (legal : List E → Type 0)
     passed = passed;
   }
     where
+      clients : (a : ℕ) (st : Stage C) → IsClient a st → IsNobodys s.made s.done s.seat (put s.truth q t) desk' id w.closed st
+      clients a Spent h = absurd h
+      clients a (Maker k) h = absurd h
+      clients a (Away c) h = tt
+      clients a (Free c) h = tt
+      clients a (Asking c k) h = tt
+      clients a (Token c) h = absurd h
+
       one_client : (a b : ℕ) (st : Stage C) → IsClient a st → IsClient b st → a ≡ b
       one_client a b Spent h i = absurd h
       one_client a b (Maker k) h i = absurd h
@@ -304,6 +320,7 @@ module _ {E C R S : Type 0} (history : S → List E) (legal : List E → Type 0)
     done = s.done;
     seat = s.seat;
     few = s.few;
+    done_made = s.done_made;
     wide = s.wide;
     deep = s.deep;
     is_legal = s.is_legal;

@@ -5,6 +5,7 @@ use mathlib.Core.Option.{Option, some, some-injective, some-ne-none}
 use lib.ListN.{get_elem?, length-map, length-replicate}
 use Rattle.atomic_table.proofs.Lists.{at_set, set_again, at_snoc, at_last, at_longer, set_else, at_map}
 use Rattle.pub_rule.specs.declared.work.Work.{Work}
+use Rattle.pub_rule.specs.declared.work.Closed.{Closed}
 use Rattle.pub_rule.specs.declared.work.Stage.{Stage}
 use Rattle.pub_rule.specs.declared.work.Stage.TheVariants.{Spent, Maker, Away, Free, Asking, Token}
 use Rattle.pub_rule.specs.declared.work.Serving.TheVariants.{Nothing}
@@ -14,10 +15,9 @@ use Rattle.pub_rule.specs.Words.{lock_word, state_word, word_count}
 use Rattle.pub_rule.specs.Rule.{LetsSplit, LetsMerge, slots_of}
 use Rattle.pub_rule.specs.Deaf.{opening_work}
 use Rattle.pub_rule.specs.Served.{StartsEmpty, HasNoMoreReplies}
-use Rattle.pub_rule.specs.Work.{IsMarked, unmade, IsClient, Tells, Makes, Trusts, Serves}
+use Rattle.pub_rule.specs.Work.{IsMarked, unmade, IsClient, Tells, IsNobodys, Trusts, Serves}
 use Rattle.pub_rule.specs.WorkSplits.{owner_of, seats_of, is_marked, more_seats, new_client, telling, taught, spent_work, maker_after, client_made, token_made, view_taught, view_spent, Opens, KeptByClientSplit, KeptByTokenSplit, KeptByTokenMerge}
 use Rattle.pub_rule.specs.Lists.{IsOn}
-use Rattle.pub_rule.proofs.Told.{told_by}
 use Rattle.pub_rule.proofs.Kept.{starts}
 use Rattle.pub_rule.proofs.Tables.{split_client, split_token, merge_token}
 use Rattle.pub_rule.proofs.Moves.{put, put_case, put_at, view_step}
@@ -65,7 +65,7 @@ module _ {E C R S : Type 0} (history : S → List E) (legal : List E → Type 0)
     lock_now = get_or words lock_word 0
 
     -- one more seat, that knows what is true
-    view_more : (w : Work E C R) → ((j : ℕ) → Trusts s.made s.done s.seat s.truth lock_now s.desk j w) → Half words homes (works ++ w ∷ [])
+    pub view_more : (w : Work E C R) → ((j : ℕ) → Trusts s.made s.done s.seat s.truth lock_now s.desk j w) → Half words homes (works ++ w ∷ [])
     view_more w trusts = record {
       truth = s.truth;
       desk = s.desk;
@@ -73,6 +73,7 @@ module _ {E C R S : Type 0} (history : S → List E) (legal : List E → Type 0)
       done = s.done;
       seat = s.seat;
       few = s.few;
+      done_made = s.done_made;
       wide = s.wide;
       deep = s.deep;
       is_legal = s.is_legal;
@@ -86,7 +87,7 @@ module _ {E C R S : Type 0} (history : S → List E) (legal : List E → Type 0)
     -- what a client tells is true
     tells_true : (id r : ℕ) (v : Work E C R) → get_elem? works id ≡ some v → IsClient r v.stage → (j : ℕ) → Trusts s.made s.done s.seat s.truth lock_now s.desk j (telling v)
     tells_true id r v at is j = let k = s.each_seat id v at in let c = k.client r is in record {
-      maker = λ a e. absurd (subst is_maker (sym e) tt);
+      maker = tt;
       client = λ q h. absurd h;
       token = λ q e. let same : q ≡ r = sym (ap owner_of e) ∙ owner_is r v.stage is in subst (λ (z : ℕ). (z < s.made) × (v.posts ≤ (s.truth z).posts)) (sym same) (c.made_it, (let p = c.posts in omega arith));
       combines = λ e. absurd (false≢true e);
@@ -98,9 +99,9 @@ module _ {E C R S : Type 0} (history : S → List E) (legal : List E → Type 0)
     }
 
     -- a spent seat knows nothing
-    spent_true : (j : ℕ) → Trusts s.made s.done s.seat s.truth lock_now s.desk j spent_work
+    pub spent_true : (j : ℕ) → Trusts s.made s.done s.seat s.truth lock_now s.desk j spent_work
     spent_true j = record {
-      maker = λ a e. absurd (subst is_maker (sym e) tt);
+      maker = record { distinct = tt; on = λ r h. absurd h; told = λ c h. absurd h };
       client = λ q h. absurd h;
       token = λ q e. absurd (subst is_token (sym e) tt);
       combines = λ e. absurd (false≢true e);
@@ -156,12 +157,12 @@ module _ {E C R S : Type 0} (history : S → List E) (legal : List E → Type 0)
 
   -- the seat of the next client
   module _ (words : List ℕ) (homes : List (Option (Slot C R S))) (works : List (Work E C R)) (s : Half words homes works) (id k : ℕ) (v : Work E C R) (at : get_elem? works id ≡ some v) (is : v.stage ≡ Maker k) (room : k < n) where
-    abbrev place : Makes s.made s.done s.seat s.truth s.desk id k v.closed
-    place = (s.each_seat id v at).maker k is
+    abbrev place : (id ≡ 0) × (k ≡ s.made)
+    place = subst (IsNobodys s.made s.done s.seat s.truth s.desk id v.closed) is (s.each_seat id v at).maker
 
     -- the new client's seat was not merged
     unmerged : ¬ IsOn k s.done
-    unmerged on = let b = place in let c = told_by k v.closed (subst (IsOn k) (sym b.clients) on) in let small = (b.told c.0 c.1).made_it in let next = b.count in let e = c.2 in omega arith
+    unmerged on = let small = s.done_made k on in let next = place.1 in omega arith
 
     abbrev last : ℕ
     last = length (set works id (more_seats v))
@@ -170,15 +171,38 @@ module _ {E C R S : Type 0} (history : S → List E) (legal : List E → Type 0)
     seat' = put s.seat k last
 
     seat_still : (r : ℕ) → r < s.made → put s.seat k last r ≡ s.seat r
-    seat_still r small = let next = place.count in put_case (λ a. a ≡ s.seat r) s.seat k last r (λ e. absurd (omega arith)) (λ _. refl)
+    seat_still r small = let next = place.1 in put_case (λ a. a ≡ s.seat r) s.seat k last r (λ e. absurd (omega arith)) (λ _. refl)
 
     -- the lock word isn't the new client's
     unlocked : lock_now words homes works s ≢ k + 1
-    unlocked e = let next = place.count in ⊎_elim (λ u. let zero = u.zero in omega arith) (λ h. let number = h.number in let small = h.client in omega arith) s.lock
+    unlocked e = let next = place.1 in ⊎_elim (λ u. let zero = u.zero in omega arith) (λ h. let number = h.number in let small = h.client in omega arith) s.lock
+
+    more_made : (j : ℕ) (closed : List (Closed E C R)) (st : Stage C) → (is_maker st → ⊥) → IsNobodys s.made s.done s.seat s.truth s.desk j closed st → IsNobodys (s.made + 1) s.done (put s.seat k last) s.truth s.desk j closed st
+    more_made j closed Spent other b = record {
+      distinct = b.distinct;
+      on = b.on;
+      told = λ c on. let g = b.told c on in let small = g.made_it in record {
+        made_it = omega arith;
+        seat_is = seat_still c.client small ∙ g.seat_is;
+        client = g.client;
+        home = g.home;
+        stage = g.stage;
+        entered = g.entered;
+        got = g.got;
+        begun = g.begun;
+        saw = g.saw;
+        met = λ r h. let l = g.met r h in let y = l.0 in (omega arith, l.1);
+      };
+    }
+    more_made j closed (Maker a) other b = absurd (other tt)
+    more_made j closed (Away c) other b = tt
+    more_made j closed (Free c) other b = tt
+    more_made j closed (Asking c x) other b = tt
+    more_made j closed (Token c) other b = tt
 
     trusts_more : (j : ℕ) (u : Work E C R) → (is_maker u.stage → ⊥) → Trusts s.made s.done s.seat s.truth (lock_now words homes works s) s.desk j u → Trusts (s.made + 1) s.done (put s.seat k last) s.truth (lock_now words homes works s) s.desk j u
     trusts_more j u other t = record {
-      maker = λ a e. absurd (other (subst is_maker (sym e) tt));
+      maker = more_made j u.closed u.stage other t.maker;
       client = λ r h. let c = t.client r h in let small = c.made_it in record {
         made_it = omega arith;
         live = c.live;
@@ -203,25 +227,8 @@ module _ {E C R S : Type 0} (history : S → List E) (legal : List E → Type 0)
     }
 
     maker_true : Trusts (s.made + 1) s.done (put s.seat k last) s.truth (lock_now words homes works s) s.desk id (more_seats v)
-    maker_true = let t = s.each_seat id v at in let next = place.count in let counted : seats_of v.stage ≡ k = ap seats_of is in record {
-      maker = λ a e. let c : seats_of v.stage + 1 ≡ a = ap seats_of e in let b = place in record {
-        first = b.first;
-        count = omega arith;
-        clients = b.clients;
-        distinct = b.distinct;
-        told = λ c on. let g = b.told c on in let small = g.made_it in record {
-          made_it = omega arith;
-          seat_is = seat_still c.client small ∙ g.seat_is;
-          client = g.client;
-          home = g.home;
-          stage = g.stage;
-          entered = g.entered;
-          got = g.got;
-          begun = g.begun;
-          saw = g.saw;
-          met = λ r h. let l = g.met r h in let y = l.0 in (omega arith, l.1);
-        };
-      };
+    maker_true = let t = s.each_seat id v at in let next = place.1 in let counted : seats_of v.stage ≡ k = ap seats_of is in record {
+      maker = (place.0, omega arith);
       client = λ r h. absurd h;
       token = λ r e. absurd (subst is_token (sym e) tt);
       combines = λ h. let b = t.combines h in absurd (subst (IsClient b.client.0) is b.client.1);
@@ -233,8 +240,8 @@ module _ {E C R S : Type 0} (history : S → List E) (legal : List E → Type 0)
     }
 
     client_true : Trusts (s.made + 1) s.done (put s.seat k last) s.truth (lock_now words homes works s) s.desk last (new_client v)
-    client_true = let next = place.count in let counted : seats_of v.stage ≡ k = ap seats_of is in let blank : s.truth k ≡ unmade = s.unmade_are k (omega arith) in record {
-      maker = λ a e. absurd (subst is_maker (sym e) tt);
+    client_true = let next = place.1 in let counted : seats_of v.stage ≡ k = ap seats_of is in let blank : s.truth k ≡ unmade = s.unmade_are k (omega arith) in record {
+      maker = tt;
       client = λ r h. let here : r ≡ k = sym h ∙ counted in subst (λ (z : ℕ). Tells (s.made + 1) s.done (put s.seat k last) (lock_now words homes works s) last z (new_client v) (s.truth z)) (sym here)
           (subst (Tells (s.made + 1) s.done (put s.seat k last) (lock_now words homes works s) last k (new_client v)) (sym blank) record {
             made_it = omega arith;
@@ -260,13 +267,14 @@ module _ {E C R S : Type 0} (history : S → List E) (legal : List E → Type 0)
     }
 
     makes_client : Half words homes (set works id (more_seats v) ++ new_client v ∷ [])
-    makes_client = let next = place.count in record {
+    makes_client = let next = place.1 in record {
       truth = s.truth;
       desk = s.desk;
       made = s.made + 1;
       done = s.done;
       seat = put s.seat k last;
       few = omega arith;
+      done_made = λ r h. let small = s.done_made r h in omega arith;
       wide = s.wide;
       deep = s.deep;
       is_legal = s.is_legal;
@@ -298,7 +306,7 @@ module _ {E C R S : Type 0} (history : S → List E) (legal : List E → Type 0)
             maker_is (Token c) h = absurd h
 
             not_maker : (j : ℕ) (u : Work E C R) → j ≢ id → get_elem? works j ≡ some u → is_maker u.stage → ⊥
-            not_maker j u other at' m = other (((s.each_seat j u at').maker (seats_of u.stage) (maker_is u.stage m)).first ∙ sym place.first)
+            not_maker j u other at' m = other ((subst (IsNobodys s.made s.done s.seat s.truth s.desk j u.closed) (maker_is u.stage m) (s.each_seat j u at').maker).0 ∙ sym place.0)
 
   pub lets_make : (id k : ℕ) (v : Work E C R) → v.stage ≡ Maker k → k < n → LetsSplit n Half id v (more_seats v) (new_client v)
   lets_make id k v is room words homes works s at = makes_client words homes works s id k v at is room
@@ -312,6 +320,7 @@ module _ {E C R S : Type 0} (history : S → List E) (legal : List E → Type 0)
     done = [];
     seat = λ _. 0;
     few = omega arith;
+    done_made = λ r h. absurd h;
     wide = length-replicate (word_count n) 0;
     deep = deep_at_start;
     is_legal = law;
@@ -345,7 +354,7 @@ module _ {E C R S : Type 0} (history : S → List E) (legal : List E → Type 0)
       first_true : (j : ℕ) (v : Work E C R) → get_elem? (opening_work ∷ []) j ≡ some v → Trusts 0 [] (λ _. 0) (λ _. unmade) (get_or (replicate (word_count n) 0) lock_word 0) record { hist = []; before = []; paid = []; serving = Nothing } j v
       first_true (suc j) v e = absurd (some-ne-none v (sym e))
       first_true zero v e = subst (Trusts 0 [] (λ _. 0) (λ _. unmade) (get_or (replicate (word_count n) 0) lock_word 0) record { hist = []; before = []; paid = []; serving = Nothing } 0) (some-injective opening_work v e) record {
-        maker = λ a e. record { first = refl; count = sym (ap seats_of e); clients = refl; distinct = tt; told = λ c h. absurd h };
+        maker = (refl, refl);
         client = λ r h. absurd h;
         token = λ r e. absurd (subst is_token (sym e) tt);
         combines = λ e. absurd (false≢true e);

@@ -48,6 +48,7 @@ module _ {E C R S : Type 0} (history : S → List E) (legal : List E → Type 0)
     done = s.done;
     seat = s.seat;
     few = s.few;
+    done_made = s.done_made;
     wide = length-set words i x ∙ s.wide;
     deep = s.deep;
     is_legal = s.is_legal;

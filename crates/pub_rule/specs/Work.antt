@@ -5,7 +5,7 @@ use lib.ListN.{get_elem?}
 use Rattle.pub_rule.specs.declared.work.Work.{Work}
 use Rattle.pub_rule.specs.declared.work.Closed.{Closed}
 use Rattle.pub_rule.specs.declared.work.Stage.{Stage}
-use Rattle.pub_rule.specs.declared.work.Stage.TheVariants.{Maker, Away, Free, Asking, Token}
+use Rattle.pub_rule.specs.declared.work.Stage.TheVariants.{Spent, Maker, Away, Free, Asking, Token}
 use Rattle.pub_rule.specs.declared.work.Serving.{Serving}
 use Rattle.pub_rule.specs.declared.work.Serving.TheVariants.{Nothing, Posted, Parked}
 use Rattle.pub_rule.specs.declared.served.Slot.{Slot}
@@ -231,17 +231,21 @@ module _ {E C R : Type 0} where
     pub saw : GoesOn c.seen d.hist
     pub met : (r : ℕ) → IsOn r c.met → (r < made) × (1 ≤ (truth r).begun)
 
-  -- the first seat knows how many seats it made, and what the clients told whose seats it took in again
-  pub record Makes (made : ℕ) (done : List ℕ) (seat : ℕ → ℕ) (truth : ℕ → Client E C R) (d : Desk E C) (j k : ℕ) (closed : List (Closed E C R)) : Type 0 where
-    pub first : j ≡ 0
-    pub count : k ≡ made
-    pub clients : clients_of closed ≡ done
-    pub distinct : Distinct done
+  -- a seat of no client knows what the clients told whose seats it took in
+  pub record Closes (made : ℕ) (done : List ℕ) (seat : ℕ → ℕ) (truth : ℕ → Client E C R) (d : Desk E C) (j : ℕ) (closed : List (Closed E C R)) : Type 0 where
+    pub distinct : Distinct (clients_of closed)
+    pub on : (r : ℕ) → IsOn r (clients_of closed) → IsOn r done
     pub told : (c : Closed E C R) → IsAmong c closed → IsTold made seat truth d j c
+
+  -- what a seat knows that isn't a client's: the first one how many seats it made
+  abbrev pub IsNobodys : ℕ → List ℕ → (ℕ → ℕ) → (ℕ → Client E C R) → Desk E C → ℕ → List (Closed E C R) → Stage C → Type 0
+  IsNobodys made done seat truth d j closed Spent = Closes made done seat truth d j closed
+  IsNobodys made done seat truth d j closed (Maker k) = (j ≡ 0) × (k ≡ made)
+  IsNobodys made done seat truth d j closed _ = Unit {0}
 
   -- what the seat j knows is true
   pub record Trusts (made : ℕ) (done : List ℕ) (seat : ℕ → ℕ) (truth : ℕ → Client E C R) (lock : ℕ) (d : Desk E C) (j : ℕ) (v : Work E C R) : Type 0 where
-    pub maker : (k : ℕ) → v.stage ≡ Maker k → Makes made done seat truth d j k v.closed
+    pub maker : IsNobodys made done seat truth d j v.closed v.stage
     pub client : (r : ℕ) → IsClient r v.stage → Tells made done seat lock j r v (truth r)
     pub token : (r : ℕ) → v.stage ≡ Token r → (r < made) × (v.posts ≤ (truth r).posts)
     pub combines : v.holds ≡ true → Combines d v
@@ -261,12 +265,13 @@ module _ {E C R S : Type 0} (history : S → List E) (legal : List E → Type 0)
     -- what is true of each client, and what the combiner knows
     pub truth : ℕ → Client E C R
     pub desk : Desk E C
-    -- the clients below it have a seat, but those on the list were merged into the first
+    -- the clients below it have a seat, but the seats of those on the list were merged
     pub made : ℕ
     pub done : List ℕ
     -- the seat of each client
     pub seat : ℕ → ℕ
     pub few : made ≤ n
+    pub done_made : (r : ℕ) → IsOn r done → r < made
     pub wide : length words ≡ word_count n
     pub deep : length homes ≡ n + 1
     pub is_legal : legal desk.hist

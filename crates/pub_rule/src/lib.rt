@@ -23,7 +23,7 @@ pub use steps::{ExchangeHead, LoadHead, LoadNext, MergeToken, SplitClient, Split
 pub use walk::{Role, View, Walk};
 pub use words::{head_word, lock_word, next_word, state_word, word_count};
 pub use work::{Closed, Serving, Stage, Work};
-pub use work_joins::MergeClient;
+pub use work_joins::{EnterCloser, MergeClient};
 pub use work_steps::{
     AnswerCall, CollectReply, FetchSlot, GiveSlot, LookAt, LookOwn, ParkCall, PostCall, RefuseCall,
     ReleaseState, SeizeState, TakeParked, TakePosted,

@@ -4,7 +4,7 @@ use std::collections::LinkedList;
 /// How far a seat's client is with its own publication record (flat combining: Hendler, Incze, Shavit,
 /// Tzafrir 2010). The seats are the project's own.
 pub enum Stage<C> {
-    /// A seat that was merged into another one.
+    /// A seat of no client: it was merged into another one, or takes in others as the list is closed.
     Spent,
     /// The first seat, which has made the seats of the clients below this number.
     Maker(u64),
@@ -29,8 +29,8 @@ pub enum Serving<C> {
     Parked(u64, C),
 }
 
-/// What a client told when its seat was merged into the first one, as the list was closed. It is the
-/// project's own. No value of it is made.
+/// What a client told when its seat was merged into that which closes the list. It is the project's own. No
+/// value of it is made.
 pub struct Closed<E, C, R> {
     /// The client.
     pub client: u64,
@@ -83,6 +83,6 @@ pub struct Work<E, C, R> {
     pub past: bool,
     /// Whether the client found its own state word to be 4.
     pub ready: bool,
-    /// What the clients told whose seats were merged into the first one.
+    /// What the clients told whose seats were merged into this one.
     pub closed: LinkedList<Closed<E, C, R>>,
 }

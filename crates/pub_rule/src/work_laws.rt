@@ -19,7 +19,7 @@ ghost use Rattle.pub_rule.specs.WorkLaws.{
   KeptByLook,
   KeptByWatch,
 };
-ghost use Rattle.pub_rule.specs.WorkClosing.{KeptByClose, KnownAtEnd};
+ghost use Rattle.pub_rule.specs.WorkClosing.{KeptByEnter, KeptByClose, KnownAtEnd};
 
 use crate::served::Served;
 
@@ -98,8 +98,13 @@ pub fn watch<S: Served>()
     ensures { (n : ℕ) → KeptByWatch S.history S.legal S.own S.replies n }
 {}
 
+/// Enter, as the list is closed: a new seat of no client, which knows nothing.
+pub fn enter<S: Served>()
+    ensures { (n : ℕ) → KeptByEnter S.history S.legal S.own S.replies n }
+{}
+
 /// Merge, as the list is closed: the seat of a client that doesn't combine, and has its slot at home, is
-/// spent, and the first seat keeps what it told. The clients come in any order.
+/// spent, and a seat of no client keeps what it told. The clients come in any order.
 pub fn close<S: Served>()
     ensures { (n : ℕ) → KeptByClose S.history S.legal S.own S.replies n }
 {}

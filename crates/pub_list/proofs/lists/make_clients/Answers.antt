@@ -21,7 +21,6 @@ loop-client-preserved g c = let i = c.loop-client.invariant in let did = c.split
   (
     ap (λ m. m.0.walk.role) did.2 ∙ ap (λ (k : ℕ). roles.Maker (k + 1)) (ap made_of i.1.0),
     ap (λ m. m.0.work.stage) did.2 ∙ ap (λ (k : ℕ). stages.Maker (k + 1)) (ap seats_of i.1.1),
-    ap (λ m. m.0.work.closed) did.2 ∙ i.1.2,
   ),
   ap length e ∙ (length_push _ _ ∙ ap (λ (k : ℕ). k + 1) i.2),
   subst (λ xs. (k : ℕ) → IfSome (slice_get xs k) (λ f. f.client ≡ k)) (sym e) (placed_push (λ k f. f.client ≡ k) _ _ _ i.2 i.3 refl),
