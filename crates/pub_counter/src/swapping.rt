@@ -10,19 +10,16 @@ use pub_list::{Answer, Joined, List, Took, WordState};
 
 /// Serves the record of `client`, if it is posted (flat combining: Hendler, Incze, Shavit, Tzafrir 2010), and
 /// gives the state back. That the call waits, or brings another that waits its reply, is the project's own.
-pub fn serve(
-    joined: &mut Joined<Swap>,
-    list: &List<Swap>,
-    client: u32,
-    state: Swap,
-) -> Swap
+pub fn serve(joined: &mut Joined<Swap>, list: &List<Swap>, client: u32, state: Swap) -> Swap
     requires list { joined.old.seat.table_id ≡ list.now.table.shared.table_id }
-    requires client { client < list.now.clients }
     requires serving { IsServing list.now.clients joined.old.seat.me.0 state }
     ensures list { joined.new.seat.table_id ≡ joined.old.seat.table_id }
     ensures serving { IsServing list.now.clients joined.new.seat.me.0 result }
     ensures far { (joined.new.client ≡ joined.old.client) × IsAsFar joined.old.seat.me.0 joined.new.seat.me.0 }
 {
+    if client >= list.clients() {
+        return state;
+    }
     match joined.take(list, client, WordState::Posted) {
         Took::FromPosted(amount) => enter(joined, list, client, amount, state),
         _ => state,
@@ -111,9 +108,7 @@ pub fn pass(joined: &mut Joined<Swap>, list: &List<Swap>) -> Result<(), u32>
     let mut met = [0; 64];
     let count = joined.walk(list, &mut met);
     for i in 0..count {
-        if met[i] < list.clients() {
-            state = serve(joined, list, met[i], state);
-        }
+        state = serve(joined, list, met[i], state);
     }
     joined.release(list, state);
     Ok(())
