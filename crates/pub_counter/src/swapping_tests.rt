@@ -5,7 +5,8 @@ ghost use Rattle.pub_counter.specs.Tests.{IsResting};
 
 use super::Swap;
 use super::swapping::pass;
-use pub_list::{Answer, Joined, List, WordState};
+use pub_list::{Answer, End, Joined, List, WordState};
+use pub_rule::Served;
 use std::test::Fail;
 
 /// What a client is told.
@@ -43,5 +44,20 @@ fn a_parked_call_is_answered_by_a_later_pass(rt: HostRuntime) -> Result<(), Fail
     assert!(rt; ask(&mut second, &list, 7));
     assert!(rt; matches!(told(&mut first, &list), Ok(7)));
     assert!(rt; matches!(told(&mut second, &list), Ok(5)));
+    Ok(())
+}
+
+#[test]
+fn a_list_is_closed_while_a_call_waits(rt: HostRuntime) -> Result<(), Fail> {
+    let (list, mut clients) = List::new(rt.alloc(), 2, Swap::new(rt.alloc()))?;
+    let second = clients.pop().expect(&rt, "a client");
+    let mut first = clients.pop().expect(&rt, "a client").join(&list);
+    assert!(rt; ask(&mut first, &list, 5));
+    let mut closing = list.closing();
+    closing.add(End::Fresh(second));
+    closing.add(End::Joined(first));
+    let state = closing.end();
+    assert_eq!(rt; state.events(), 1);
+    assert_eq!(rt; state.waits(), Some((0, 5)));
     Ok(())
 }
