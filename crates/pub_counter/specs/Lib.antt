@@ -1,1 +1,5 @@
 pub mod Counter
+pub mod Service
+pub mod Swap
+pub mod Swapping
+pub mod Tests

@@ -1,6 +1,6 @@
 //! A counter, and that it meets the laws of a served state.
-ghost use Rattle.std.specs.Prelude.{◌≡◌, ◌<◌, ◌^◌, [], length};
-ghost use Rattle.pub_counter.specs.Counter.{total};
+ghost use Rattle.std.specs.Prelude.{◌≡◌, ◌<◌, ◌^◌, [], length, IsNone, IfSome};
+ghost use Rattle.pub_counter.specs.Counter.{total, IsAdded};
 
 use pub_rule::Served;
 use std::alloc::Global;
@@ -19,6 +19,8 @@ pub struct Turn {
 #[derive(Drop)]
 pub struct Counter {
     turns: Vec<Turn>,
+    sum: u64,
+    ghost summed: { sum ≡ total turns.items },
 }
 
 impl Counter {
@@ -28,13 +30,37 @@ impl Counter {
     {
         Counter {
             turns: Vec::new(alloc),
+            sum: 0,
+        }
+    }
+
+    /// All turns so far, in their order. It is the project's own.
+    pub fn turns(&self) -> &[Turn]
+        ensures { result.now ≡ self.now.turns.items }
+    {
+        self.turns.as_slice()
+    }
+
+    /// Adds `amount` for `client`, and returns the sum of all amounts. `None` comes where the sum would be
+    /// above `u64::MAX`, or memory was refused; the counter stays as it was. It is the project's own.
+    pub fn add(&mut self, client: u64, amount: u64) -> Option<u64>
+        ensures none { IsNone result → self.new.turns.items ≡ self.old.turns.items }
+        ensures some { IfSome result (λ sum. IsAdded client amount self.old.turns.items self.new.turns.items sum) }
+    {
+        let sum = self.sum.checked_add(amount)?;
+        match self.turns.push(Turn { client, amount }) {
+            Ok(()) => {
+                self.sum = sum;
+                Some(sum)
+            }
+            Err(_) => None,
         }
     }
 }
 
 /// A call is an amount, and its reply the sum of all amounts up to it.
 impl Served for Counter {
-    ghost use Rattle.pub_counter.specs.Counter.{own, replies, own_call, own_other, one_more, no_more};
+    ghost use Rattle.pub_counter.specs.Counter.{own, replies, starts_empty, own_call, own_other, one_more, no_more};
 
     type Event = Turn;
 
@@ -57,6 +83,8 @@ impl Served for Counter {
     fn events(&self) -> u64 {
         self.turns.len() as u64
     }
+
+    ghost starts_empty = { starts_empty };
 
     ghost own_call = { own_call };
 

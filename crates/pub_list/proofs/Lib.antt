@@ -1,3 +1,11 @@
 mod Joining
+mod Looking
+mod Posting
+mod Replying
 mod Seats
+mod Seizing
+mod Taking
 mod Walking
+mod Working
+mod Handing
+mod Ended

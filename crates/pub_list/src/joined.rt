@@ -5,7 +5,7 @@ ghost use Rattle.pub_rule.specs.Steps.{IsKnown};
 ghost use Rattle.pub_list.specs.Joined.{IsJoined, client_at, IsStill, SeesAll, SeesFrom, seen, told, tries};
 
 use crate::lists::{List, Place};
-use pub_rule::{LoadHead, LoadNext, MergeToken, Served, SplitToken, head_word, next_word};
+use pub_rule::{LoadHead, LoadNext, Served, head_word, next_word};
 
 /// A client that has joined the list: its publication record (flat combining: Hendler, Incze, Shavit, Tzafrir
 /// 2010) stands on it. It can walk the records of those that have joined.
@@ -78,25 +78,6 @@ impl<S: Served> Joined<S> {
             at = self.next(list, client);
         }
         count
-    }
-
-    /// Learns from another client of the list that it has joined. The other knows afterwards what it knew.
-    /// This is the project's own.
-    pub fn learn(&mut self, list: &List<S>, other: &mut Joined<S>)
-        requires own { self.old.seat.table_id ≡ list.now.table.shared.table_id }
-        requires other { other.old.seat.table_id ≡ list.now.table.shared.table_id }
-        ensures client { self.new.client ≡ self.old.client }
-        ensures list { self.new.seat.table_id ≡ self.old.seat.table_id }
-        ensures told { told self.new.seat ≡ other.old.client ∷ told self.old.seat }
-        ensures seen { seen self.new.seat ≡ seen self.old.seat }
-        ensures tries { tries self.new.seat ≡ tries self.old.seat }
-        ensures other { (other.new.client ≡ other.old.client) × IsStill other.old.seat other.new.seat }
-        ensures other_seen { seen other.new.seat ≡ seen other.old.seat }
-    {
-        let token = list.table.shared.split_seat::<SplitToken>(&mut other.seat);
-        list.table
-            .shared
-            .join_seat::<MergeToken>(&mut self.seat, token);
     }
 }
 

@@ -4,10 +4,19 @@
 //! waits for another thread, and none but `List::new` takes memory.
 #![tactic(auto)]
 
+mod asking;
+mod closing;
+mod combining;
 mod fresh;
 mod joined;
 mod lists;
+mod records;
+mod telling;
 
+pub use asking::Answer;
+pub use closing::{Closing, End};
+pub use combining::Took;
 pub use fresh::Fresh;
 pub use joined::Joined;
 pub use lists::List;
+pub use records::WordState;

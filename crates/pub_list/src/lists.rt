@@ -6,14 +6,18 @@ ghost use Rattle.pub_list.specs.Lists.{IsSized, IsMaker};
 
 use crate::fresh::Fresh;
 use atomic_table::{Seat, Table};
-use pub_rule::{Listed, Resting, Served, Slot, SplitClient, View, word_count};
+use pub_rule::{Combining, Listed, Served, Slot, SplitClient, View, Work, word_count};
 use std::alloc::{AllocError, Global};
 
 pub(crate) type Record<S> = Slot<<S as Served>::Call, <S as Served>::Reply, S>;
 
-pub(crate) type Records<S> = Table<Record<S>, View<()>, u64, Listed<Resting<S>>, Global>;
+pub(crate) type Knowledge<S> = View<
+    Work<<S as Served>::Event, <S as Served>::Call, <S as Served>::Reply>,
+>;
 
-pub(crate) type Place<S> = Seat<Record<S>, View<()>>;
+pub(crate) type Records<S> = Table<Record<S>, Knowledge<S>, u64, Listed<Combining<S>>, Global>;
+
+pub(crate) type Place<S> = Seat<Record<S>, Knowledge<S>>;
 
 /// A publication list (flat combining: Hendler, Incze, Shavit, Tzafrir 2010) that serves the state `S`: a
 /// record for each client, the records that joined in a list, and the state. Threads share it by reference.

@@ -1,5 +1,6 @@
 -- The steps of the holder keep the rule.
-use Rattle.std.proofs.Common.{◌≡◌, ℕ, eqb, ◌<◌, List, get_or, set, sym, refl, ap, ◌∙◌, subst, arith, lt_of_not-le}
+use Rattle.std.proofs.Common.{◌≡◌, ◌≢◌, ℕ, eqb, ◌<◌, List, length, get_or, set, sym, refl, ap, ◌∙◌, subst, inl, ⊎_elim, arith, lt_of_not-le}
+use lib.Seq.{set-get_or}
 use mathlib.Core.Logic.{dite}
 use native.Mathlib.Decide.{dec_le}
 use mathlib.Core.Option.{none, some}
@@ -15,20 +16,21 @@ use Rattle.pub_rule.specs.declared.work.Serving.TheVariants.{Nothing, Posted}
 use Rattle.pub_rule.specs.declared.served.Slot.{Slot}
 use Rattle.pub_rule.specs.declared.served.Slot.TheVariants as slots
 use Rattle.pub_rule.specs.Words.{state_word}
-use Rattle.pub_rule.specs.Work.{Phase, away, free, posted, taken, parked, resumed, refused, replied, Client, Desk, IsTaken, IsTakenIn, word_of, home_of, IsDealt, IsInPhase, HasReplies, IsInStage, Serves}
-use Rattle.pub_rule.specs.WorkSteps.{with_work, taking, call_taken}
+use Rattle.pub_rule.specs.Work.{Phase, away, free, posted, taken, parked, resumed, refused, replied, Client, Desk, IsTaken, IsTakenIn, word_of, home_of, IsDealt, IsInPhase, IsMarked, HasReplies, IsSettled, IsInStage, IsClient, Serves}
+use Rattle.pub_rule.specs.WorkSteps.{with_work, dealt, taking, call_taken}
 use Rattle.pub_rule.specs.WorkLaws.{KeptByTake}
 use Rattle.pub_rule.proofs.Numbers.{state_from_head, state_from_next}
-use Rattle.pub_rule.proofs.Moves.{Stays, holder_step, has_seat}
+use Rattle.pub_rule.proofs.Moves.{Stays, holder_step, has_seat, view_step}
 use Rattle.pub_rule.proofs.Lift.{Served, lift}
-use Rattle.pub_rule.proofs.Clientwork.{all_of, idle}
+use Rattle.pub_rule.proofs.Clientwork.{all_of}
+use Rattle.pub_rule.proofs.Passing.{marks_are, past_is}
 
-abbrev is_nothing : {C : Type 0} → Serving C → Type 0
+abbrev pub is_nothing : {C : Type 0} → Serving C → Type 0
 is_nothing Nothing = Unit {0}
 is_nothing _ = ⊥
 
 -- what is no longer taken
-retaken : {C R : Type 0} (r : ℕ) (p : Phase C R) (d d' : Serving C) → is_nothing d → ¬ IsTaken r d' → IsTakenIn r d p → IsTakenIn r d' p
+pub retaken : {C R : Type 0} (r : ℕ) (p : Phase C R) (d d' : Serving C) → is_nothing d → ¬ IsTaken r d' → IsTakenIn r d p → IsTakenIn r d' p
 retaken r away d d' clear not h = not
 retaken r free d d' clear not h = not
 retaken r (posted c) d d' clear not h = not
@@ -39,7 +41,7 @@ retaken r (refused c) d d' clear not h = not
 retaken r (replied c x) d d' clear not h = not
 
 -- whose replies are in the history doesn't hang on the record that is taken
-same_replies : {E C R : Type 0} (own : List E → ℕ → List C) (replies : List E → ℕ → List R) (d : Desk E C) (serving : Serving C) (r : ℕ) (got : List R) (p : Phase C R) → HasReplies own replies d r got p → HasReplies own replies (record d { serving = serving }) r got p
+pub same_replies : {E C R : Type 0} (own : List E → ℕ → List C) (replies : List E → ℕ → List R) (d : Desk E C) (serving : Serving C) (r : ℕ) (got : List R) (p : Phase C R) → HasReplies own replies d r got p → HasReplies own replies (record d { serving = serving }) r got p
 same_replies own replies d serving r got away h = h
 same_replies own replies d serving r got free h = h
 same_replies own replies d serving r got (posted c) h = h
@@ -48,6 +50,28 @@ same_replies own replies d serving r got (parked c) h = h
 same_replies own replies d serving r got (resumed c) h = h
 same_replies own replies d serving r got (refused c) h = h
 same_replies own replies d serving r got (replied c x) h = h
+
+-- nor whether it was handed out
+pub same_settled : {E C R : Type 0} (own : List E → ℕ → List C) (replies : List E → ℕ → List R) (d : Desk E C) (serving : Serving C) (r : ℕ) (p : Phase C R) → IsSettled own replies d r p → IsSettled own replies (record d { serving = serving }) r p
+same_settled own replies d serving r away h = h
+same_settled own replies d serving r free h = h
+same_settled own replies d serving r (posted c) h = h
+same_settled own replies d serving r (taken c) h = h
+same_settled own replies d serving r (parked c) h = h
+same_settled own replies d serving r (resumed c) h = h
+same_settled own replies d serving r (refused c) h = h
+same_settled own replies d serving r (replied c x) h = h
+
+-- a record that isn't taken, nor posted, is dealt with
+is_dealt : {C R : Type 0} (r : ℕ) (p : Phase C R) (d : Serving C) → is_nothing d → word_of p ≢ 1 → IsTakenIn r d p → IsDealt p
+is_dealt r away d clear not h = tt
+is_dealt r free d clear not h = tt
+is_dealt r (posted c) d clear not h = absurd (not refl)
+is_dealt r (taken c) d clear not h = absurd (subst is_nothing h clear)
+is_dealt r (parked c) d clear not h = tt
+is_dealt r (resumed c) d clear not h = tt
+is_dealt r (refused c) d clear not h = tt
+is_dealt r (replied c x) d clear not h = tt
 
 one : {C R : Type 0} (p : Phase C R) → word_of p ≡ 1 → (c : C) × (p ≡ posted c)
 one away e = absurd (omega arith)
@@ -61,18 +85,30 @@ one (replied c x) e = absurd (omega arith)
 
 taken_from : {C : Type 0} (R : Type 0) (c : C) (st : Stage C) → IsInStage {C = C} {R = R} st (posted c) → IsInStage {C = C} {R = R} st (taken c)
 taken_from R c stages.Spent h = tt
-taken_from R c (stages.Maker k m) h = tt
+taken_from R c (stages.Maker k) h = tt
 taken_from {C} R c (stages.Away q) h = absurd (subst (λ (p : Phase C R). IsDealt p → ⊥) h (λ f. f) tt)
 taken_from {C} R c (stages.Free q) h = absurd (subst (λ (p : Phase C R). IsDealt p → ⊥) h (λ f. f) tt)
 taken_from R c (stages.Asking q k) h = h
 taken_from R c (stages.Token q) h = tt
 
+-- a client whose record is posted asks
+own_posted : {C : Type 0} (R : Type 0) (q : ℕ) (c : C) (st : Stage C) → IsClient q st → IsInStage {C = C} {R = R} st (posted c) → st ≡ stages.Asking q c
+own_posted R q c stages.Spent h i = absurd h
+own_posted R q c (stages.Maker k) h i = absurd h
+own_posted {C} R q c (stages.Away a) h i = absurd (subst (λ (p : Phase C R). IsDealt p → ⊥) i (λ f. f) tt)
+own_posted {C} R q c (stages.Free a) h i = absurd (subst (λ (p : Phase C R). IsDealt p → ⊥) i (λ f. f) tt)
+own_posted R q c (stages.Asking a k) h i = λ j. stages.Asking (h j) (sym i j)
+own_posted R q c (stages.Token a) h i = absurd h
+
 module _ {E C R S : Type 0} (history : S → List E) (legal : List E → Type 0) (own : List E → ℕ → List C) (replies : List E → ℕ → List R) (n : ℕ) where
   abbrev Half : State (Slot C R S) (Work E C R) → Type 0
   Half = Served n (Serves history legal own replies n)
 
+  as_many : (hist seen : List E) (q : ℕ) (entered : List C) (got : List R) → seen ≡ hist → own hist q ≡ entered → replies hist q ≡ got → length entered ≡ length got → length (own seen q) ≡ length (replies seen q)
+  as_many hist seen q entered got same calls answers even = subst (λ (h : List E). length (own h q) ≡ length (replies h q)) (sym same) (ap length calls ∙ (even ∙ sym (ap length answers)))
+
   pub take : KeptByTake history legal own replies n
-  take size id p q me was holds nothing inside = let v : Work E C R = me.0.work in let then : ℕ → Me (Slot C R S) (View (Work E C R)) → Type 0 = call_taken (step size (state_word q) 1 2 none) me in
+  take size id p q me was holds nothing inside = let v : Work E C R = me.0.work in let then : ℕ → Me (Slot C R S) (View (Work E C R)) → Type 0 = λ k m'. call_taken (step size (state_word q) 1 2 none) me k m' own replies in
       let half : ℕ → Me (Slot C R S) (Work E C R) → Type 0 = λ k m'. then k (with_work m'.0 me.0, m'.1) in
       lift n (Serves history legal own replies n) size id (state_word q) (λ k. either (eqb k 1) 2 k) me half then (λ e. state_from_head q (sym e)) (λ r e. state_from_next q r (sym e))
       (λ s r sz at _. let found : ℕ = get_or s.words (state_word q) 0 in
@@ -83,18 +119,48 @@ module _ {E C R S : Type 0} (history : S → List E) (legal : List E → Type 0)
       (λ hit. let y = one o.phase (sym rec.word ∙ hit) in let c : C = y.0 in let e : o.phase ≡ posted c = y.1 in
       let old : IsInPhase own replies r.desk q (record o { phase = posted c }) = subst (λ (z : Phase C R). IsInPhase own replies r.desk q (record o { phase = z })) e rec.phase in
       let small : q < r.made = (dite (dec_le r.made q) (λ h. absurd (subst (λ (z : Phase C R). IsDealt z → ⊥) (sym e ∙ has_seat history legal own replies n s.words s.homes s.views r q h) (λ f. f) tt)) (λ h. lt_of_not-le h)) in
-      let desk' : Desk E C = record r.desk { serving = Posted q c } in (
+      let desk' : Desk E C = record r.desk { serving = Posted q c } in
+      let even_now : length (own v.seen q) ≡ length (replies v.seen q) = as_many (r.desk.hist) v.seen q o.entered o.got b.seen old.calls old.replies_are old.even in (
         taking q c v,
         takes q (slots.Call c),
         rec.home ∙ ap (λ (z : Phase C R). some (home_of z)) e,
         subst (λ (w : Work E C R). Serves history legal own replies n (set s.words (state_word q) 2) (set s.homes q none) (set s.views id w)) (λ i. record v { seen = sym b.seen i; before = sym b.before i; paid = sym b.paid i; serving = Posted q c })
-            (holder_step history legal own replies n s.words s.homes s.views r id p q 2 none v (record o { phase = taken c }) desk' at was holds small
+            (holder_step history legal own replies n s.words s.homes s.views r id p q 2 none v (record o { phase = taken c }) desk' v.passed v.past at was holds small
             (subst (λ (z : Phase C R). Stays (record o { phase = z }) (record o { phase = taken c })) (sym e)
-            record { stage = taken_from R c; entered = refl; got = refl; posts = refl; begun = refl; dealt = λ h. h })
-            refl refl record { calls = old.calls; even = old.even; replies_are = old.replies_are; was_parked = tt; taken_is = refl }
-            (λ i _ other h. record { calls = h.calls; even = h.even; replies_are = same_replies own replies r.desk (Posted q c) i (r.truth i).got (r.truth i).phase h.replies_are; was_parked = h.was_parked; taken_is = retaken i (r.truth i).phase r.desk.serving (Posted q c) unserved other h.taken_is })
-            (all_of r.desk.hist) r.is_legal (λ i h. subst (λ (z : ℕ). z < n) (sym h) inside)),
-        ((λ _. (q, c, refl, refl)), λ other. absurd (other hit)),
+            record { stage = taken_from R c; entered = refl; got = refl; posts = refl; begun = refl; dealt = λ h. h; ready = λ h. absurd (omega arith) })
+            refl refl record { calls = old.calls; even = old.even; replies_are = old.replies_are; settled = old.settled; was_parked = tt; taken_is = refl }
+            (λ i _ other h. record { calls = h.calls; even = h.even; replies_are = same_replies own replies r.desk (Posted q c) i (r.truth i).got (r.truth i).phase h.replies_are; settled = same_settled own replies r.desk (Posted q c) i (r.truth i).phase h.settled; was_parked = h.was_parked; taken_is = retaken i (r.truth i).phase r.desk.serving (Posted q c) unserved other h.taken_is })
+            (all_of r.desk.hist) r.is_legal (λ i h. subst (λ (z : ℕ). z < n) (sym h) inside) (λ _ _ m. inl m) (λ h. inl h)),
+        ((λ _. (q, c, refl, even_now, (λ is. own_posted R q c v.stage is (subst (λ (z : Phase C R). IsInStage v.stage z) e (k.client q is).stage)), refl)), λ other. absurd (other hit)),
       ))
-      (λ miss. (v, keeps, tt, idle history legal own replies n s (state_word q) id v at r, ((λ hit. absurd (miss hit)), λ _. refl))))
+      (λ miss. let deal : IsDealt o.phase = is_dealt q o.phase r.desk.serving unserved (λ e. miss (rec.word ∙ e)) rec.phase.taken_is in (
+        dealt q v,
+        keeps,
+        tt,
+        subst (λ (ws : List ℕ). Serves history legal own replies n ws s.homes (set s.views id (dealt q v))) (sym (set-get_or s.words (state_word q) 0)) (view_step history legal own replies n s.words s.homes s.views r id (dealt q v) record {
+          maker = k.maker;
+          client = λ i is. let d = k.client i is in record {
+            made_it = d.made_it;
+            live = d.live;
+            seat_is = d.seat_is;
+            stage = d.stage;
+            entered = d.entered;
+            got = d.got;
+            posts = d.posts;
+            begun = d.begun;
+            past = λ h. ⊎_elim d.past (λ (e : i ≡ q). subst (λ (z : ℕ). IsDealt (r.truth z).phase) (sym e) deal) (past_is i q v.stage v.past is h);
+            ready = d.ready;
+            holds = d.holds;
+            waits = d.waits;
+          };
+          token = k.token;
+          combines = λ h. let c = k.combines h in record { client = c.client; seen = c.seen; before = c.before; paid = c.paid; serving = c.serving };
+          saw = k.saw;
+          was_told = k.was_told;
+          met = k.met;
+          heard = k.heard;
+          passed = λ i j m. ⊎_elim (λ (h : (i ≡ q) × IsMarked i j v.heard). let g = k.heard i j h.1 in (g.0, g.1, λ _. subst (λ (z : ℕ). IsDealt (r.truth z).phase) (sym h.0) deal)) (k.passed i j) (marks_are q i j v.heard v.passed m);
+        }),
+        ((λ hit. absurd (miss hit)), λ _. (q, refl, refl)),
+      )))
       (λ _ _ _ h. h)

@@ -141,9 +141,9 @@ module _ (n : ℕ) (words : List ℕ) (views : List Walk) (r : Walks n words vie
     told = told;
   }
 
-  -- a token is spent
-  pub spends : (id : ℕ) (v : Walk) → get_elem? views id ≡ some v → v.role ≡ Token → Walks n words (set views id (blank Spent))
-  spends id v at is = becomes id v (blank Spent) at (λ q h. absurd (subst (IsOnByRole q r.list) is h)) record { role = tt; loaded = (r.list, nil_behind r.list); tried = omega arith; told = λ c h. absurd h }
+  -- a seat is spent
+  pub spends : (id : ℕ) (v : Walk) → get_elem? views id ≡ some v → Walks n words (set views id (blank Spent))
+  spends id v at = becomes id v (blank Spent) at (λ _ _. tt) record { role = tt; loaded = (r.list, nil_behind r.list); tried = omega arith; told = λ c h. absurd h }
 
   -- an unjoined client stores to its next word
   pub stores : (id c x : ℕ) (v : Walk) → get_elem? views id ≡ some v → v.role ≡ Fresh c → Walks n (set words (next_word c) x) (set views id (with_stored x v))
@@ -213,6 +213,22 @@ module _ (n : ℕ) (words : List ℕ) (views : List Walk) (r : Walks n words vie
               told = λ q h. inr (k.told q h);
             });
       }
+
+  -- a seat that is nobody's knows nothing
+  pub enters_spent : Walks n words (views ++ blank Spent ∷ [])
+  enters_spent = record {
+    list = r.list;
+    made = r.made;
+    seat = r.seat;
+    wide = r.wide;
+    few = r.few;
+    head = r.head;
+    linked = r.linked;
+    distinct = r.distinct;
+    unmade = r.unmade;
+    each_client = λ q l. let s = r.each_client q l in (s.0, at_longer views (blank Spent ∷ []) (r.seat q) s.0 s.1, s.2);
+    each_seat = λ j u e. ⊎_elim (r.each_seat j u) (λ (t : blank Spent ≡ u). subst (Knows r.made r.seat r.list words j) t record { role = tt; loaded = (r.list, nil_behind r.list); tried = omega arith; told = λ c h. absurd h }) (at_snoc views (blank Spent) u j e);
+  }
 
   -- a token that tells the truth
   pub tells : (w : Walk) → w.role ≡ Token → w.list ≡ [] → w.tries ≡ 0 → ((c : ℕ) → IsOn c w.known → IsOn c r.list) → Walks n words (views ++ w ∷ [])

@@ -9,12 +9,13 @@ use Rattle.atomic_table.specs.Table.{State, Me, step, Act, keeps, takes, gives, 
 use Rattle.atomic_table.proofs.Lists.{exchanged, set_here, set_else}
 use Rattle.pub_rule.specs.declared.walk.View.{View}
 use Rattle.pub_rule.specs.declared.work.Work.{Work}
+use Rattle.pub_rule.specs.declared.work.Serving.{Serving}
 use Rattle.pub_rule.specs.declared.work.Serving.TheVariants.{Nothing}
 use Rattle.pub_rule.specs.declared.served.Slot.{Slot}
 use Rattle.pub_rule.specs.declared.served.Slot.TheVariants as slots
 use Rattle.pub_rule.specs.Words.{lock_word, state_word}
 use Rattle.pub_rule.specs.Lists.{IsOn}
-use Rattle.pub_rule.specs.Work.{GoesOn, Phase, away, free, posted, taken, parked, resumed, refused, replied, HasReplies, Client, Desk, word_of, home_of, HasRecord, IsUnheld, IsHeld, IsInPhase, IsClient, Tells, Serves}
+use Rattle.pub_rule.specs.Work.{GoesOn, Phase, away, free, posted, taken, parked, resumed, refused, replied, HasReplies, IsSettled, Client, Desk, word_of, home_of, HasRecord, IsUnheld, IsHeld, IsInPhase, IsClient, Tells, Serves}
 use Rattle.pub_rule.specs.WorkSteps.{with_work, holding, meeting, state_seized, released, state_released}
 use Rattle.pub_rule.specs.WorkLaws.{KeptBySeize, KeptByRelease}
 use Rattle.pub_rule.proofs.Numbers.{lock_from_head, lock_from_next, lock_within, state_from_lock}
@@ -44,7 +45,7 @@ module _ {E C R S : Type 0} (history : S → List E) (legal : List E → Type 0)
         s.taken_below c.made_it
         (λ r l. put_case (HasRecord own replies words' homes' s.desk r) s.truth p t r
         (λ e. record_of r l t (subst (λ (z : ℕ). IsInPhase own replies s.desk z t) (sym e)
-        (let h = (s.each_client p (subst (λ (z : ℕ). z < n) e l)).phase in record { calls = h.calls; even = h.even; replies_are = h.replies_are; was_parked = h.was_parked; taken_is = h.taken_is })) (ap (λ (z : ℕ). (s.truth z).phase) (sym e)))
+        (let h = (s.each_client p (subst (λ (z : ℕ). z < n) e l)).phase in record { calls = h.calls; even = h.even; replies_are = h.replies_are; settled = h.settled; was_parked = h.was_parked; taken_is = h.taken_is })) (ap (λ (z : ℕ). (s.truth z).phase) (sym e)))
         (λ _. record_of r l (s.truth r) (s.each_client r l).phase refl))
         (mine_by history legal own replies n words homes works s id p t (p + 1) s.desk p w was
         (subst (λ (b : Client E C R). Tells s.made s.done s.seat (p + 1) id p w b) (sym (put_at s.truth p t p refl)) record {
@@ -57,10 +58,11 @@ module _ {E C R S : Type 0} (history : S → List E) (legal : List E → Type 0)
           posts = c.posts;
           begun = ap (λ (z : ℕ). z + 1) c.begun;
           past = c.past;
+          ready = c.ready;
           holds = λ _. refl;
           waits = λ e. absurd (false≢true (sym e));
         })
-        (λ _. record { client = (p, was); seen = refl; before = sym u.before; paid = sym u.paid; serving = sym u.nothing }) (all_of s.desk.hist)
+        (λ _. record { client = (p, was); seen = refl; before = sym u.before; paid = sym u.paid; serving = sym u.nothing }) (all_of s.desk.hist) (s.each_seat id v at).was_told
         (met_still history legal own replies n words homes works s id p t f id v at) (heard_still history legal own replies n words homes works s id p t f id v at) (passed_still history legal own replies n words homes works s id p t f id v at))
 
   pub seize : KeptBySeize history legal own replies n
@@ -96,10 +98,11 @@ module _ {E C R S : Type 0} (history : S → List E) (legal : List E → Type 0)
         subst (λ (ws : List ℕ). Serves history legal own replies n ws s.homes (set s.views id (meeting c v))) (sym (set-get_or s.words lock_word 0))
             (view_step history legal own replies n s.words s.homes s.views r id (meeting c v) record {
               maker = k.maker;
-              client = λ q is. let d = k.client q is in record { made_it = d.made_it; live = d.live; seat_is = d.seat_is; stage = d.stage; entered = d.entered; got = d.got; posts = d.posts; begun = d.begun; past = d.past; holds = d.holds; waits = d.waits };
+              client = λ q is. let d = k.client q is in record { made_it = d.made_it; live = d.live; seat_is = d.seat_is; stage = d.stage; entered = d.entered; got = d.got; posts = d.posts; begun = d.begun; past = d.past; ready = d.ready; holds = d.holds; waits = d.waits };
               token = k.token;
               combines = λ e. let b = k.combines e in record { client = b.client; seen = b.seen; before = b.before; paid = b.paid; serving = b.serving };
               saw = k.saw;
+              was_told = k.was_told;
               met = λ q on. ⊎_elim (λ (e : q ≡ c). subst (λ (z : ℕ). (z < r.made) × (1 ≤ (r.truth z).begun)) (sym e) (h.client, h.begun)) (λ t. k.met q t) on;
               heard = k.heard;
               passed = k.passed;
@@ -129,6 +132,17 @@ module _ {E C R S : Type 0} (history : S → List E) (legal : List E → Type 0)
   settled d r got (refused c) owed h = h
   settled d r got (replied c x) owed h = h
 
+  -- nothing came since
+  settles : (h : List E) (p : Phase C R) (r : ℕ) (serving : Serving C) → IsSettled own replies (record { hist = h; before = h; paid = []; serving = serving }) r p
+  settles h away r serving = inl refl
+  settles h free r serving = inl refl
+  settles h (posted c) r serving = inl refl
+  settles h (taken c) r serving = inl refl
+  settles h (parked c) r serving = tt
+  settles h (resumed c) r serving = tt
+  settles h (refused c) r serving = inl refl
+  settles h (replied c x) r serving = inl refl
+
   release_half : (size id p : ℕ) (x : S) (v : Work E C R) (hands : List (ℕ × Slot C R S)) → IsClient p v.stage → v.holds ≡ true → v.serving ≡ Nothing → history x ≡ v.seen → ((r : ℕ) → r < n → (replies v.seen r ≡ replies v.before r) ⊎ IsOn r v.paid)
       → Allows Half size id (v, (n, slots.State x) ∷ hands) lock_word (λ _. 0) (λ _ m'. m' ≡ (released v, hands))
   release_half size id p x v hands was holds nothing is owes st s sz at _ = let k = s.each_seat id v at in let c = k.client p was in let b = k.combines holds in let few = s.few in let deep = s.deep in let o : Client E C R = s.truth p in
@@ -138,7 +152,7 @@ module _ {E C R S : Type 0} (history : S → List E) (legal : List E → Type 0)
       let before_record : (r : ℕ) → r < n → HasRecord own replies words' homes' desk' r (s.truth r) = λ r l. let old = s.each_client r l in let h = old.phase in record {
         word = get_or-set_other st.words lock_word (state_word r) 0 0 (state_from_lock r) ∙ old.word;
         home = set_else st.homes n r (some (slots.State x)) (λ e. omega arith) ∙ old.home;
-        phase = record { calls = h.calls; even = h.even; replies_are = settled s.desk r (s.truth r).got (s.truth r).phase (owed r l) h.replies_are; was_parked = h.was_parked; taken_is = h.taken_is };
+        phase = record { calls = h.calls; even = h.even; replies_are = settled s.desk r (s.truth r).got (s.truth r).phase (owed r l) h.replies_are; settled = settles s.desk.hist (s.truth r).phase r s.desk.serving; was_parked = h.was_parked; taken_is = h.taken_is };
       } in (
         w,
         gives,
@@ -161,10 +175,11 @@ module _ {E C R S : Type 0} (history : S → List E) (legal : List E → Type 0)
               posts = c.posts;
               begun = c.begun;
               past = c.past;
+              ready = c.ready;
               holds = λ e. absurd (false≢true e);
               waits = λ _ e. absurd (omega arith);
             })
-            (λ e. absurd (false≢true e)) k.saw
+            (λ e. absurd (false≢true e)) k.saw k.was_told
             (met_still history legal own replies n st.words st.homes st.views s id p o (follows_itself o) id v at) (heard_still history legal own replies n st.words st.homes st.views s id p o (follows_itself o) id v at)
             (passed_still history legal own replies n st.words st.homes st.views s id p o (follows_itself o) id v at)),
         refl,

@@ -1,16 +1,18 @@
 -- What combiners serve, after a step of one seat.
-use Rattle.std.proofs.Common.{◌≡◌, ◌≢◌, ◌⊎◌, ℕ, Bool, true, ◌+◌, ◌<◌, ◌≤◌, List, [], ◌∷◌, ◌++◌, length, get_or, set, sym, refl, ap, ◌∙◌, subst, inl, inr, ⊎_elim, arith, length-set, get_or-set_other, get_or-set_same}
+use Rattle.std.proofs.Common.{◌≡◌, ◌≢◌, ◌⊎◌, ℕ, Bool, true, false, ◌+◌, ◌<◌, ◌≤◌, List, [], ◌∷◌, ◌++◌, length, get_or, set, sym, refl, ap, ◌∙◌, subst, inl, inr, ⊎_elim, arith, length-set, get_or-set_other, get_or-set_same}
+use Rattle.std.proofs.lemmas.Bool.{false≢true}
 use mathlib.Core.Option.{Option, some}
 use native.Mathlib.Decide.{ℕ_discrete}
 use lib.ListN.{get_elem?}
 use Rattle.atomic_table.proofs.Lists.{at_set, set_here, set_else}
 use Rattle.pub_rule.specs.declared.work.Work.{Work}
+use Rattle.pub_rule.specs.declared.work.Closed.{Closed}
 use Rattle.pub_rule.specs.declared.work.Stage.{Stage}
 use Rattle.pub_rule.specs.declared.work.Stage.TheVariants.{Spent, Maker, Away, Free, Asking, Token}
 use Rattle.pub_rule.specs.declared.served.Slot.{Slot}
 use Rattle.pub_rule.specs.Words.{lock_word, state_word, word_count}
 use Rattle.pub_rule.specs.Lists.{IsOn}
-use Rattle.pub_rule.specs.Work.{GoesOn, IsMarked, away, Client, Desk, IsTaken, word_of, home_of, IsDealt, IsInPhase, HasRecord, IsUnheld, IsHeld, IsInStage, IsClient, Tells, Combines, Trusts, Serves}
+use Rattle.pub_rule.specs.Work.{GoesOn, IsMarked, away, Client, Desk, IsTaken, word_of, home_of, IsDealt, IsInPhase, HasRecord, IsUnheld, IsHeld, IsInStage, IsClient, Tells, Combines, IsNobodys, Trusts, Serves}
 use Rattle.pub_rule.proofs.Numbers.{state_within, state_from_state, state_from_lock}
 
 module _ {A : Type 0} where
@@ -48,12 +50,13 @@ module _ {E C R : Type 0} where
     pub posts : o.posts ≡ t.posts
     pub begun : o.begun ≡ t.begun
     pub dealt : IsDealt o.phase → IsDealt t.phase
+    pub ready : word_of o.phase ≡ 4 → word_of t.phase ≡ 4
 
   pub follows_itself : (o : Client E C R) → Follows o o
   follows_itself o = record { posts = omega arith; begun = omega arith; dealt = λ _ h. h }
 
   pub stays_itself : (o : Client E C R) → Stays o o
-  stays_itself o = record { stage = λ _ h. h; entered = refl; got = refl; posts = refl; begun = refl; dealt = λ h. h }
+  stays_itself o = record { stage = λ _ h. h; entered = refl; got = refl; posts = refl; begun = refl; dealt = λ h. h; ready = λ h. h }
 
 module _ {E C R S : Type 0} (history : S → List E) (legal : List E → Type 0) (own : List E → ℕ → List C) (replies : List E → ℕ → List R) (n : ℕ) (words : List ℕ) (homes : List (Option (Slot C R S))) (works : List (Work E C R))
     (s : Serves history legal own replies n words homes works) where
@@ -89,9 +92,32 @@ module _ {E C R S : Type 0} (history : S → List E) (legal : List E → Type 0)
           append_all [] b c = refl
           append_all (x ∷ a) b c = ap (λ (l : List E). x ∷ l) (append_all a b c)
 
+      nobodys : (j : ℕ) (closed : List (Closed E C R)) (st : Stage C) → j ≢ id → IsNobodys s.made s.done s.seat s.truth s.desk j closed st → IsNobodys s.made s.done s.seat (put s.truth q t) desk' j closed st
+      nobodys j closed Spent other b = record {
+        distinct = b.distinct;
+        on = b.on;
+        told = λ c h. let g = b.told c h in let a = stay_all c.client (λ e. other (sym g.seat_is ∙ e)) in record {
+          made_it = g.made_it;
+          seat_is = g.seat_is;
+          client = g.client;
+          home = g.home;
+          stage = a.stage c.stage g.stage;
+          entered = g.entered ∙ a.entered;
+          got = g.got ∙ a.got;
+          begun = g.begun ∙ a.begun;
+          saw = goes_on c.seen g.saw;
+          met = λ r m. let l = g.met r m in let z = (follow r).begun in let y = l.1 in (l.0, omega arith);
+        };
+      }
+      nobodys j closed (Maker k) other b = b
+      nobodys j closed (Away c) other b = tt
+      nobodys j closed (Free c) other b = tt
+      nobodys j closed (Asking c k) other b = tt
+      nobodys j closed (Token c) other b = tt
+
       others : (j : ℕ) (u : Work E C R) → j ≢ id → get_elem? works j ≡ some u → Trusts s.made s.done s.seat (put s.truth q t) lock' desk' j u
       others j u other at = let k = s.each_seat j u at in record {
-        maker = k.maker;
+        maker = nobodys j u.closed u.stage other k.maker;
         client = λ r is. let c = k.client r is in let ne : s.seat r ≢ id = λ e. other (sym c.seat_is ∙ e) in let a = stay_all r ne in record {
           made_it = c.made_it;
           live = c.live;
@@ -102,12 +128,14 @@ module _ {E C R S : Type 0} (history : S → List E) (legal : List E → Type 0)
           posts = c.posts ∙ a.posts;
           begun = c.begun ∙ a.begun;
           past = λ h. a.dealt (c.past h);
+          ready = λ h. a.ready (c.ready h);
           holds = λ h. (locks r ne).0 (c.holds h);
           waits = λ h. (locks r ne).1 (c.waits h);
         };
         token = λ r is. let c = k.token r is in let a = (follow r).posts in let b = c.1 in (c.0, omega arith);
         combines = λ h. combine j u other at h (k.combines h);
         saw = goes_on u.seen k.saw;
+        was_told = goes_on u.hearsay k.was_told;
         met = met_still j u at;
         heard = heard_still j u at;
         passed = passed_still j u at;
@@ -125,6 +153,7 @@ module _ {E C R S : Type 0} (history : S → List E) (legal : List E → Type 0)
         done = s.done;
         seat = s.seat;
         few = s.few;
+        done_made = s.done_made;
         wide = wide;
         deep = deep;
         is_legal = law;
@@ -158,24 +187,33 @@ module _ {E C R S : Type 0} (history : S → List E) (legal : List E → Type 0)
   lock_else q x = get_or-set_other words (state_word q) lock_word x 0 (λ e. state_from_lock q (sym e))
 
   -- the seat that steps is client p's
-  pub mine_by : (id q : ℕ) (t : Client E C R) (lock' : ℕ) (desk' : Desk E C) (p : ℕ) (w : Work E C R) → IsClient p w.stage → Tells s.made s.done s.seat lock' id p w (put s.truth q t p) → (w.holds ≡ true → Combines desk' w) → GoesOn w.seen desk'.hist
+  pub mine_by : (id q : ℕ) (t : Client E C R) (lock' : ℕ) (desk' : Desk E C) (p : ℕ) (w : Work E C R) → IsClient p w.stage → Tells s.made s.done s.seat lock' id p w (put s.truth q t p) → (w.holds ≡ true → Combines desk' w) → GoesOn w.seen desk'.hist → GoesOn w.hearsay desk'.hist
       → ((r : ℕ) → IsOn r w.met → (r < s.made) × (1 ≤ (put s.truth q t r).begun)) → ((r k : ℕ) → IsMarked r k w.heard → (r < s.made) × (k ≤ (put s.truth q t r).posts))
       → ((r k : ℕ) → IsMarked r k w.passed → (r < s.made) × (k ≤ (put s.truth q t r).posts) × ((put s.truth q t r).posts ≡ k → IsDealt (put s.truth q t r).phase))
       → Trusts s.made s.done s.seat (put s.truth q t) lock' desk' id w
-  mine_by id q t lock' desk' p w is tells combines saw met heard passed = record {
-    maker = λ k m e. absurd (subst (IsClient p) e is);
+  mine_by id q t lock' desk' p w is tells combines saw was_told met heard passed = record {
+    maker = clients p w.stage is;
     client = λ r h. subst (λ (z : ℕ). Tells s.made s.done s.seat lock' id z w (put s.truth q t z)) (one_client p r w.stage is h) tells;
     token = λ r e. absurd (subst (IsClient p) e is);
     combines = combines;
     saw = saw;
+    was_told = was_told;
     met = met;
     heard = heard;
     passed = passed;
   }
     where
+      clients : (a : ℕ) (st : Stage C) → IsClient a st → IsNobodys s.made s.done s.seat (put s.truth q t) desk' id w.closed st
+      clients a Spent h = absurd h
+      clients a (Maker k) h = absurd h
+      clients a (Away c) h = tt
+      clients a (Free c) h = tt
+      clients a (Asking c k) h = tt
+      clients a (Token c) h = absurd h
+
       one_client : (a b : ℕ) (st : Stage C) → IsClient a st → IsClient b st → a ≡ b
       one_client a b Spent h i = absurd h
-      one_client a b (Maker k m) h i = absurd h
+      one_client a b (Maker k) h i = absurd h
       one_client a b (Away c) h i = sym h ∙ i
       one_client a b (Free c) h i = sym h ∙ i
       one_client a b (Asking c k) h i = sym h ∙ i
@@ -190,10 +228,10 @@ module _ {E C R S : Type 0} (history : S → List E) (legal : List E → Type 0)
   -- A client's step: it changes its own state word and slot, and what is known of itself
   pub client_step : (id q x : ℕ) (y : Option (Slot C R S)) (v : Work E C R) (t : Client E C R) (st : Stage C) (seen : List E) (past : Bool) → get_elem? works id ≡ some v → IsClient q v.stage → IsClient q st → Follows (s.truth q) t → t.begun ≡ (s.truth q).begun
       → x ≡ word_of t.phase → y ≡ home_of t.phase → IsInPhase own replies s.desk q t → IsInStage st t.phase → (past ≡ true → IsDealt t.phase) → GoesOn seen s.desk.hist → (v.holds ≡ true → seen ≡ s.desk.hist)
-      → (w : Work E C R) → w ≡ record v { stage = st; seen = seen; entered = t.entered; got = t.got; posts = t.posts; past = past }
+      → (w : Work E C R) → w ≡ record v { stage = st; seen = seen; entered = t.entered; got = t.got; posts = t.posts; past = past; ready = false }
       → Serves history legal own replies n (set words (state_word q) x) (set homes q y) (set works id w)
   client_step id q x y v t st seen past at was is f begun number slot phase stage dealt saw still w same = let k = s.each_seat id v at in let c = k.client q was in let few = s.few in let small = c.made_it in let inside : q < n = omega arith in
-      let w' : Work E C R = record v { stage = st; seen = seen; entered = t.entered; got = t.got; posts = t.posts; past = past } in
+      let w' : Work E C R = record v { stage = st; seen = seen; entered = t.entered; got = t.got; posts = t.posts; past = past; ready = false } in
       subst (λ (z : Work E C R). Serves history legal own replies n (set words (state_word q) x) (set homes q y) (set works id z)) (sym same)
       (steps id q t f (λ other. absurd (other c.seat_is)) (get_or words lock_word 0) s.desk ([], nil_behind s.desk.hist) (λ _ _. (λ e. e, λ e. e)) (λ _ _ _ _ _ h. h) (set words (state_word q) x) (set homes q y) w'
       (lock_else q x) (length-set words (state_word q) x ∙ s.wide) (length-set homes q y ∙ s.deep) s.is_legal (lock_same q t y f small) s.taken_below small
@@ -211,10 +249,11 @@ module _ {E C R S : Type 0} (history : S → List E) (legal : List E → Type 0)
         posts = refl;
         begun = c.begun ∙ sym begun;
         past = dealt;
+        ready = λ h. absurd (false≢true h);
         holds = c.holds;
         waits = c.waits;
       })
-      (λ h. let b = k.combines h in record { client = (q, is); seen = still h; before = b.before; paid = b.paid; serving = b.serving }) saw (met_still id q t f id v at) (heard_still id q t f id v at) (passed_still id q t f id v at)))
+      (λ h. let b = k.combines h in record { client = (q, is); seen = still h; before = b.before; paid = b.paid; serving = b.serving }) saw k.was_told (met_still id q t f id v at) (heard_still id q t f id v at) (passed_still id q t f id v at)))
     where
       nil_behind : (list : List E) → list ≡ list ++ []
       nil_behind [] = refl
@@ -225,14 +264,15 @@ module _ {E C R S : Type 0} (history : S → List E) (legal : List E → Type 0)
   sole id p v at was holds j u other there h = let b = (s.each_seat j u there).combines h in let c = b.client in let mine = (s.each_seat id v at).client p was in let its = (s.each_seat j u there).client c.0 c.1 in
       let l = mine.holds holds in let m = its.holds h in let r : ℕ = c.0 in let same : r ≡ p = omega arith in other (sym its.seat_is ∙ (ap s.seat same ∙ mine.seat_is))
 
-  -- the holder's step: it changes the record of client q, and what it knows
-  pub holder_step : (id p q x : ℕ) (y : Option (Slot C R S)) (v : Work E C R) (t : Client E C R) (desk' : Desk E C) → get_elem? works id ≡ some v → IsClient p v.stage → v.holds ≡ true → q < s.made → Stays (s.truth q) t
+  -- the holder's step: it changes the record of client q, and what it knows. What it heard of client q is passed where the client is dealt with
+  pub holder_step : (id p q x : ℕ) (y : Option (Slot C R S)) (v : Work E C R) (t : Client E C R) (desk' : Desk E C) (passed' : List (ℕ × ℕ)) (past' : Bool) → get_elem? works id ≡ some v → IsClient p v.stage → v.holds ≡ true → q < s.made → Stays (s.truth q) t
       → x ≡ word_of t.phase → y ≡ home_of t.phase → IsInPhase own replies desk' q t → ((r : ℕ) → r < n → r ≢ q → IsInPhase own replies s.desk r (s.truth r) → IsInPhase own replies desk' r (s.truth r))
       → GoesOn s.desk.hist desk'.hist → legal desk'.hist → ((r : ℕ) → IsTaken r desk'.serving → r < n)
-      → Serves history legal own replies n (set words (state_word q) x) (set homes q y) (set works id (record v { seen = desk'.hist; before = desk'.before; paid = desk'.paid; serving = desk'.serving }))
-  holder_step id p q x y v t desk' at was holds small stay number slot phase phases on law below = let k = s.each_seat id v at in let c = k.client p was in let few = s.few in let inside : q < n = omega arith in
+      → ((r k : ℕ) → IsMarked r k passed' → IsMarked r k v.passed ⊎ ((r ≡ q) × IsMarked r k v.heard × IsDealt t.phase)) → (past' ≡ true → (v.past ≡ true) ⊎ ((p ≡ q) × IsDealt t.phase))
+      → Serves history legal own replies n (set words (state_word q) x) (set homes q y) (set works id (record v { seen = desk'.hist; before = desk'.before; paid = desk'.paid; serving = desk'.serving; passed = passed'; past = past' }))
+  holder_step id p q x y v t desk' passed' past' at was holds small stay number slot phase phases on law below marks pasts = let k = s.each_seat id v at in let c = k.client p was in let few = s.few in let inside : q < n = omega arith in
       let f : Follows (s.truth q) t = (let a = stay.posts in let b = stay.begun in record { posts = omega arith; begun = omega arith; dealt = λ _ h. stay.dealt h }) in
-      let w' : Work E C R = record v { seen = desk'.hist; before = desk'.before; paid = desk'.paid; serving = desk'.serving } in
+      let w' : Work E C R = record v { seen = desk'.hist; before = desk'.before; paid = desk'.paid; serving = desk'.serving; passed = passed'; past = past' } in
       let a : Stays (s.truth p) (put s.truth q t p) = put_case (Stays (s.truth p)) s.truth q t p (λ e. subst (λ (z : ℕ). Stays (s.truth z) t) (sym e) stay) (λ _. stays_itself (s.truth p)) in
       let lock : ℕ = get_or words lock_word 0 in let mine : lock ≡ p + 1 = c.holds holds in
       steps id q t f (λ _. stay) lock desk' on (λ _ _. (λ e. e, λ e. e)) (λ j u other there h _. absurd (sole id p v at was holds j u other there h)) (set words (state_word q) x) (set homes q y) w'
@@ -252,11 +292,13 @@ module _ {E C R S : Type 0} (history : S → List E) (legal : List E → Type 0)
         got = c.got ∙ a.got;
         posts = c.posts ∙ a.posts;
         begun = c.begun ∙ a.begun;
-        past = λ h. a.dealt (c.past h);
+        past = λ h. ⊎_elim (λ b. a.dealt (c.past b)) (λ (d : (p ≡ q) × IsDealt t.phase). put_case (λ b. IsDealt b.phase) s.truth q t p (λ _. d.1) (λ other. absurd (other d.0))) (pasts h);
+        ready = λ h. a.ready (c.ready h);
         holds = c.holds;
         waits = c.waits;
       }
-      (λ _. record { client = (p, was); seen = refl; before = refl; paid = refl; serving = refl }) (all_hist desk'.hist) (met_still id q t f id v at) (heard_still id q t f id v at) (passed_still id q t f id v at))
+      (λ _. record { client = (p, was); seen = refl; before = refl; paid = refl; serving = refl }) (all_hist desk'.hist) (goes_on id q t f (λ _. stay) lock desk' on (λ _ _. (λ e. e, λ e. e)) (λ j u other there h _. absurd (sole id p v at was holds j u other there h)) v.hearsay k.was_told) (met_still id q t f id v at) (heard_still id q t f id v at)
+      (λ r k m. ⊎_elim (λ b. passed_still id q t f id v at r k b) (λ (d : (r ≡ q) × IsMarked r k v.heard × IsDealt t.phase). let h = heard_still id q t f id v at r k d.1 in (h.0, h.1, λ _. put_case (λ b. IsDealt b.phase) s.truth q t r (λ _. d.2) (λ other. absurd (other d.0)))) (marks r k m)))
     where
       all_hist : (h : List E) → GoesOn h h
       all_hist h = ([], nil_behind h)
@@ -278,6 +320,7 @@ module _ {E C R S : Type 0} (history : S → List E) (legal : List E → Type 0)
     done = s.done;
     seat = s.seat;
     few = s.few;
+    done_made = s.done_made;
     wide = s.wide;
     deep = s.deep;
     is_legal = s.is_legal;

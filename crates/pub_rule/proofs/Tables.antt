@@ -1,29 +1,23 @@
 -- Each kind of step keeps the rule of the table.
-use Rattle.std.proofs.Common.{◌≡◌, ℕ, zero, suc, ◌+◌, ◌-◌, ◌<◌, List, [], ◌∷◌, ◌++◌, map, length, get_or, set, replicate, sym, refl, ap, ◌∙◌, subst, inl, inr, ⊎_elim, arith}
+use Rattle.std.proofs.Common.{◌≡◌, ℕ, ◌+◌, ◌-◌, ◌<◌, List, [], ◌∷◌, ◌++◌, map, length, get_or, set, sym, refl, ap, ◌∙◌, subst, inl, inr, ⊎_elim, arith}
 use mathlib.Core.List.{map-append}
 use mathlib.Core.Option.{Option, none, some}
 use lib.ListN.{get_elem?}
 use lib.Seq.{set-get_or, map-set}
-use Rattle.atomic_table.specs.Table.{State, step, Act, keeps, Valid, stepped, carried_after, opening}
+use Rattle.atomic_table.specs.Table.{State, step, Act, keeps, Valid, stepped, carried_after}
 use Rattle.atomic_table.proofs.Lists.{set_again, set_else, exchanged, at_map}
 use Rattle.pub_rule.specs.declared.walk.Walk.{Walk}
 use Rattle.pub_rule.specs.declared.walk.View.{View}
 use Rattle.pub_rule.specs.declared.walk.Role.TheVariants.{Maker, Joined}
-use Rattle.pub_rule.specs.declared.served.Slot.{Slot}
-use Rattle.pub_rule.specs.Words.{head_word, next_word, word_count}
+use Rattle.pub_rule.specs.Words.{head_word, next_word}
 use Rattle.pub_rule.specs.Lists.{IsOn, IsListOf, link_to, after}
 use Rattle.pub_rule.specs.Walk.{Walks}
-use Rattle.pub_rule.specs.Rule.{IsListWord, walk_of, work_of, IsDeaf, IsDeep, LetsSplit, Ruled, slots_of, AtRest, opening_view}
+use Rattle.pub_rule.specs.Rule.{IsListWord, walk_of, work_of, IsDeaf, IsDeep, LetsSplit, Ruled}
 use Rattle.pub_rule.specs.Steps.{Saw, client_of, made_of, with_list, with_stored, failed, joined, with_walk, head_exchanged, token, learned}
 use Rattle.pub_rule.specs.Laws.{KeptBySplitClient, KeptBySplitToken, KeptByMerge, KeptByStoreNext, KeptByLoadHead, KeptByExchangeHead, KeptByLoadNext}
 use Rattle.pub_rule.proofs.Numbers.{next_from_next}
 use Rattle.pub_rule.proofs.Clients.{on_in_front, ends_with_all}
-use Rattle.pub_rule.proofs.Kept.{fresh_below, looks, spends, stores, enters, tells, makes, sees, tried_still, tried_once_more, sees_itself, is_on, behind, known_below, starts}
-
-all_zero : (n i : ℕ) → ◌≡◌ {A = ℕ} (get_or (replicate n 0) i 0) 0
-all_zero zero i = refl
-all_zero (suc n) zero = refl
-all_zero (suc n) (suc i) = all_zero n i
+use Rattle.pub_rule.proofs.Kept.{fresh_below, looks, spends, stores, enters, tells, makes, sees, tried_still, tried_once_more, sees_itself, is_on, behind, known_below}
 
 module _ {T W : Type 0} (n : ℕ) (serves : List ℕ → List (Option T) → List W → Type 0) where
   -- the work that a seat knows stays where the step leaves it
@@ -140,13 +134,8 @@ module _ {T W : Type 0} (n : ℕ) (serves : List ℕ → List (Option T) → Lis
       let from_it = (k.each_seat other w.walk (sym (set_else vs id other (learned v.walk w.walk) apart) ∙ token_there)).told in let own = k.each_seat id v.walk mine in
       let told = looks n s.words vs k id v.walk v.walk.list (w.walk.known ++ v.walk.known) v.walk.tries mine own.loaded own.tried (λ c h. ⊎_elim (from_it c) (own.told c) (on_in_front c w.walk.known v.walk.known h)) in record {
         walks = subst (Walks n s.words) (sym (map-set walk_of (set s.views id both) other gone ∙ (ap (λ (l : List Walk). set l other gone.walk) walks_are ∙ ap (set (set vs id (learned v.walk w.walk)) other) g)))
-            (spends n s.words (set vs id (learned v.walk w.walk)) told other w.walk token_there is);
+            (spends n s.words (set vs id (learned v.walk w.walk)) told other w.walk token_there);
         works = subst (serves s.words s.homes) (sym (map-set work_of (set s.views id both) other gone ∙ ap (λ (l : List W). set l other gone.work) works_are))
             (lets s.words s.homes (map work_of s.views) r.works (at_map work_of s.views id v at) apart
             (ap (λ (l : List W). get_elem? l other) (sym works_are) ∙ at_map work_of (set s.views id both) other w there));
       }
-
--- the table at the start, where nobody is served
-pub opens : {E C R S : Type 0} (history : S → List E) (n : ℕ) (state : S) → history state ≡ []
-    → Ruled {T = Slot C R S} {W = Unit {0}} n (λ words homes works. AtRest history n words homes) (opening (replicate (word_count n) 0) (slots_of n state) (opening_view tt))
-opens history n state new = record { walks = starts n; works = record { state = state; new = new; at_home = refl; zero = λ i _. all_zero (word_count n) i } }

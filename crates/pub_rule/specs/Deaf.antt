@@ -11,9 +11,10 @@ use Rattle.pub_rule.specs.Work.{IsUnheld, IsHeld, Trusts, Serves}
 -- the first seat, which has made none
 abbrev pub opening_work : {E C R : Type 0} → Work E C R
 opening_work = record {
-  stage = Maker 0 0;
+  stage = Maker 0;
   holds = false;
   seen = [];
+  hearsay = [];
   before = [];
   paid = [];
   serving = Nothing;
@@ -25,6 +26,8 @@ opening_work = record {
   heard = [];
   passed = [];
   past = false;
+  ready = false;
+  closed = [];
 }
 
 -- neither the lock word nor a state word is one of the list's
@@ -45,6 +48,7 @@ module _ {E C R S : Type 0} (history : S → List E) (legal : List E → Type 0)
     done = s.done;
     seat = s.seat;
     few = s.few;
+    done_made = s.done_made;
     wide = length-set words i x ∙ s.wide;
     deep = s.deep;
     is_legal = s.is_legal;

@@ -25,6 +25,10 @@ module _ {T W : Type 0} (n : ℕ) (serves : List ℕ → List (Option T) → Lis
   KeptByMerge = (id other : ℕ) (v w both gone : View W) → w.walk.role ≡ Token → both.walk ≡ learned v.walk w.walk → gone.walk ≡ spent → LetsMerge n serves id v.work other w.work both.work gone.work
       → Joins (Ruled n serves) id v other w both gone
 
+  -- a seat is merged into another, as the list is closed, and what the other knows of the list stays
+  abbrev pub KeptByMergeSeat : Type 0
+  KeptByMergeSeat = (id other : ℕ) (v w both gone : View W) → both.walk ≡ v.walk → gone.walk ≡ spent → LetsMerge n serves id v.work other w.work both.work gone.work → Joins (Ruled n serves) id v other w both gone
+
   -- an unjoined client writes its own next word
   abbrev pub KeptByStoreNext : Type 0
   KeptByStoreNext = (slots id c x : ℕ) (me : Me T (View W)) → me.0.walk.role ≡ Fresh c → Allows (Ruled n serves) slots id me (next_word c) (λ _. x) (λ _. next_stored (step slots (next_word c) x 0 none) me x)

@@ -7,5 +7,8 @@ pub mod Steps
 pub mod Walk
 pub mod Words
 pub mod Work
+pub mod WorkClosing
 pub mod WorkLaws
+pub mod WorkPlays
+pub mod WorkSplits
 pub mod WorkSteps

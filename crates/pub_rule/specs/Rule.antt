@@ -1,8 +1,7 @@
 -- The rule of the table.
-use Rattle.std.specs.Prelude.{◌≡◌, ◌⊎◌, ℕ, ◌+◌, ◌<◌, List, [], ◌∷◌, ◌++◌, map, length, slice_index, slice_set, replicate}
-use Rattle.std.proofs.Common.{ap, ◌∙◌, ⊎_elim, inl, inr, length-append, get_or-set_other}
+use Rattle.std.specs.Prelude.{◌≡◌, ◌⊎◌, ℕ, ◌+◌, ◌<◌, List, [], ◌∷◌, ◌++◌, map, length, slice_set, replicate}
 use mathlib.Core.Option.{Option, some}
-use lib.ListN.{get_elem?, length-map, length-replicate}
+use lib.ListN.{get_elem?}
 use Rattle.atomic_table.specs.Table.{State}
 use Rattle.pub_rule.specs.declared.walk.Walk.{Walk}
 use Rattle.pub_rule.specs.declared.walk.View.{View}
@@ -51,25 +50,6 @@ module _ {T W : Type 0} where
 -- the slots of n clients, which are empty, and that of the state
 abbrev pub slots_of : {C R S : Type 0} → ℕ → S → List (Slot C R S)
 slots_of n state = replicate n slots.Empty ++ slots.State state ∷ []
-
--- nobody is served: each word but those of the list is 0, each slot is at home, and the state has no event
-pub record AtRest {E C R S : Type 0} (history : S → List E) (n : ℕ) (words : List ℕ) (homes : List (Option (Slot C R S))) : Type 0 where
-  pub state : S
-  pub new : history state ≡ []
-  pub at_home : homes ≡ map some (slots_of n state)
-  pub zero : (i : ℕ) → ¬ IsListWord n i → slice_index words i ≡ 0
-
-module _ {E C R S : Type 0} (history : S → List E) (n : ℕ) (words : List ℕ) (homes : List (Option (Slot C R S))) where
-  pub deaf_at_rest : (works : List (Unit {0})) (i x : ℕ) → IsListWord n i → AtRest history n words homes → AtRest history n (slice_set words i x) homes
-  deaf_at_rest works i x listed r = record {
-    state = r.state;
-    new = r.new;
-    at_home = r.at_home;
-    zero = λ k other. get_or-set_other words i k x 0 (λ same. other (⊎_elim (λ e. inl (same ∙ e)) (λ t. inr (t.0, t.1, same ∙ t.2)) listed)) ∙ r.zero k other;
-  }
-
-  pub deep_at_rest : (works : List (Unit {0})) → AtRest history n words homes → length homes ≡ n + 1
-  deep_at_rest works r = ap length r.at_home ∙ (length-map (slots_of n r.state) (λ (x : Slot C R S). some x) ∙ (length-append (replicate n slots.Empty) (slots.State r.state ∷ []) ∙ ap (λ (k : ℕ). k + 1) (length-replicate n slots.Empty)))
 
 -- a view of the list that knows nothing but its role
 abbrev pub blank : Role → Walk

@@ -16,3 +16,7 @@ AddsAtMostOneReply {E} {R} legal replies = (h : List E) (e : E) (r : ℕ) → le
 -- in a legal history no client has more replies than calls
 abbrev pub HasNoMoreReplies : {E C R : Type 0} → (List E → Type 0) → (List E → ℕ → List C) → (List E → ℕ → List R) → Type 0
 HasNoMoreReplies {E} legal own replies = (h : List E) (r : ℕ) → legal h → length (replies h r) ≤ length (own h r)
+
+-- that there was no event can come about, and then nobody has called
+abbrev pub StartsEmpty : {E C : Type 0} → (List E → Type 0) → (List E → ℕ → List C) → Type 0
+StartsEmpty legal own = legal [] × ((r : ℕ) → own [] r ≡ [])

@@ -4,7 +4,7 @@ use mathlib.Core.Option.{some}
 use lib.ListN.{get_elem?}
 use Rattle.pub_rule.specs.declared.walk.Walk.{Walk}
 use Rattle.pub_rule.specs.declared.walk.Role.{Role}
-use Rattle.pub_rule.specs.declared.walk.Role.TheVariants.{Maker, Fresh, Joined}
+use Rattle.pub_rule.specs.declared.walk.Role.TheVariants.{Spent, Maker, Fresh, Joined}
 use Rattle.pub_rule.specs.Words.{head_word, next_word, word_count}
 use Rattle.pub_rule.specs.Lists.{IsOn, Distinct, EndsWith, link_to}
 
@@ -13,10 +13,11 @@ abbrev pub Linked : ℕ → List ℕ → List ℕ → Type 0
 Linked made words [] = Unit {0}
 Linked made words (c ∷ rest) = (c < made) × (slice_index words (next_word c) ≡ link_to rest) × Linked made words rest
 
--- client r is on the list exactly if its seat has joined
+-- client r is on the list exactly if its seat has joined; a seat that was merged into another tells nothing
 abbrev pub IsOnByRole : ℕ → List ℕ → Role → Type 0
 IsOnByRole r list (Fresh c) = (c ≡ r) × ¬ IsOn r list
 IsOnByRole r list (Joined c) = (c ≡ r) × IsOn r list
+IsOnByRole r list Spent = Unit {0}
 IsOnByRole r list _ = ⊥
 
 -- client r has the seat j, and is on the list exactly if it has joined

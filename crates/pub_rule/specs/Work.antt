@@ -3,14 +3,15 @@ use Rattle.std.specs.Prelude.{◌≡◌, ◌≢◌, ◌⊎◌, ℕ, true, false,
 use mathlib.Core.Option.{Option, none, some}
 use lib.ListN.{get_elem?}
 use Rattle.pub_rule.specs.declared.work.Work.{Work}
+use Rattle.pub_rule.specs.declared.work.Closed.{Closed}
 use Rattle.pub_rule.specs.declared.work.Stage.{Stage}
-use Rattle.pub_rule.specs.declared.work.Stage.TheVariants.{Maker, Away, Free, Asking, Token}
+use Rattle.pub_rule.specs.declared.work.Stage.TheVariants.{Spent, Maker, Away, Free, Asking, Token}
 use Rattle.pub_rule.specs.declared.work.Serving.{Serving}
 use Rattle.pub_rule.specs.declared.work.Serving.TheVariants.{Nothing, Posted, Parked}
 use Rattle.pub_rule.specs.declared.served.Slot.{Slot}
 use Rattle.pub_rule.specs.declared.served.Slot.TheVariants as slots
 use Rattle.pub_rule.specs.Words.{lock_word, state_word, word_count}
-use Rattle.pub_rule.specs.Lists.{IsOn}
+use Rattle.pub_rule.specs.Lists.{IsOn, Distinct}
 
 -- the second history goes on from the first
 abbrev pub GoesOn : {E : Type 0} → List E → List E → Type 0
@@ -116,6 +117,12 @@ module _ {E C R : Type 0} (own : List E → ℕ → List C) (replies : List E �
   HasReplies d r got (replied c x) = replies d.hist r ≡ got ++ x ∷ []
   HasReplies d r got _ = replies d.hist r ≡ got
 
+  -- what the last event brought client r was handed to it, but for a parked client
+  abbrev pub IsSettled : Desk E C → ℕ → Phase C R → Type 0
+  IsSettled d r (parked c) = Unit {0}
+  IsSettled d r (resumed c) = Unit {0}
+  IsSettled d r _ = (replies d.hist r ≡ replies d.before r) ⊎ IsOn r d.paid
+
   -- a history that came before has the call that is parked, without its reply
   abbrev pub IsParkedBy : List E → ℕ → Client E C R → C → Type 0
   IsParkedBy hist r t c = GoesOn t.parked_by hist × (own t.parked_by r ≡ t.entered ++ c ∷ []) × (replies t.parked_by r ≡ t.got)
@@ -130,6 +137,7 @@ module _ {E C R : Type 0} (own : List E → ℕ → List C) (replies : List E �
     pub calls : own d.hist r ≡ calls_of t.entered t.phase
     pub even : length t.entered ≡ length t.got
     pub replies_are : HasReplies d r t.got t.phase
+    pub settled : IsSettled d r t.phase
     pub was_parked : WasParked d.hist r t t.phase
     pub taken_is : IsTakenIn r d.serving t.phase
 
@@ -149,10 +157,10 @@ pub record IsUnheld {E C R S : Type 0} (history : S → List E) (n lock : ℕ) (
   pub nothing : d.serving ≡ Nothing
 
 -- a client combines, which has begun to, and has the state in its hands
-pub record IsHeld {E C R S : Type 0} (made done n lock : ℕ) (homes : List (Option (Slot C R S))) (truth : ℕ → Client E C R) : Type 0 where
+pub record IsHeld {E C R S : Type 0} (made : ℕ) (done : List ℕ) (n lock : ℕ) (homes : List (Option (Slot C R S))) (truth : ℕ → Client E C R) : Type 0 where
   pub holder : ℕ
   pub client : holder < made
-  pub live : done ≤ holder
+  pub live : ¬ IsOn holder done
   pub number : lock ≡ holder + 1
   pub home : get_elem? homes n ≡ some none
   pub begun : 1 ≤ (truth holder).begun
@@ -171,11 +179,26 @@ IsClient r (Free q) = q ≡ r
 IsClient r (Asking q k) = q ≡ r
 IsClient r _ = ⊥
 
+-- the client's slot is at home
+abbrev pub IsAtHome : {C : Type 0} → Stage C → Type 0
+IsAtHome (Away q) = Unit {0}
+IsAtHome (Asking q k) = Unit {0}
+IsAtHome _ = ⊥
+
 module _ {E C R : Type 0} where
+  -- who told
+  abbrev pub clients_of : List (Closed E C R) → List ℕ
+  clients_of [] = []
+  clients_of (c ∷ cs) = c.client ∷ clients_of cs
+
+  abbrev pub IsAmong : Closed E C R → List (Closed E C R) → Type 0
+  IsAmong c [] = ⊥
+  IsAmong c (x ∷ xs) = (c ≡ x) ⊎ IsAmong c xs
+
   -- what a client's seat knows of its own client
-  pub record Tells (made done : ℕ) (seat : ℕ → ℕ) (lock j r : ℕ) (v : Work E C R) (t : Client E C R) : Type 0 where
+  pub record Tells (made : ℕ) (done : List ℕ) (seat : ℕ → ℕ) (lock j r : ℕ) (v : Work E C R) (t : Client E C R) : Type 0 where
     pub made_it : r < made
-    pub live : done ≤ r
+    pub live : ¬ IsOn r done
     pub seat_is : seat r ≡ j
     pub stage : IsInStage v.stage t.phase
     pub entered : v.entered ≡ t.entered
@@ -183,6 +206,7 @@ module _ {E C R : Type 0} where
     pub posts : v.posts ≡ t.posts
     pub begun : v.begun ≡ t.begun
     pub past : v.past ≡ true → IsDealt t.phase
+    pub ready : v.ready ≡ true → word_of t.phase ≡ 4
     pub holds : v.holds ≡ true → lock ≡ r + 1
     pub waits : v.holds ≡ false → lock ≢ r + 1
 
@@ -194,14 +218,41 @@ module _ {E C R : Type 0} where
     pub paid : v.paid ≡ d.paid
     pub serving : v.serving ≡ d.serving
 
+  -- what a client told when its seat was merged into the seat j is true
+  pub record IsTold (made : ℕ) (seat : ℕ → ℕ) (truth : ℕ → Client E C R) (d : Desk E C) (j : ℕ) (c : Closed E C R) : Type 0 where
+    pub made_it : c.client < made
+    pub seat_is : seat c.client ≡ j
+    pub client : IsClient c.client c.stage
+    pub home : IsAtHome c.stage
+    pub stage : IsInStage c.stage (truth c.client).phase
+    pub entered : c.entered ≡ (truth c.client).entered
+    pub got : c.got ≡ (truth c.client).got
+    pub begun : c.begun ≡ (truth c.client).begun
+    pub saw : GoesOn c.seen d.hist
+    pub met : (r : ℕ) → IsOn r c.met → (r < made) × (1 ≤ (truth r).begun)
+
+  -- a seat of no client knows what the clients told whose seats it took in
+  pub record Closes (made : ℕ) (done : List ℕ) (seat : ℕ → ℕ) (truth : ℕ → Client E C R) (d : Desk E C) (j : ℕ) (closed : List (Closed E C R)) : Type 0 where
+    pub distinct : Distinct (clients_of closed)
+    pub on : (r : ℕ) → IsOn r (clients_of closed) → IsOn r done
+    pub told : (c : Closed E C R) → IsAmong c closed → IsTold made seat truth d j c
+
+  -- what a seat knows that isn't a client's: the first one how many seats it made
+  abbrev pub IsNobodys : ℕ → List ℕ → (ℕ → ℕ) → (ℕ → Client E C R) → Desk E C → ℕ → List (Closed E C R) → Stage C → Type 0
+  IsNobodys made done seat truth d j closed Spent = Closes made done seat truth d j closed
+  IsNobodys made done seat truth d j closed (Maker k) = (j ≡ 0) × (k ≡ made)
+  IsNobodys made done seat truth d j closed _ = Unit {0}
+
   -- what the seat j knows is true
-  pub record Trusts (made done : ℕ) (seat : ℕ → ℕ) (truth : ℕ → Client E C R) (lock : ℕ) (d : Desk E C) (j : ℕ) (v : Work E C R) : Type 0 where
-    pub maker : (k m : ℕ) → v.stage ≡ Maker k m → (j ≡ 0) × (k ≡ made) × (m ≡ done)
+  pub record Trusts (made : ℕ) (done : List ℕ) (seat : ℕ → ℕ) (truth : ℕ → Client E C R) (lock : ℕ) (d : Desk E C) (j : ℕ) (v : Work E C R) : Type 0 where
+    pub maker : IsNobodys made done seat truth d j v.closed v.stage
     pub client : (r : ℕ) → IsClient r v.stage → Tells made done seat lock j r v (truth r)
     pub token : (r : ℕ) → v.stage ≡ Token r → (r < made) × (v.posts ≤ (truth r).posts)
     pub combines : v.holds ≡ true → Combines d v
     -- the history that it saw is the beginning of the history
     pub saw : GoesOn v.seen d.hist
+    -- and so is the one that it was told
+    pub was_told : GoesOn v.hearsay d.hist
     -- who was found to combine has begun to
     pub met : (r : ℕ) → IsOn r v.met → (r < made) × (1 ≤ (truth r).begun)
     -- the posts heard of were made
@@ -214,12 +265,13 @@ module _ {E C R S : Type 0} (history : S → List E) (legal : List E → Type 0)
     -- what is true of each client, and what the combiner knows
     pub truth : ℕ → Client E C R
     pub desk : Desk E C
-    -- the clients below the one have a seat, but those below the other were merged again
+    -- the clients below it have a seat, but the seats of those on the list were merged
     pub made : ℕ
-    pub done : ℕ
+    pub done : List ℕ
     -- the seat of each client
     pub seat : ℕ → ℕ
     pub few : made ≤ n
+    pub done_made : (r : ℕ) → IsOn r done → r < made
     pub wide : length words ≡ word_count n
     pub deep : length homes ≡ n + 1
     pub is_legal : legal desk.hist

@@ -1,19 +1,19 @@
 -- The laws of combining: what each kind of step on the publication records asks of the seat that takes it.
-use Rattle.std.specs.Prelude.{◌≡◌, ◌⊎◌, ℕ, true, false, ◌+◌, ◌<◌, List, [], ◌∷◌, ◌++◌, ◌==◌}
+use Rattle.std.specs.Prelude.{◌≡◌, ◌⊎◌, ℕ, true, false, ◌+◌, ◌<◌, List, [], ◌∷◌, ◌++◌, ◌==◌, length}
 use mathlib.Core.Option.{none, some}
 use prog.Atomic.{either}
 use Rattle.atomic_table.specs.Table.{Me, step, rest, Allows}
 use Rattle.pub_rule.specs.declared.walk.View.{View}
 use Rattle.pub_rule.specs.declared.work.Work.{Work}
-use Rattle.pub_rule.specs.declared.work.Stage.TheVariants.{Away, Free, Asking}
-use Rattle.pub_rule.specs.declared.work.Serving.TheVariants.{Nothing, Posted}
+use Rattle.pub_rule.specs.declared.work.Stage.TheVariants.{Away, Free}
+use Rattle.pub_rule.specs.declared.work.Serving.TheVariants.{Nothing, Posted, Parked}
 use Rattle.pub_rule.specs.declared.served.Slot.{Slot}
 use Rattle.pub_rule.specs.declared.served.Slot.TheVariants as slots
 use Rattle.pub_rule.specs.Words.{lock_word, state_word}
 use Rattle.pub_rule.specs.Lists.{IsOn}
 use Rattle.pub_rule.specs.Rule.{Ruled}
 use Rattle.pub_rule.specs.Work.{Serves, IsClient}
-use Rattle.pub_rule.specs.WorkSteps.{call_posted, reply_collected, call_taken, state_seized, slot_fetched, state_released, call_answered}
+use Rattle.pub_rule.specs.WorkSteps.{call_posted, reply_collected, call_taken, state_seized, slot_fetched, slot_given, word_seen, own_looked, state_released, call_answered, call_parked, call_refused, call_resumed, reply_handed}
 
 module _ {E C R S : Type 0} (history : S → List E) (legal : List E → Type 0) (own : List E → ℕ → List C) (replies : List E → ℕ → List R) (n : ℕ) where
   -- a client that has its slot in its hands, with its call, makes its state word 1
@@ -21,15 +21,15 @@ module _ {E C R S : Type 0} (history : S → List E) (legal : List E → Type 0)
   KeptByPost = (size id q : ℕ) (c : C) (me : Me (Slot C R S) (View (Work E C R))) → me.0.work.stage ≡ Free q → me.1 ≡ (q, slots.Call c) ∷ rest me.1
       → Allows (Ruled n (Serves history legal own replies n)) size id me (state_word q) (λ _. 1) (λ _. call_posted (step size (state_word q) 1 0 none) me 1)
 
-  -- a client that posted makes its state word 0 where it is 4
+  -- a client makes its state word 0 where it is 4
   abbrev pub KeptByCollect : Type 0
-  KeptByCollect = (size id q : ℕ) (c : C) (me : Me (Slot C R S) (View (Work E C R))) → me.0.work.stage ≡ Asking q c
+  KeptByCollect = (size id q : ℕ) (me : Me (Slot C R S) (View (Work E C R))) → IsClient q me.0.work.stage
       → Allows (Ruled n (Serves history legal own replies n)) size id me (state_word q) (λ k. either (k == 4) 0 k) (λ k m'. reply_collected (step size (state_word q) 4 0 none) me k m' legal own replies)
 
   -- the holder, which has taken no record, makes the state word of client r 2 where it is 1
   abbrev pub KeptByTake : Type 0
   KeptByTake = (size id p r : ℕ) (me : Me (Slot C R S) (View (Work E C R))) → IsClient p me.0.work.stage → me.0.work.holds ≡ true → me.0.work.serving ≡ Nothing → r < n
-      → Allows (Ruled n (Serves history legal own replies n)) size id me (state_word r) (λ k. either (k == 1) 2 k) (call_taken (step size (state_word r) 1 2 none) me)
+      → Allows (Ruled n (Serves history legal own replies n)) size id me (state_word r) (λ k. either (k == 1) 2 k) (λ k m'. call_taken (step size (state_word r) 1 2 none) me k m' own replies)
 
   -- a client that doesn't combine makes the lock word its own number + 1 where it is 0
   abbrev pub KeptBySeize : Type 0
@@ -40,6 +40,20 @@ module _ {E C R S : Type 0} (history : S → List E) (legal : List E → Type 0)
   abbrev pub KeptByFetch : Type 0
   KeptByFetch = (size id q : ℕ) (me : Me (Slot C R S) (View (Work E C R))) → me.0.work.stage ≡ Away q
       → Allows (Ruled n (Serves history legal own replies n)) size id me (state_word q) (λ k. k) (slot_fetched (step size (state_word q) 0 0 none) me)
+
+  -- a client reads its state word, and gives its empty slot back where it has it in its hands
+  abbrev pub KeptByGive : Type 0
+  KeptByGive = (size id q : ℕ) (me : Me (Slot C R S) (View (Work E C R))) → IsClient q me.0.work.stage → (me.0.work.stage ≡ Free q → me.1 ≡ (q, slots.Empty) ∷ rest me.1)
+      → Allows (Ruled n (Serves history legal own replies n)) size id me (state_word q) (λ k. k) (slot_given (step size (state_word q) 0 0 none) me)
+
+  -- any seat reads the state word of a client
+  abbrev pub KeptByLook : Type 0
+  KeptByLook = (size id r : ℕ) (me : Me (Slot C R S) (View (Work E C R))) → r < n → Allows (Ruled n (Serves history legal own replies n)) size id me (state_word r) (λ k. k) (word_seen (step size (state_word r) 0 0 none) me)
+
+  -- a client reads its state word
+  abbrev pub KeptByWatch : Type 0
+  KeptByWatch = (size id q : ℕ) (me : Me (Slot C R S) (View (Work E C R))) → IsClient q me.0.work.stage
+      → Allows (Ruled n (Serves history legal own replies n)) size id me (state_word q) (λ k. k) (λ k m'. own_looked (step size (state_word q) 0 0 none) me k m' legal own replies)
 
   -- the holder, which has taken no record and owes nothing, makes the lock word 0
   abbrev pub KeptByRelease : Type 0
@@ -53,3 +67,27 @@ module _ {E C R S : Type 0} (history : S → List E) (legal : List E → Type 0)
       → client e ≡ r → call e ≡ c → history x ≡ me.0.work.seen ++ e ∷ [] → legal (history x) → replies (history x) r ≡ replies me.0.work.seen r ++ y ∷ []
       → ((i : ℕ) → i < n → (replies me.0.work.seen i ≡ replies me.0.work.before i) ⊎ IsOn i me.0.work.paid) → me.1 ≡ (r, slots.Reply y) ∷ rest me.1
       → Allows (Ruled n (Serves history legal own replies n)) size id me (state_word r) (λ _. 4) (λ k m'. call_answered (step size (state_word r) 4 0 (some (slots.State x))) me k m' history)
+
+  -- the holder, which has taken a posted record and owes nothing, makes its state word 3 with the call's event, which brings its client no reply: it has one reply fewer than calls
+  abbrev pub KeptByPark : (E → ℕ) → (E → C) → Type 0
+  KeptByPark client call = (size id p r : ℕ) (c : C) (e : E) (x : S) (me : Me (Slot C R S) (View (Work E C R))) → IsClient p me.0.work.stage → me.0.work.holds ≡ true → me.0.work.serving ≡ Posted r c
+      → client e ≡ r → call e ≡ c → history x ≡ me.0.work.seen ++ e ∷ [] → legal (history x) → length (replies (history x) r) + 1 ≡ length (own (history x) r)
+      → ((i : ℕ) → i < n → (replies me.0.work.seen i ≡ replies me.0.work.before i) ⊎ IsOn i me.0.work.paid) → me.1 ≡ (r, slots.Empty) ∷ rest me.1
+      → Allows (Ruled n (Serves history legal own replies n)) size id me (state_word r) (λ _. 3) (λ k m'. call_parked (step size (state_word r) 3 0 (some (slots.State x))) me k m' history)
+
+  -- the holder, which has taken a posted record, makes its state word 4, with Memory in its slot
+  abbrev pub KeptByRefuse : Type 0
+  KeptByRefuse = (size id p r : ℕ) (c : C) (me : Me (Slot C R S) (View (Work E C R))) → IsClient p me.0.work.stage → me.0.work.holds ≡ true → me.0.work.serving ≡ Posted r c → me.1 ≡ (r, slots.Memory) ∷ rest me.1
+      → Allows (Ruled n (Serves history legal own replies n)) size id me (state_word r) (λ _. 4) (call_refused (step size (state_word r) 4 0 none) me)
+
+  -- the holder, which has taken no record, makes the state word of a client that is owed a reply 2: it was 3
+  abbrev pub KeptByResume : Type 0
+  KeptByResume = (size id p r : ℕ) (me : Me (Slot C R S) (View (Work E C R))) → IsClient p me.0.work.stage → me.0.work.holds ≡ true → me.0.work.serving ≡ Nothing → r < n
+      → ¬ (replies me.0.work.seen r ≡ replies me.0.work.before r) → ¬ IsOn r me.0.work.paid
+      → Allows (Ruled n (Serves history legal own replies n)) size id me (state_word r) (λ k. either (k == 3) 2 k) (call_resumed (step size (state_word r) 3 2 none) me)
+
+  -- the holder, which has taken a parked record, makes its state word 4, with the last of its client's replies in the history
+  abbrev pub KeptByHand : Type 0
+  KeptByHand = (size id p r : ℕ) (c : C) (front : List R) (y : R) (me : Me (Slot C R S) (View (Work E C R))) → IsClient p me.0.work.stage → me.0.work.holds ≡ true → me.0.work.serving ≡ Parked r c
+      → replies me.0.work.seen r ≡ front ++ y ∷ [] → me.1 ≡ (r, slots.Reply y) ∷ rest me.1
+      → Allows (Ruled n (Serves history legal own replies n)) size id me (state_word r) (λ _. 4) (reply_handed (step size (state_word r) 4 0 none) me)

@@ -1,36 +1,65 @@
 -- What each kind of step on the publication records tells the seat that takes it. A seat before the step is m, with its view m.0; the step found the number k and left the seat m'.
-use Rattle.std.specs.Prelude.{◌≡◌, ◌≢◌, ◌⊎◌, ℕ, true, false, ◌+◌, ◌-◌, ◌<◌, List, [], ◌∷◌, ◌++◌}
+use Rattle.std.specs.Prelude.{◌≡◌, ◌≢◌, ◌⊎◌, ℕ, Bool, true, false, ◌+◌, ◌-◌, ◌<◌, List, [], ◌∷◌, ◌++◌, ◌==◌, if◌then◌else◌, length}
 use mathlib.Core.Option.{some}
 use Rattle.atomic_table.specs.Table.{Step, Me, rest}
 use Rattle.pub_rule.specs.declared.walk.View.{View}
 use Rattle.pub_rule.specs.declared.work.Work.{Work}
+use Rattle.pub_rule.specs.declared.work.Stage.{Stage}
 use Rattle.pub_rule.specs.declared.work.Stage.TheVariants.{Away, Free, Asking}
 use Rattle.pub_rule.specs.declared.work.Serving.TheVariants.{Nothing, Posted, Parked}
 use Rattle.pub_rule.specs.declared.served.Slot.{Slot}
 use Rattle.pub_rule.specs.declared.served.Slot.TheVariants as slots
 use Rattle.pub_rule.specs.Words.{state_word}
-use Rattle.pub_rule.specs.Work.{GoesOn, IsClient}
+use Rattle.pub_rule.specs.Work.{GoesOn, IsClient, IsAtHome}
 
 -- the other half of a view is replaced
 abbrev pub with_work : {W : Type 0} → W → View W → View W
 with_work w v = record v { work = w }
 
+-- the posts of client r among those marked
+abbrev pub marks_of : ℕ → List (ℕ × ℕ) → List (ℕ × ℕ)
+marks_of r [] = []
+marks_of r (x ∷ xs) = if x.0 == r then x ∷ marks_of r xs else marks_of r xs
+
+-- the seat is that of client r, whose call is in flight
+abbrev pub is_own : {C : Type 0} → ℕ → Stage C → Bool
+is_own r (Asking q k) = r == q
+is_own r _ = false
+
+-- no call of the client is in flight
+abbrev pub IsIdle : {C : Type 0} → Stage C → Type 0
+IsIdle (Away q) = Unit {0}
+IsIdle (Free q) = Unit {0}
+IsIdle _ = ⊥
+
 module _ {E C R : Type 0} where
   -- the client has its slot in its hands
   abbrev pub fetched : ℕ → Work E C R → Work E C R
-  fetched q w = record w { stage = Free q }
+  fetched q w = record w { stage = Free q; ready = false }
 
   -- it posted
   abbrev pub asking : ℕ → C → Work E C R → Work E C R
-  asking q c w = record w { stage = Asking q c; posts = w.posts + 1; past = false }
+  asking q c w = record w { stage = Asking q c; posts = w.posts + 1; past = false; ready = false }
 
   -- it has the reply to its call, by this history
   abbrev pub answered : ℕ → C → R → List E → Work E C R → Work E C R
-  answered q c x h w = record w { stage = Free q; seen = h; entered = w.entered ++ c ∷ []; got = w.got ++ x ∷ []; past = false }
+  answered q c x h w = record w { stage = Free q; seen = h; entered = w.entered ++ c ∷ []; got = w.got ++ x ∷ []; past = false; ready = false }
 
   -- its call was refused for memory
   abbrev pub refused : ℕ → List E → Work E C R → Work E C R
-  refused q h w = record w { stage = Free q; seen = h; past = false }
+  refused q h w = record w { stage = Free q; seen = h; past = false; ready = false }
+
+  -- it gave its slot back
+  abbrev pub given : ℕ → Work E C R → Work E C R
+  given q w = record w { stage = Away q; ready = false }
+
+  -- it saw this history, and whether its state word is 4
+  abbrev pub seeing : List E → Bool → Work E C R → Work E C R
+  seeing h b w = record w { seen = h; ready = b }
+
+  -- client q's call c waits: the history has it, and a beginning of the history has it without its reply
+  abbrev pub IsWaiting : (List E → ℕ → List C) → (List E → ℕ → List R) → ℕ → C → List E → Work E C R → Type 0
+  IsWaiting own replies q c h w = (own h q ≡ w.entered ++ c ∷ []) × (part : List E) × GoesOn part h × (own part q ≡ w.entered ++ c ∷ []) × (replies part q ≡ w.got)
 
   -- it combines, by this history
   abbrev pub holding : List E → Work E C R → Work E C R
@@ -47,19 +76,23 @@ module _ {E C R : Type 0} where
   abbrev pub resuming : ℕ → C → Work E C R → Work E C R
   resuming r c w = record w { serving = Parked r c }
 
+  -- it dealt with the last post of client r, be it one that it heard of, or its own
+  abbrev pub dealt : ℕ → Work E C R → Work E C R
+  dealt r w = record w { passed = marks_of r w.heard ++ w.passed; past = if is_own r w.stage then true else w.past }
+
   -- it answered with the event of this history, or left the call parked
   abbrev pub entering : ℕ → List E → Work E C R → Work E C R
-  entering r h w = record w { seen = h; before = w.seen; paid = r ∷ []; serving = Nothing }
+  entering r h w = dealt r (record w { seen = h; before = w.seen; paid = r ∷ []; serving = Nothing })
 
-  abbrev pub leaving : List E → Work E C R → Work E C R
-  leaving h w = record w { seen = h; before = w.seen; paid = []; serving = Nothing }
+  abbrev pub leaving : ℕ → List E → Work E C R → Work E C R
+  leaving r h w = dealt r (record w { seen = h; before = w.seen; paid = []; serving = Nothing })
 
-  -- it handed out a parked call's reply, or refused a call for memory
+  -- it refused a call for memory, or handed out a parked call's reply
+  abbrev pub refusing : ℕ → Work E C R → Work E C R
+  refusing r w = dealt r (record w { serving = Nothing })
+
   abbrev pub paying : ℕ → Work E C R → Work E C R
   paying r w = record w { paid = r ∷ w.paid; serving = Nothing }
-
-  abbrev pub refusing : Work E C R → Work E C R
-  refusing w = record w { serving = Nothing }
 
   -- it combines no more
   abbrev pub released : Work E C R → Work E C R
@@ -70,21 +103,43 @@ module _ {E C R S : Type 0} (st : Step (Slot C R S)) (m : Me (Slot C R S) (View 
   abbrev pub slot_fetched : Type 0
   slot_fetched = (q : ℕ) × (m.0.work.stage ≡ Away q) × (m' ≡ (with_work (fetched q m.0.work) m.0, (q, slots.Empty) ∷ m.1))
 
+  -- the last read of the own state: a client that asks nothing gives its slot back, which is empty
+  abbrev pub slot_given : Type 0
+  slot_given = ((q : ℕ) × (m.0.work.stage ≡ Free q) × (m.1 ≡ (q, slots.Empty) ∷ rest m.1) × (m' ≡ (with_work (given q m.0.work) m.0, rest m.1))) ⊎ (IsAtHome m.0.work.stage × (m' ≡ m))
+
+  -- read state of any record
+  abbrev pub word_seen : Type 0
+  word_seen = (k < 5) × (m' ≡ m)
+
   -- post: the call goes home
   abbrev pub call_posted : Type 0
   call_posted = (q : ℕ) × (c : C) × (m.0.work.stage ≡ Free q) × (m.1 ≡ (q, slots.Call c) ∷ rest m.1) × (m' ≡ (with_work (asking q c m.0.work) m.0, rest m.1))
 
   module _ (legal : List E → Type 0) (own : List E → ℕ → List C) (replies : List E → ℕ → List R) where
-    -- collect: the own word was 4, so the reply comes into the client's hands, and the history has its call and its reply at the end of those entered and got; or the call was refused for memory; or the word was another one
+    -- read state of the own record, while a call is in flight: the history is seen; where the word is 3, or a combiner is known to have dealt with the call that isn't answered, the call waits
+    abbrev pub own_seen : Type 0
+    own_seen = (q : ℕ) × (c : C) × (h : List E) × (m.0.work.stage ≡ Asking q c) × (m' ≡ (with_work (seeing h (k == 4) m.0.work) m.0, m.1)) × GoesOn m.0.work.seen h × legal h × (0 < k) × (k < 5)
+        × (m.0.work.past ≡ true → k ≢ 1) × (m.0.work.ready ≡ true → k ≡ 4) × ((k ≡ 3) ⊎ ((m.0.work.past ≡ true) × (k ≢ 4)) → IsWaiting own replies q c h m.0.work) × GoesOn m.0.work.hearsay h
+
+    -- and where none is: the history that is seen has just the calls entered and the replies got
+    abbrev pub idle_seen : Type 0
+    idle_seen = (q : ℕ) × (h : List E) × IsClient q m.0.work.stage × IsIdle m.0.work.stage × (m' ≡ (with_work (seeing h (k == 4) m.0.work) m.0, m.1)) × GoesOn m.0.work.seen h × legal h × (k ≡ 0) × (own h q ≡ m.0.work.entered) × (replies h q ≡ m.0.work.got) × GoesOn m.0.work.hearsay h
+
+    abbrev pub own_looked : Type 0
+    own_looked = own_seen ⊎ idle_seen
+
+    -- collect: the own word was 4, so the reply comes into the client's hands, and the history has its call and its reply at the end of those entered and got; or the call was refused for memory; or the word was another one, and the client saw it
     abbrev pub reply_collected : Type 0
     reply_collected = (k ≡ 4 → (q : ℕ) × (c : C) × (h : List E) × (m.0.work.stage ≡ Asking q c) × GoesOn m.0.work.seen h × legal h
         × (((m' ≡ (with_work (refused q h m.0.work) m.0, (q, slots.Memory) ∷ m.1)) × (own h q ≡ m.0.work.entered) × (replies h q ≡ m.0.work.got))
         ⊎ ((x : R) × (m' ≡ (with_work (answered q c x h m.0.work) m.0, (q, slots.Reply x) ∷ m.1)) × (own h q ≡ m.0.work.entered ++ c ∷ []) × (replies h q ≡ m.0.work.got ++ x ∷ []))))
-        × (k ≢ 4 → m' ≡ m)
+        × (k ≢ 4 → own_looked)
 
-  -- take from posted, by the holder: the record's word was 1, so its call comes into the holder's hands, or it was another one
-  abbrev pub call_taken : Type 0
-  call_taken = (k ≡ 1 → (r : ℕ) × (c : C) × (st.word ≡ state_word r) × (m' ≡ (with_work (taking r c m.0.work) m.0, (r, slots.Call c) ∷ m.1))) × (k ≢ 1 → m' ≡ m)
+  module _ (own : List E → ℕ → List C) (replies : List E → ℕ → List R) where
+    -- take from posted, by the holder: the record's word was 1, so its call comes into the holder's hands, each of its client's calls in the history has its reply there, and where the client is its own, it asks just this; or it was another one, so a combiner dealt with its last post
+    abbrev pub call_taken : Type 0
+    call_taken = (k ≡ 1 → (r : ℕ) × (c : C) × (st.word ≡ state_word r) × (length (own m.0.work.seen r) ≡ length (replies m.0.work.seen r)) × (IsClient r m.0.work.stage → m.0.work.stage ≡ Asking r c) × (m' ≡ (with_work (taking r c m.0.work) m.0, (r, slots.Call c) ∷ m.1)))
+        × (k ≢ 1 → (r : ℕ) × (st.word ≡ state_word r) × (m' ≡ (with_work (dealt r m.0.work) m.0, m.1)))
 
   -- seize: nobody combined, so the state comes into the client's hands with the history; or another client combines
   abbrev pub state_seized : (S → List E) → (List E → Type 0) → Type 0
@@ -98,3 +153,19 @@ module _ {E C R S : Type 0} (st : Step (Slot C R S)) (m : Me (Slot C R S) (View 
   -- answer, by the holder: the reply goes home, and the history has one event more
   abbrev pub call_answered : (S → List E) → Type 0
   call_answered history = (r : ℕ) × (x : S) × (st.word ≡ state_word r) × (st.said ≡ some (slots.State x)) × (m' ≡ (with_work (entering r (history x) m.0.work) m.0, rest m.1))
+
+  -- mark parked, by the holder: the slot goes home empty, and the history has one event more
+  abbrev pub call_parked : (S → List E) → Type 0
+  call_parked history = (r : ℕ) × (x : S) × (st.word ≡ state_word r) × (st.said ≡ some (slots.State x)) × (m' ≡ (with_work (leaving r (history x) m.0.work) m.0, rest m.1))
+
+  -- answer Memory, by the holder: Memory goes home, and the history stays
+  abbrev pub call_refused : Type 0
+  call_refused = (r : ℕ) × (st.word ≡ state_word r) × (m' ≡ (with_work (refusing r m.0.work) m.0, rest m.1))
+
+  -- take from parked, by the holder: the record's word was 3, and its empty slot comes into the holder's hands
+  abbrev pub call_resumed : Type 0
+  call_resumed = (k ≡ 3) × (r : ℕ) × (c : C) × (st.word ≡ state_word r) × (m' ≡ (with_work (resuming r c m.0.work) m.0, (r, slots.Empty) ∷ m.1))
+
+  -- answer from parked, by the holder: the reply goes home, and the history stays, which has it
+  abbrev pub reply_handed : Type 0
+  reply_handed = (r : ℕ) × (st.word ≡ state_word r) × (m' ≡ (with_work (paying r m.0.work) m.0, rest m.1))

@@ -10,6 +10,7 @@ ghost use Rattle.pub_rule.specs.Laws.{
   KeptBySplitClient,
   KeptBySplitToken,
   KeptByMerge,
+  KeptByMergeSeat,
   KeptByStoreNext,
   KeptByLoadHead,
   KeptByExchangeHead,
@@ -32,6 +33,12 @@ pub fn split_token<T, W, P: Half<T, W>>()
 /// Merge: any seat takes in what a token tells, and the token is spent.
 pub fn merge<T, W, P: Half<T, W>>()
     ensures { (n : ℕ) → KeptByMerge n (P.serves n) }
+{}
+
+/// Merge, as the list is closed: a seat is spent, and the one that takes it in knows of the list what it
+/// knew.
+pub fn merge_seat<T, W, P: Half<T, W>>()
+    ensures { (n : ℕ) → KeptByMergeSeat n (P.serves n) }
 {}
 
 /// Store next: an unjoined client writes its own next word. It may be any value, as nobody reads it before

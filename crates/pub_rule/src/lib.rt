@@ -12,11 +12,19 @@ mod steps;
 mod walk;
 mod words;
 mod work;
+mod work_joins;
 pub mod work_laws;
+pub mod work_splits;
+mod work_steps;
 
-pub use rule::{Combining, Half, Listed, Resting};
+pub use rule::{Combining, Half, Listed};
 pub use served::{Served, Slot};
 pub use steps::{ExchangeHead, LoadHead, LoadNext, MergeToken, SplitClient, SplitToken, StoreNext};
 pub use walk::{Role, View, Walk};
 pub use words::{head_word, lock_word, next_word, state_word, word_count};
-pub use work::{Serving, Stage, Work};
+pub use work::{Closed, Serving, Stage, Work};
+pub use work_joins::{EnterCloser, MergeClient};
+pub use work_steps::{
+    AnswerCall, CollectReply, FetchSlot, GiveSlot, LookAt, LookOwn, ParkCall, PostCall, RefuseCall,
+    ReleaseState, SeizeState, TakeParked, TakePosted,
+};

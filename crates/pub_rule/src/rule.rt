@@ -41,24 +41,6 @@ impl<T, W, P: Half<T, W>> TableRule<T, View<W>, u64> for Listed<P> {
     ghost first = { λ n. opening_view P.first };
 }
 
-/// Nobody is served: each word but the list's is 0, each client's slot is empty, and the state has no event.
-/// It is the project's own.
-pub struct Resting<S> {
-    served: PhantomData<S>,
-}
-
-impl<S: Served> Half<Slot<S::Call, S::Reply, S>, ()> for Resting<S> {
-    ghost use Rattle.pub_rule.specs.Rule.{AtRest, deaf_at_rest, deep_at_rest};
-
-    ghost serves = { λ n words homes works. AtRest S.history n words homes };
-
-    ghost first = { tt };
-
-    ghost deaf = { deaf_at_rest S.history };
-
-    ghost deep = { deep_at_rest S.history };
-}
-
 /// A state is served by whoever combines: the publication records, the lock word and the slots are as the
 /// history has it, of which each client's calls and replies are a part (flat combining: Hendler, Incze,
 /// Shavit, Tzafrir 2010).

@@ -1,6 +1,12 @@
 //! What a publication list serves, and what its slots hold.
 ghost use Rattle.std.specs.Prelude.{◌≡◌, ℕ, List, length};
-ghost use Rattle.pub_rule.specs.Served.{AddsCall, AddsNoOther, AddsAtMostOneReply, HasNoMoreReplies};
+ghost use Rattle.pub_rule.specs.Served.{
+  AddsCall,
+  AddsNoOther,
+  AddsAtMostOneReply,
+  HasNoMoreReplies,
+  StartsEmpty,
+};
 
 /// A state that combiners serve: it means a history of events, each of them a call of one client. Whose reply
 /// an event brings is for the history to say. What clients call and what they are replied is the project's
@@ -35,6 +41,9 @@ pub trait Served: Drop {
     /// The number of events in the history.
     fn events(&self) -> u64
         ensures { result ≡ length (history self.now) };
+
+    // the history without an event is legal, and nobody's call is in it
+    ghost starts_empty: { StartsEmpty legal own };
 
     // an event is one more call of its client
     ghost own_call: { AddsCall own client call };

@@ -4,6 +4,7 @@
 //! combining (Hendler, Incze, Shavit, Tzafrir 2010), and the loads are how a combiner walks it. The splits
 //! and the merge are the project's own.
 use crate::walk::View;
+use crate::work::Work;
 use atomic_table::{Join, Play, Split};
 
 /// Load head (flat combining: Hendler, Incze, Shavit, Tzafrir 2010): the whole list is seen.
@@ -48,33 +49,33 @@ impl<T, W> Play<T, View<W>> for LoadNext {
 /// Split: the first seat makes the seat of the next client. It is the project's own.
 pub struct SplitClient;
 
-impl<W> Split<View<W>> for SplitClient {
-    ghost use Rattle.pub_rule.specs.Steps.{with_walk, next_maker, newcomer};
+impl<E, C, R> Split<View<Work<E, C, R>>> for SplitClient {
+    ghost use Rattle.pub_rule.specs.WorkSplits.{maker_after, client_made};
 
-    ghost left = { λ v. with_walk (next_maker v.walk) v };
+    ghost left = { maker_after };
 
-    ghost right = { λ v. with_walk (newcomer v.walk) v };
+    ghost right = { client_made };
 }
 
-/// Split: a joined client makes a token, which tells that it joined. It is the project's own.
+/// Split: a joined client makes a token, which tells that it joined, the history that it saw, the number of
+/// its posts, and the posts that a combiner is known to have dealt with. It is the project's own.
 pub struct SplitToken;
 
-impl<W> Split<View<W>> for SplitToken {
-    ghost use Rattle.pub_rule.specs.Steps.{with_walk, token};
+impl<E, C, R> Split<View<Work<E, C, R>>> for SplitToken {
+    ghost use Rattle.pub_rule.specs.WorkSplits.{token_made};
 
     ghost left = { λ v. v };
 
-    ghost right = { λ v. with_walk (token v.walk) v };
+    ghost right = { token_made };
 }
 
-/// Merge: a seat takes in what a token tells, and the token is spent. Of what is served it tells nothing. It
-/// is the project's own.
+/// Merge: a client takes in what a token tells, and the token is spent. It is the project's own.
 pub struct MergeToken;
 
-impl Join<View<()>> for MergeToken {
-    ghost use Rattle.pub_rule.specs.Steps.{with_walk, learned, spent};
+impl<E, C, R> Join<View<Work<E, C, R>>> for MergeToken {
+    ghost use Rattle.pub_rule.specs.WorkSplits.{view_taught, view_spent};
 
-    ghost both = { λ v w. with_walk (learned v.walk w.walk) v };
+    ghost both = { view_taught };
 
-    ghost spent = { record { walk = spent; work = tt } };
+    ghost spent = { view_spent };
 }

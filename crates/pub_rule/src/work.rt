@@ -4,11 +4,10 @@ use std::collections::LinkedList;
 /// How far a seat's client is with its own publication record (flat combining: Hendler, Incze, Shavit,
 /// Tzafrir 2010). The seats are the project's own.
 pub enum Stage<C> {
-    /// A seat that was merged into another one.
+    /// A seat of no client: it was merged into another one, or takes in others as the list is closed.
     Spent,
-    /// The first seat, which has made the seats of the clients below the first number, and taken in again
-    /// those below the second.
-    Maker(u64, u64),
+    /// The first seat, which has made the seats of the clients below this number.
+    Maker(u64),
     /// The seat of this client, which asks nothing, and whose slot lies empty at home.
     Away(u64),
     /// The seat of this client, which asks nothing, and has its slot in its hands.
@@ -30,6 +29,25 @@ pub enum Serving<C> {
     Parked(u64, C),
 }
 
+/// What a client told when its seat was merged into that which closes the list. It is the project's own. No
+/// value of it is made.
+pub struct Closed<E, C, R> {
+    /// The client.
+    pub client: u64,
+    /// How far it was, with its slot at home.
+    pub stage: Stage<C>,
+    /// The history as it saw it last.
+    pub seen: LinkedList<E>,
+    /// Its calls that were answered, but for those refused for memory.
+    pub entered: LinkedList<C>,
+    /// The replies to them.
+    pub got: LinkedList<R>,
+    /// How often it began to combine.
+    pub begun: u64,
+    /// The clients that it found to combine.
+    pub met: LinkedList<u64>,
+}
+
 /// What a seat knows of what is served. It is the project's own. No value of it is made: it stands in proofs
 /// alone.
 pub struct Work<E, C, R> {
@@ -39,6 +57,8 @@ pub struct Work<E, C, R> {
     pub holds: bool,
     /// The history as the seat saw it last.
     pub seen: LinkedList<E>,
+    /// The history that another client told it last.
+    pub hearsay: LinkedList<E>,
     /// A combiner's history before the last event.
     pub before: LinkedList<E>,
     /// The clients that the combiner has answered since.
@@ -61,4 +81,8 @@ pub struct Work<E, C, R> {
     pub passed: LinkedList<(u64, u64)>,
     /// Whether a combiner is known to have dealt with the client's last post.
     pub past: bool,
+    /// Whether the client found its own state word to be 4.
+    pub ready: bool,
+    /// What the clients told whose seats were merged into this one.
+    pub closed: LinkedList<Closed<E, C, R>>,
 }

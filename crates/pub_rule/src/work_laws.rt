@@ -11,7 +11,15 @@ ghost use Rattle.pub_rule.specs.WorkLaws.{
   KeptByTake,
   KeptByAnswer,
   KeptByRelease,
+  KeptByPark,
+  KeptByRefuse,
+  KeptByResume,
+  KeptByHand,
+  KeptByGive,
+  KeptByLook,
+  KeptByWatch,
 };
+ghost use Rattle.pub_rule.specs.WorkClosing.{KeptByEnter, KeptByClose, KnownAtEnd};
 
 use crate::served::Served;
 
@@ -20,7 +28,7 @@ pub fn post<S: Served>()
     ensures { (n : ℕ) → KeptByPost S.history S.legal S.own S.replies n }
 {}
 
-/// Collect: a client that posted makes its own state word 0 where it is 4.
+/// Collect: a client makes its own state word 0 where it is 4; else it sees the history.
 pub fn collect<S: Served>()
     ensures { (n : ℕ) → KeptByCollect S.history S.legal S.own S.replies n }
 {}
@@ -49,4 +57,60 @@ pub fn release<S: Served>()
 /// reply of the call's event, which is the last in the history.
 pub fn answer<S: Served>()
     ensures { (n : ℕ) → KeptByAnswer S.history S.legal S.own S.replies n S.client S.call }
+{}
+
+/// Mark parked: the holder, which has taken a posted record and owes nothing, makes its state word 3, with
+/// the call's event, which brings its client no reply.
+pub fn mark_parked<S: Served>()
+    ensures { (n : ℕ) → KeptByPark S.history S.legal S.own S.replies n S.client S.call }
+{}
+
+/// Answer Memory: the holder, which has taken a posted record, makes its state word 4, and the history stays.
+pub fn answer_memory<S: Served>()
+    ensures { (n : ℕ) → KeptByRefuse S.history S.legal S.own S.replies n }
+{}
+
+/// Take from parked: the holder, which has taken no record, makes the state word of a client 2 that is owed a
+/// reply. The word was 3.
+pub fn take_parked<S: Served>()
+    ensures { (n : ℕ) → KeptByResume S.history S.legal S.own S.replies n }
+{}
+
+/// Answer from parked: the holder, which has taken a parked record, makes its state word 4, with the last of
+/// its client's replies in the history, which stays.
+pub fn answer_parked<S: Served>()
+    ensures { (n : ℕ) → KeptByHand S.history S.legal S.own S.replies n }
+{}
+
+/// Read state, for the last time: a client that has its slot in its hands, which is empty, gives it back; one
+/// that has it at home stays as it was.
+pub fn give<S: Served>()
+    ensures { (n : ℕ) → KeptByGive S.history S.legal S.own S.replies n }
+{}
+
+/// Read state: any seat reads the state word of any client. It tells the word, and no more.
+pub fn look<S: Served>()
+    ensures { (n : ℕ) → KeptByLook S.history S.legal S.own S.replies n }
+{}
+
+/// Read state: a client reads its own state word, and sees the history.
+pub fn watch<S: Served>()
+    ensures { (n : ℕ) → KeptByWatch S.history S.legal S.own S.replies n }
+{}
+
+/// Enter, as the list is closed: a new seat of no client, which knows nothing.
+pub fn enter<S: Served>()
+    ensures { (n : ℕ) → KeptByEnter S.history S.legal S.own S.replies n }
+{}
+
+/// Merge, as the list is closed: the seat of a client that doesn't combine, and has its slot at home, is
+/// spent, and a seat of no client keeps what it told. The clients come in any order.
+pub fn close<S: Served>()
+    ensures { (n : ℕ) → KeptByClose S.history S.legal S.own S.replies n }
+{}
+
+/// The end: where n clients told, nobody combines, the state and each client's slot lie at home, and the
+/// history is as each client told, but for a call that was in flight.
+pub fn end<S: Served>()
+    ensures { (n : ℕ) → KnownAtEnd S.history S.legal S.own S.replies n }
 {}

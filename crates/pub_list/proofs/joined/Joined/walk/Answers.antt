@@ -19,7 +19,7 @@ pub loop-at-preserved : goal.loop-at-preserved
 loop-at-preserved g c = let l = c.loop-at in let i = l.invariant in let did = c.next-at.ensures in let here = at_client _ _ l.count c.in-Some.client l.at l.met _ i.2.1 c.requires.room i.3 c.in-Some.is in
     let same = did.seen.2 here.0 in let room : length (seen l.self.seat) ≤ length c.args.met.now = let all = at_most _ _ i.2.1 in let wide = c.requires.room in omega arith in (
       did.client.0 ∙ i.0,
-      (did.client.1.0 ∙ i.1.0, did.client.1.1 ∙ i.1.1, did.client.1.2 ∙ i.1.2),
+      (did.client.1.0 ∙ i.1.0, did.client.1.1 ∙ i.1.1, did.client.1.2 ∙ i.1.2, did.client.1.3 ∙ i.1.3),
       subst (λ (x : List ℕ). (IsOn c.args.self.now.client x × ((q : ℕ) → IsOn q (told c.args.self.now.seat) → IsOn q x) × EndsWith x (seen c.args.self.now.seat)) × IsListOf c.args.list.now.clients x) (sym same) i.2,
       goes_on _ _ l.count c.in-Some.client c.next-at.result l.met _ i.2.1.0 room here.3 same did.next,
     )

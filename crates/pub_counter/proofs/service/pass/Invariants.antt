@@ -1,0 +1,6 @@
+use Rattle.std.proofs.Common.{◌≡◌}
+use Rattle.pub_counter.specs.Service.{IsServing, IsAsFar}
+use Rattle.pub_counter.proofs.service.pass.Given as goal
+
+abbrev pub invariant-loop-i : goal.invariant-loop-i
+invariant-loop-i l = (l.joined.seat.table_id ≡ l.fn.joined.seat.table_id) × (l.joined.client ≡ l.fn.joined.client) × IsServing l.list.clients l.joined.seat.me.0 l.state × IsAsFar l.fn.joined.seat.me.0 l.joined.seat.me.0

@@ -1,0 +1,68 @@
+//! How a client serves a counter: the combiner's pass of flat combining.
+ghost use Rattle.std.specs.Prelude.{◌≡◌, ◌<◌, false};
+ghost use Rattle.pub_list.specs.Joined.{work};
+ghost use Rattle.pub_counter.specs.Service.{IsServing, HasTaken, IsAsFar};
+
+use crate::counter::Counter;
+use pub_list::{Answer, Joined, List, Took, WordState};
+
+/// Serves the record of `client`, if it is posted (flat combining: Hendler, Incze, Shavit, Tzafrir 2010),
+/// and gives the state back.
+pub fn serve(
+    joined: &mut Joined<Counter>,
+    list: &List<Counter>,
+    client: u32,
+    state: Counter,
+) -> Counter
+    requires list { joined.old.seat.table_id ≡ list.now.table.shared.table_id }
+    requires client { client < list.now.clients }
+    requires serving { IsServing list.now.clients joined.old.seat.me.0 state }
+    ensures list { joined.new.seat.table_id ≡ joined.old.seat.table_id }
+    ensures serving { IsServing list.now.clients joined.new.seat.me.0 result }
+    ensures far { (joined.new.client ≡ joined.old.client) × IsAsFar joined.old.seat.me.0 joined.new.seat.me.0 }
+{
+    match joined.take(list, client, WordState::Posted) {
+        Took::FromPosted(amount) => answer_call(joined, list, client, amount, state),
+        _ => state,
+    }
+}
+
+fn answer_call(
+    joined: &mut Joined<Counter>,
+    list: &List<Counter>,
+    client: u32,
+    amount: u64,
+    mut state: Counter,
+) -> Counter
+    requires list { joined.old.seat.table_id ≡ list.now.table.shared.table_id }
+    requires taken { HasTaken list.now.clients client amount joined.old.seat.me.0 state }
+    ensures list { joined.new.seat.table_id ≡ joined.old.seat.table_id }
+    ensures serving { IsServing list.now.clients joined.new.seat.me.0 result }
+    ensures far { (joined.new.client ≡ joined.old.client) × IsAsFar joined.old.seat.me.0 joined.new.seat.me.0 }
+{
+    match state.add(u64::from(client), amount) {
+        Some(sum) => joined.answer(list, client, Answer::Reply(sum), state),
+        None => joined.answer(list, client, Answer::Memory, state),
+    }
+}
+
+/// Seizes the counter, serves each record on the list, and releases the counter (flat combining: Hendler,
+/// Incze, Shavit, Tzafrir 2010). The error is the client that combines.
+pub fn pass(joined: &mut Joined<Counter>, list: &List<Counter>) -> Result<(), u32>
+    requires list { joined.old.seat.table_id ≡ list.now.table.shared.table_id }
+    requires unheld { (work joined.old.seat).holds ≡ false }
+    ensures list { joined.new.seat.table_id ≡ joined.old.seat.table_id }
+    ensures unheld { (work joined.new.seat).holds ≡ false }
+    ensures far { (joined.new.client ≡ joined.old.client) × IsAsFar joined.old.seat.me.0 joined.new.seat.me.0 }
+{
+    let mut state = joined.seize(list)?;
+    let mut met = [0; 64];
+    let count = joined.walk(list, &mut met);
+    for i in 0..count {
+        if met[i] < list.clients() {
+            state = serve(joined, list, met[i], state);
+        }
+    }
+    joined.release(list, state);
+    Ok(())
+}

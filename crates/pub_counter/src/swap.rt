@@ -1,0 +1,97 @@
+//! Clients that meet in pairs: a served state whose calls wait.
+ghost use Rattle.std.specs.Prelude.{◌≡◌, [], ◌∷◌, ◌++◌, length, IsTrue, IsFalse};
+ghost use Rattle.pub_counter.specs.Swap.{alone};
+
+use crate::counter::Turn;
+use pub_rule::Served;
+use std::alloc::Global;
+
+/// Clients swap amounts in pairs: the first of two waits, and the second brings both the other's amount. Its
+/// type is the project's own; that one state serves the calls of all clients follows flat combining (Hendler,
+/// Incze, Shavit, Tzafrir 2010).
+#[derive(Drop)]
+pub struct Swap {
+    turns: Vec<Turn>,
+    waits: Option<(u64, u64)>,
+    ghost last: { waits ≡ alone turns.items },
+}
+
+impl Swap {
+    /// Nobody has called. It takes no memory. It is the project's own.
+    pub fn new(alloc: Global) -> Swap
+        ensures { result.turns.items ≡ [] }
+    {
+        Swap {
+            turns: Vec::new(alloc),
+            waits: None,
+        }
+    }
+
+    /// Who waits for another, and its amount. It is the project's own.
+    pub fn waits(&self) -> Option<(u64, u64)>
+        ensures { result ≡ alone self.now.turns.items }
+    {
+        self.waits
+    }
+
+    /// Enters a call; false where memory was refused, and all is as it was. It is the project's own.
+    pub fn enter(&mut self, client: u64, amount: u64) -> bool
+        ensures entered { IsTrue result → self.new.turns.items ≡ self.old.turns.items ++ record { client = client; amount = amount } ∷ [] }
+        ensures refused { IsFalse result → self.new.turns.items ≡ self.old.turns.items }
+    {
+        match self.waits {
+            None => self.push(client, amount, Some((client, amount))),
+            Some(_) => self.push(client, amount, None),
+        }
+    }
+
+    fn push(&mut self, client: u64, amount: u64, waits: Option<(u64, u64)>) -> bool
+        requires { waits ≡ alone (self.old.turns.items ++ record { client = client; amount = amount } ∷ []) }
+        ensures entered { IsTrue result → self.new.turns.items ≡ self.old.turns.items ++ record { client = client; amount = amount } ∷ [] }
+        ensures refused { IsFalse result → self.new.turns.items ≡ self.old.turns.items }
+    {
+        if self.turns.push(Turn { client, amount }).is_err() {
+            return false;
+        }
+        self.waits = waits;
+        true
+    }
+}
+
+/// A call is an amount, and its reply that of the client that it met.
+impl Served for Swap {
+    ghost use Rattle.pub_counter.specs.Counter.{own, own_call, own_other};
+    ghost use Rattle.pub_counter.specs.Swap.{legal, replies, starts_empty, one_more, no_more};
+
+    type Event = Turn;
+
+    type Call = u64;
+
+    type Reply = u64;
+
+    ghost history = { λ s. s.turns.items };
+
+    ghost legal = { legal };
+
+    ghost client = { λ e. e.client };
+
+    ghost call = { λ e. e.amount };
+
+    ghost own = { own };
+
+    ghost replies = { replies };
+
+    fn events(&self) -> u64 {
+        self.turns.len() as u64
+    }
+
+    ghost starts_empty = { starts_empty };
+
+    ghost own_call = { own_call };
+
+    ghost own_other = { own_other };
+
+    ghost one_more = { λ h e r _. one_more h e r };
+
+    ghost no_more = { λ h r _. no_more h r };
+}

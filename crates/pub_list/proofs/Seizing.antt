@@ -1,0 +1,119 @@
+-- A client's seat while it seizes the state, and while it releases it.
+use Rattle.std.proofs.Common.{◌≡◌, ◌≢◌, ℕ, Ok, Err, false, eqb, ◌+◌, ◌-◌, ◌<◌, List, ◌∷◌, sym, refl, ap, ◌∙◌, subst, arith}
+use mathlib.Core.Option.{Option, some, none, some-injective}
+use prog.Atomic.{either}
+use Rattle.atomic_table.specs.Table.{Me, step, rest, Allows}
+use Rattle.atomic_table.specs.declared.shared.Seat.{Seat}
+use Rattle.pub_rule.specs.declared.walk.View.{View}
+use Rattle.pub_rule.specs.declared.work.Work.{Work}
+use Rattle.pub_rule.specs.declared.work.Serving.TheVariants.{Nothing}
+use Rattle.pub_rule.specs.declared.served.Slot.{Slot}
+use Rattle.pub_rule.specs.declared.served.Slot.TheVariants as slots
+use Rattle.pub_rule.specs.Rule.{Ruled}
+use Rattle.pub_rule.specs.Words.{lock_word}
+use Rattle.pub_rule.specs.Work.{IsClient, GoesOn, Serves}
+use Rattle.pub_rule.specs.WorkSteps.{with_work, holding, meeting, released, state_seized, state_released}
+use Rattle.pub_rule.proofs.Locking.{seize, release}
+use Rattle.pub_list.specs.Joined.{IsJoined, IsWorking, own_slot, with_state, with_taken}
+use Rattle.pub_list.specs.Combining.{IsCombining, OwesNothing, IsSeized}
+use Rattle.pub_list.proofs.Working.{slot_in, is_client, with_both, rejoined}
+
+-- the state in a slot
+abbrev state_in : {C R S : Type 0} → Slot C R S → Option S
+state_in (slots.State x) = some x
+state_in _ = none
+
+module _ {E C R S : Type 0} where
+  -- the seat was old, and is mid when the lock word was exchanged
+  module _ (history : S → List E) (legal : List E → Type 0) (client clients size k : ℕ) (old mid : Seat (Slot C R S) (View (Work E C R))) (own : IsJoined client old) (free : old.me.0.work.holds ≡ false) (at : old.table_id.slots ≡ size) (sized : size ≡ clients + 1)
+      (did : state_seized (step size 0 0 0 none) old.me k mid.me history legal) where
+    module _ (other : k ≢ 0) where
+      abbrev found : ℕ
+      found = (did.1 other).0
+
+      pub met_joined : mid.table_id ≡ old.table_id → IsJoined client mid
+      met_joined same = rejoined client old mid own same (ap (λ (m : Me (Slot C R S) (View (Work E C R))). m.0.walk) (did.1 other).4)
+          (subst (λ (m : Me (Slot C R S) (View (Work E C R))). IsWorking client (old.table_id.slots - 1) m.0.work m.1) (sym (did.1 other).4) record { own = own.working.own; live = own.working.live; hands_are = own.working.hands_are; quiet = own.working.quiet; below = own.working.below })
+
+      pub small_found : k < clients + 1
+      small_found = let is = (did.1 other).1 in let below = (did.1 other).2 in omega arith
+
+      pub meets : (c : ℕ) → c ≡ k - 1 → IsSeized history legal clients client old.me.0 mid.me.0 (Err c)
+      meets c e = let is = (did.1 other).1 in let below = (did.1 other).2 in let same : found ≡ c = omega arith in
+          subst (λ (z : ℕ). (z < clients) × (z ≢ client) × (mid.me.0 ≡ with_work (meeting z old.me.0.work) old.me.0)) same (
+            omega arith,
+            (did.1 other).3 client (is_client client (old.table_id.slots - 1) old.me.0.work old.me.1 own.working),
+            ap (λ (m : Me (Slot C R S) (View (Work E C R))). m.0) (did.1 other).4,
+          )
+
+    module _ (hit : k ≡ 0) where
+      abbrev counted : size - 1 ≡ clients
+      counted = omega arith
+
+      abbrev state_was : S
+      state_was = (did.0 hit).0
+
+      pub hands_hold : mid.me.1 ≡ (clients, slots.State state_was) ∷ old.me.1
+      hands_hold = ap (λ (m : Me (Slot C R S) (View (Work E C R))). m.1) (did.0 hit).1 ∙ ap (λ (z : ℕ). (z, slots.State state_was) ∷ old.me.1) counted
+
+      pub holds_one : (x : Slot C R S) × (mid.me.1 ≡ (clients, x) ∷ rest mid.me.1)
+      holds_one = (slots.State state_was, hands_hold ∙ ap (λ (l : List (ℕ × Slot C R S)). (clients, slots.State state_was) ∷ rest l) (sym hands_hold))
+
+      module _ (new : Seat (Slot C R S) (View (Work E C R))) (x : Slot C R S) (was : mid.me.1 ≡ (clients, x) ∷ rest mid.me.1) (put : new.me ≡ (mid.me.0, (clients, slots.Empty) ∷ rest mid.me.1)) where
+        pub is_state : x ≡ slots.State state_was
+        is_state = ap slot_in (sym was ∙ hands_hold)
+
+        view_now : new.me.0 ≡ with_work (holding (history state_was) old.me.0.work) old.me.0
+        view_now = ap (λ (m : Me (Slot C R S) (View (Work E C R))). m.0) put ∙ ap (λ (m : Me (Slot C R S) (View (Work E C R))). m.0) (did.0 hit).1
+
+        hands_now : new.me.1 ≡ (clients, slots.Empty) ∷ old.me.1
+        hands_now = ap (λ (m : Me (Slot C R S) (View (Work E C R))). m.1) put ∙ ap (λ (l : List (ℕ × Slot C R S)). (clients, slots.Empty) ∷ rest l) hands_hold
+
+        pub seizes : (state : S) → x ≡ slots.State state → IsSeized history legal clients client old.me.0 new.me.0 (Ok state)
+        seizes state e = let same : state_was ≡ state = some-injective state_was state (ap state_in (sym is_state ∙ e)) in
+            subst (λ (z : S). GoesOn old.me.0.work.seen (history z) × legal (history z) × (new.me.0 ≡ with_work (holding (history z) old.me.0.work) old.me.0)) same ((did.0 hit).2, (did.0 hit).3, view_now)
+
+        pub seized_joined : new.table_id ≡ old.table_id → IsJoined client new
+        seized_joined same = rejoined client old new own same (ap (λ (v : View (Work E C R)). v.walk) view_now)
+            (subst (λ (m : Work E C R × List (ℕ × Slot C R S)). IsWorking client (old.table_id.slots - 1) m.0 m.1) (λ i. ((sym view_now i).work, sym hands_now i)) record {
+              own = own.working.own;
+              live = own.working.live;
+              hands_are = (let w = own.working in λ i. (counted_here i, slots.Empty) ∷ (w.hands_are ∙ (λ j. with_taken (w.quiet free j) (with_state (old.table_id.slots - 1) (free j) (own_slot old.me.0.work.stage)))) i);
+              quiet = λ h. refl;
+              below = λ r h. absurd h;
+            })
+          where
+            counted_here : clients ≡ old.table_id.slots - 1
+            counted_here = omega arith
+
+  -- the seat was old, and has the state in its slot
+  module _ (client clients : ℕ) (state : S) (old mid : Seat (Slot C R S) (View (Work E C R))) (own : IsJoined client old) (combines : IsCombining old.me.0) (counted : old.table_id.slots - 1 ≡ clients) where
+    abbrev hands_were : old.me.1 ≡ (clients, slots.Empty) ∷ own_slot old.me.0.work.stage
+    hands_were = with_both client (old.table_id.slots - 1) old.me.0.work old.me.1 Nothing own.working combines.0 combines.1 ∙ ap (λ (z : ℕ). (z, slots.Empty) ∷ own_slot old.me.0.work.stage) counted
+
+    pub holds_slot : (x : Slot C R S) × (old.me.1 ≡ (clients, x) ∷ rest old.me.1)
+    holds_slot = (slots.Empty, hands_were ∙ ap (λ (l : List (ℕ × Slot C R S)). (clients, slots.Empty) ∷ rest l) (sym hands_were))
+
+    module _ (put : mid.me ≡ (old.me.0, (clients, slots.State state) ∷ rest old.me.1)) where
+      pub hands_put : mid.me.1 ≡ (clients, slots.State state) ∷ rest mid.me.1
+      hands_put = ap (λ (m : Me (Slot C R S) (View (Work E C R))). m.1) put ∙ ap (λ (m : Me (Slot C R S) (View (Work E C R))). (clients, slots.State state) ∷ rest m.1) (sym put)
+
+      module _ (new : Seat (Slot C R S) (View (Work E C R))) (did : state_released (step 0 0 0 0 none) mid.me 0 new.me) where
+        pub releases : new.me ≡ (with_work (released old.me.0.work) old.me.0, own_slot old.me.0.work.stage)
+        releases = did ∙ ((λ i. (with_work (released (put i).0.work) (put i).0, rest (put i).1)) ∙ ap (λ (l : List (ℕ × Slot C R S)). (with_work (released old.me.0.work) old.me.0, rest l)) hands_were)
+
+        pub released_joined : new.table_id ≡ old.table_id → IsJoined client new
+        released_joined same = rejoined client old new own same (ap (λ (m : Me (Slot C R S) (View (Work E C R))). m.0.walk) releases)
+            (subst (λ (m : Me (Slot C R S) (View (Work E C R))). IsWorking client (old.table_id.slots - 1) m.0.work m.1) (sym releases) record { own = own.working.own; live = own.working.live; hands_are = refl; quiet = λ _. refl; below = λ r h. absurd h })
+
+  -- the laws at a word that the code names
+  module _ (history : S → List E) (legal : List E → Type 0) (owns : List E → ℕ → List C) (replies : List E → ℕ → List R) (n size id word : ℕ) (me : Me (Slot C R S) (View (Work E C R))) where
+    pub lock_seizes : (p number : ℕ) → word ≡ lock_word → number ≡ p + 1 → IsClient p me.0.work.stage → me.0.work.holds ≡ false
+        → Allows (Ruled n (Serves history legal owns replies n)) size id me word (λ k. either (eqb k 0) number k) (λ k m'. state_seized (step size word 0 number none) me k m' history legal)
+    lock_seizes p number e is was free = subst (λ (z : ℕ × ℕ). Allows (Ruled n (Serves history legal owns replies n)) size id me z.0 (λ k. either (eqb k 0) z.1 k) (λ k m'. state_seized (step size z.0 0 z.1 none) me k m' history legal)) (λ i. (sym e i, sym is i))
+        (seize history legal owns replies n size id p me was free)
+
+    pub lock_releases : (p clients : ℕ) (x : S) → word ≡ lock_word → n ≡ clients → IsClient p me.0.work.stage → IsCombining me.0 → history x ≡ me.0.work.seen → OwesNothing replies clients me.0 → me.1 ≡ (clients, slots.State x) ∷ rest me.1
+        → Allows (Ruled n (Serves history legal owns replies n)) size id me word (λ _. 0) (λ _. state_released (step size word 0 0 none) me 0)
+    lock_releases p clients x e key was combines is owes hands = subst (λ (i : ℕ). Allows (Ruled n (Serves history legal owns replies n)) size id me i (λ _. 0) (λ _. state_released (step size i 0 0 none) me 0)) (sym e)
+        (release history legal owns replies n size id p x me was combines.0 combines.1 is (subst (λ (z : ℕ). OwesNothing replies z me.0) (sym key) owes) (hands ∙ ap (λ (z : ℕ). (z, slots.State x) ∷ rest me.1) (sym key)))

@@ -1,0 +1,29 @@
+//! The start, and one law for each kind of split and merge where what is served is known too.
+//!
+//! They are the project's own: in flat combining (Hendler, Incze, Shavit, Tzafrir 2010) no client tells
+//! another anything.
+ghost use Rattle.std.specs.Prelude.{ℕ};
+ghost use Rattle.pub_rule.specs.WorkSplits.{Opens, KeptByClientSplit, KeptByTokenSplit, KeptByTokenMerge};
+
+use crate::served::Served;
+
+/// The start: the rule holds of a table whose words are 0, whose slots are empty but for the last, and whose
+/// state has no event.
+pub fn opening<S: Served>()
+    ensures { (n : ℕ) → Opens S.history S.legal S.own S.replies n }
+{}
+
+/// Split, for the seat of a client at the start: the first seat makes the next client's.
+pub fn split_client<S: Served>()
+    ensures { (n : ℕ) → KeptByClientSplit S.history S.legal S.own S.replies n }
+{}
+
+/// Split, for a token: a client that joined tells so, and what it knows.
+pub fn split_token<S: Served>()
+    ensures { (n : ℕ) → KeptByTokenSplit S.history S.legal S.own S.replies n }
+{}
+
+/// Merge: a client takes in what a token tells, and the token is spent.
+pub fn merge_token<S: Served>()
+    ensures { (n : ℕ) → KeptByTokenMerge S.history S.legal S.own S.replies n }
+{}

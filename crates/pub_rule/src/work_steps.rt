@@ -1,0 +1,138 @@
+//! The kinds of step on the publication records, and what each tells the seat that takes it.
+//!
+//! They are those by which a client asks and a combiner serves in flat combining (Hendler, Incze, Shavit,
+//! Tzafrir 2010).
+use crate::served::{Served, Slot};
+use crate::walk::View;
+use crate::work::Work;
+use atomic_table::Play;
+
+/// Read state, for the first time: the client's slot comes into its hands. It is the project's own.
+pub struct FetchSlot;
+
+impl<E, C, R, S> Play<Slot<C, R, S>, View<Work<E, C, R>>> for FetchSlot {
+    ghost use Rattle.pub_rule.specs.WorkSteps.{slot_fetched};
+
+    ghost then = { slot_fetched };
+}
+
+/// Post (flat combining: Hendler, Incze, Shavit, Tzafrir 2010): the client's call goes home.
+pub struct PostCall;
+
+impl<E, C, R, S> Play<Slot<C, R, S>, View<Work<E, C, R>>> for PostCall {
+    ghost use Rattle.pub_rule.specs.WorkSteps.{call_posted};
+
+    ghost then = { λ st m k m'. call_posted st m k m' };
+}
+
+/// Collect (flat combining: Hendler, Incze, Shavit, Tzafrir 2010): the reply comes into the client's hands,
+/// where its word was 4.
+pub struct CollectReply;
+
+impl<S: Served> Play<Slot<S::Call, S::Reply, S>, View<Work<S::Event, S::Call, S::Reply>>>
+    for CollectReply {
+    ghost use Rattle.pub_rule.specs.WorkSteps.{reply_collected};
+
+    ghost then = { λ st m k m'. reply_collected st m k m' S.legal S.own S.replies };
+}
+
+/// Seize (flat combining: Hendler, Incze, Shavit, Tzafrir 2010): the state comes into the client's hands,
+/// where nobody combined; else the client that combines is seen.
+pub struct SeizeState;
+
+impl<S: Served> Play<Slot<S::Call, S::Reply, S>, View<Work<S::Event, S::Call, S::Reply>>>
+    for SeizeState {
+    ghost use Rattle.pub_rule.specs.WorkSteps.{state_seized};
+
+    ghost then = { λ st m k m'. state_seized st m k m' S.history S.legal };
+}
+
+/// Take (flat combining: Hendler, Incze, Shavit, Tzafrir 2010): a posted call comes into the combiner's
+/// hands, where the record's word was 1.
+pub struct TakePosted;
+
+impl<S: Served> Play<Slot<S::Call, S::Reply, S>, View<Work<S::Event, S::Call, S::Reply>>>
+    for TakePosted {
+    ghost use Rattle.pub_rule.specs.WorkSteps.{call_taken};
+
+    ghost then = { λ st m k m'. call_taken st m k m' S.own S.replies };
+}
+
+/// Take from parked: a parked record whose client is owed a reply comes into the combiner's hands. It is the
+/// project's own.
+pub struct TakeParked;
+
+impl<E, C, R, S> Play<Slot<C, R, S>, View<Work<E, C, R>>> for TakeParked {
+    ghost use Rattle.pub_rule.specs.WorkSteps.{call_resumed};
+
+    ghost then = { call_resumed };
+}
+
+/// Answer (flat combining: Hendler, Incze, Shavit, Tzafrir 2010): a reply goes home. To a posted call the
+/// history has one event more, that of the state announced; to a parked one it has the reply already.
+pub struct AnswerCall;
+
+impl<S: Served> Play<Slot<S::Call, S::Reply, S>, View<Work<S::Event, S::Call, S::Reply>>>
+    for AnswerCall {
+    ghost use Rattle.pub_rule.specs.WorkPlays.{reply_put};
+
+    ghost then = { λ st m k m'. reply_put S.history m.0.work.serving st m k m' };
+}
+
+/// Answer, where a posted call is refused for memory: the history stays. It is the project's own.
+pub struct RefuseCall;
+
+impl<E, C, R, S> Play<Slot<C, R, S>, View<Work<E, C, R>>> for RefuseCall {
+    ghost use Rattle.pub_rule.specs.WorkSteps.{call_refused};
+
+    ghost then = { call_refused };
+}
+
+/// Mark parked: the slot of a posted call goes home empty, and the history has one event more, that of the
+/// state announced. It is the project's own.
+pub struct ParkCall;
+
+impl<S: Served> Play<Slot<S::Call, S::Reply, S>, View<Work<S::Event, S::Call, S::Reply>>>
+    for ParkCall {
+    ghost use Rattle.pub_rule.specs.WorkSteps.{call_parked};
+
+    ghost then = { λ st m k m'. call_parked st m k m' S.history };
+}
+
+/// Read state (flat combining: Hendler, Incze, Shavit, Tzafrir 2010): the word of any record is seen.
+pub struct LookAt;
+
+impl<E, C, R, S> Play<Slot<C, R, S>, View<Work<E, C, R>>> for LookAt {
+    ghost use Rattle.pub_rule.specs.WorkSteps.{word_seen};
+
+    ghost then = { λ st m k m'. word_seen st m k m' };
+}
+
+/// Read state (flat combining: Hendler, Incze, Shavit, Tzafrir 2010), of the own record: the history is seen
+/// with it.
+pub struct LookOwn;
+
+impl<S: Served> Play<Slot<S::Call, S::Reply, S>, View<Work<S::Event, S::Call, S::Reply>>>
+    for LookOwn {
+    ghost use Rattle.pub_rule.specs.WorkSteps.{own_looked};
+
+    ghost then = { λ st m k m'. own_looked st m k m' S.legal S.own S.replies };
+}
+
+/// Read state, for the last time: the client's slot goes home empty. It is the project's own.
+pub struct GiveSlot;
+
+impl<E, C, R, S> Play<Slot<C, R, S>, View<Work<E, C, R>>> for GiveSlot {
+    ghost use Rattle.pub_rule.specs.WorkSteps.{slot_given};
+
+    ghost then = { λ st m k m'. slot_given st m k m' };
+}
+
+/// Release (flat combining: Hendler, Incze, Shavit, Tzafrir 2010): the state goes home.
+pub struct ReleaseState;
+
+impl<E, C, R, S> Play<Slot<C, R, S>, View<Work<E, C, R>>> for ReleaseState {
+    ghost use Rattle.pub_rule.specs.WorkSteps.{state_released};
+
+    ghost then = { λ st m k m'. state_released st m k m' };
+}
