@@ -50,8 +50,9 @@ fn call_msgget(
 }
 
 fn outcome_in(rt: &impl Abort, effects: Effects) -> Result<Outcome, Fail> {
-    assert_eq!(rt; effects.others.len(), 0);
-    match effects.own {
+    let Effects { own, others } = effects;
+    assert_eq!(rt; others.len(), 0);
+    match own {
         Some(Reply::Entered { outcome, .. }) => Ok(outcome),
         _ => Err(Fail::from("no reply")),
     }
