@@ -3,6 +3,7 @@
 //! which is the same on every run with as many calls.
 #![tactic(auto)]
 
+mod combining;
 mod keys;
 mod measuring;
 mod messages;
@@ -11,6 +12,7 @@ mod spaces;
 
 use measuring::{Pair, Run};
 use std::process::ExitCode;
+use std::thread::Threads;
 use std::{env, io};
 
 /// How many objects the tables hold.
@@ -21,6 +23,12 @@ const BYTES: [u32; 4] = [0, 64, 1_024, 8_192];
 
 /// How many messages a queue holds.
 const MESSAGES: [u32; 3] = [1, 100, 1_000];
+
+/// How many clients joined a list.
+const CLIENTS: [u32; 3] = [1, 8, 64];
+
+/// How many threads post calls.
+const THREADS: [u32; 3] = [2, 8, 64];
 
 /// How many calls a measurement makes where the program has no word.
 const CALLS: u32 = 1_000;
@@ -36,9 +44,14 @@ enum Operation {
     ApplyGet,
     SendAndReceive,
     ReceiveLast,
+    Readings,
+    EachStep,
+    Alone,
+    OneOf,
+    InThreads,
 }
 
-const OPERATIONS: [Operation; 8] = [
+const OPERATIONS: [Operation; 13] = [
     Operation::Find,
     Operation::UnbindAndBind,
     Operation::Get,
@@ -47,6 +60,11 @@ const OPERATIONS: [Operation; 8] = [
     Operation::ApplyGet,
     Operation::SendAndReceive,
     Operation::ReceiveLast,
+    Operation::Readings,
+    Operation::EachStep,
+    Operation::Alone,
+    Operation::OneOf,
+    Operation::InThreads,
 ];
 
 /// A measurement of one call.
@@ -57,6 +75,15 @@ fn alone(rt: &HostRuntime, run: Run) -> io::Result<Vec<Run>> {
 /// A measurement of two calls.
 fn both(rt: &HostRuntime, pair: Pair) -> io::Result<Vec<Run>> {
     Ok(vec![in rt.alloc(); pair.first, pair.second]?)
+}
+
+/// A measurement of some calls.
+fn each(rt: &HostRuntime, steps: [Run; combining::STEPS]) -> io::Result<Vec<Run>> {
+    let mut runs = Vec::new(rt.alloc());
+    for run in steps {
+        runs.push(run)?;
+    }
+    Ok(runs)
 }
 
 impl Operation {
@@ -71,6 +98,11 @@ impl Operation {
             Operation::ApplyGet => &["Space::apply, msgget of a key"],
             Operation::SendAndReceive => &["Space::apply, msgsnd and msgrcv"],
             Operation::ReceiveLast => &["Space::apply, msgrcv of the last"],
+            Operation::Readings => &["reading the time"],
+            Operation::EachStep => &["post", "seize", "take", "answer", "release", "collect"],
+            Operation::Alone => &["post to collect"],
+            Operation::OneOf => &["post to collect, with a walk"],
+            Operation::InThreads => &["post to collect, in threads"],
         }
     }
 
@@ -79,6 +111,9 @@ impl Operation {
         match self {
             Operation::SendAndReceive => &BYTES,
             Operation::ReceiveLast => &MESSAGES,
+            Operation::Readings | Operation::EachStep | Operation::Alone => &[1],
+            Operation::OneOf => &CLIENTS,
+            Operation::InThreads => &THREADS,
             _ => &OBJECTS,
         }
     }
@@ -88,12 +123,22 @@ impl Operation {
         match self {
             Operation::SendAndReceive => "bytes",
             Operation::ReceiveLast => "messages",
+            Operation::Readings | Operation::EachStep | Operation::Alone | Operation::OneOf => {
+                "clients"
+            }
+            Operation::InThreads => "threads",
             _ => "objects",
         }
     }
 
     /// One measurement of so many calls at a size: what each call took that has a name.
-    fn run(self, rt: &HostRuntime, size: u32, calls: u32) -> io::Result<Vec<Run>> {
+    fn run<W: Threads + Sync>(
+        self,
+        rt: &HostRuntime,
+        workers: &W,
+        size: u32,
+        calls: u32,
+    ) -> io::Result<Vec<Run>> {
         match self {
             Operation::Find => alone(rt, keys::find(rt, size, calls)?),
             Operation::UnbindAndBind => both(rt, keys::unbind_and_bind(rt, size, calls)?),
@@ -103,18 +148,29 @@ impl Operation {
             Operation::ApplyGet => alone(rt, spaces::get_of_a_key(rt, size, calls)?),
             Operation::SendAndReceive => alone(rt, messages::send_and_receive(rt, size, calls)?),
             Operation::ReceiveLast => alone(rt, messages::receive_last(rt, size, calls)?),
+            Operation::Readings => alone(rt, combining::readings(rt, calls)?),
+            Operation::EachStep => each(rt, combining::each_step(rt, calls)?),
+            Operation::Alone => alone(rt, combining::alone(rt, calls)?),
+            Operation::OneOf => alone(rt, combining::one_of(rt, size, calls)?),
+            Operation::InThreads => alone(rt, combining::in_threads(rt, workers, size, calls)?),
         }
     }
 }
 
 /// The median runs of an operation at a size, one for each of its names.
-fn medians(rt: &HostRuntime, operation: Operation, size: u32, calls: u32) -> io::Result<Vec<Run>> {
+fn medians<W: Threads + Sync>(
+    rt: &HostRuntime,
+    workers: &W,
+    operation: Operation,
+    size: u32,
+    calls: u32,
+) -> io::Result<Vec<Run>> {
     let mut columns: Vec<Vec<Run>> = Vec::new(rt.alloc());
     for _ in operation.names() {
         columns.push(Vec::new(rt.alloc()))?;
     }
     for _ in 0..measuring::RUNS {
-        let runs = operation.run(rt, size, calls)?;
+        let runs = operation.run(rt, workers, size, calls)?;
         for (column, run) in columns.iter_mut().zip(runs) {
             column.push(run)?;
         }
@@ -127,10 +183,15 @@ fn medians(rt: &HostRuntime, operation: Operation, size: u32, calls: u32) -> io:
 }
 
 /// The rows of an operation: for each of its names one for each size.
-fn print_rows(rt: &HostRuntime, operation: Operation, calls: u32) -> io::Result<()> {
+fn print_rows<W: Threads + Sync>(
+    rt: &HostRuntime,
+    workers: &W,
+    operation: Operation,
+    calls: u32,
+) -> io::Result<()> {
     let mut measured = Vec::new(rt.alloc());
     for size in operation.sizes() {
-        measured.push((*size, medians(rt, operation, *size, calls)?))?;
+        measured.push((*size, medians(rt, workers, operation, *size, calls)?))?;
     }
     for (column, name) in operation.names().iter().enumerate() {
         let mut smallest = None;
@@ -176,7 +237,7 @@ fn main(rt: HostRuntime) -> io::Result<ExitCode> {
     let calls = calls_asked(&rt)?;
     eprintln!(rt; "operation                          size          ns a call      ratio")?;
     for operation in OPERATIONS {
-        print_rows(&rt, operation, calls)?;
+        print_rows(&rt, &rt, operation, calls)?;
     }
     Ok(ExitCode::SUCCESS)
 }

@@ -2,4 +2,3 @@ pub mod Counter
 pub mod Service
 pub mod Swap
 pub mod Swapping
-pub mod Tests

@@ -1,12 +1,11 @@
 // Clients post, combine and collect, alone and in threads.
-ghost use Rattle.std.specs.Prelude.{◌≡◌, ◌≤◌, false, IfSome, All};
+ghost use Rattle.std.specs.Prelude.{◌≡◌, ◌≤◌, false, All};
 ghost use Rattle.pub_list.specs.Joined.{work};
-ghost use Rattle.pub_counter.specs.Tests.{IsResting};
+ghost use Rattle.pub_counter.specs.Service.{IsResting};
 
-use super::service::pass;
+use super::service::{ask, pass, reply_of};
 use super::{Counter, Turn};
-use crossbeam_utils::Backoff;
-use pub_list::{Answer, Fresh, Joined, List};
+use pub_list::{Fresh, Joined, List};
 use std::alloc::{AllocError, Global};
 use std::process::Abort;
 use std::test::Fail;
@@ -24,20 +23,6 @@ struct Told {
     replies: [u64; ROUNDS],
     count: usize,
     state: Option<Counter>,
-}
-
-/// The reply to the call of a client.
-fn reply_of(joined: &mut Joined<Counter>, list: &List<Counter>) -> Option<u64>
-    requires list { joined.old.seat.table_id ≡ list.now.table.shared.table_id }
-    requires unheld { (work joined.old.seat).holds ≡ false }
-    ensures list { (joined.new.client ≡ joined.old.client) × (joined.new.seat.table_id ≡ joined.old.seat.table_id) }
-    ensures unheld { (work joined.new.seat).holds ≡ false }
-    ensures some { IfSome result (λ _. IsResting joined.new.client joined.new.seat.me.0) }
-{
-    match joined.collect(list) {
-        Ok(Answer::Reply(sum)) => Some(sum),
-        _ => None,
-    }
 }
 
 /// Two clients post, and the first serves both.
@@ -63,30 +48,6 @@ fn one_client_serves_two(rt: HostRuntime) -> Result<(), Fail> {
     Ok(())
 }
 
-/// Posts, and serves what there is, or waits for another to do so, until the reply is there or the turns have
-/// run out.
-fn ask(joined: &mut Joined<Counter>, list: &List<Counter>, turns: &mut u64) -> Option<u64>
-    requires list { joined.old.seat.table_id ≡ list.now.table.shared.table_id }
-    requires idle { IsResting joined.old.client joined.old.seat.me.0 }
-    ensures list { (joined.new.client ≡ joined.old.client) × (joined.new.seat.table_id ≡ joined.old.seat.table_id) }
-    ensures unheld { (work joined.new.seat).holds ≡ false }
-    ensures some { IfSome result (λ _. IsResting joined.new.client joined.new.seat.me.0) }
-{
-    joined.post(list, 1);
-    let backoff = Backoff::new();
-    while *turns > 0 {
-        *turns -= 1;
-        let reply = reply_of(joined, list);
-        if reply.is_some() {
-            return reply;
-        }
-        if pass(joined, list).is_err() {
-            backoff.snooze();
-        }
-    }
-    None
-}
-
 /// A thousand calls of one client.
 fn ask_all(mut joined: Joined<Counter>, list: &List<Counter>) -> Told
     requires list { joined.seat.table_id ≡ list.now.table.shared.table_id }
@@ -98,7 +59,7 @@ fn ask_all(mut joined: Joined<Counter>, list: &List<Counter>) -> Told
     let mut turns = TURNS;
     let mut count = 0;
     for round in 0..ROUNDS {
-        match ask(&mut joined, list, &mut turns) {
+        match ask(&mut joined, list, 1, &mut turns) {
             Some(sum) => replies[round] = sum,
             None => break,
         }

@@ -1,9 +1,10 @@
 //! How a client serves a counter: the combiner's pass of flat combining.
-ghost use Rattle.std.specs.Prelude.{◌≡◌, ◌<◌, false};
+ghost use Rattle.std.specs.Prelude.{◌≡◌, ◌<◌, false, IfSome};
 ghost use Rattle.pub_list.specs.Joined.{work};
-ghost use Rattle.pub_counter.specs.Service.{IsServing, HasTaken, IsAsFar};
+ghost use Rattle.pub_counter.specs.Service.{IsServing, HasTaken, IsAsFar, IsResting};
 
 use crate::counter::Counter;
+use crossbeam_utils::Backoff;
 use pub_list::{Answer, Joined, List, Took, WordState};
 
 /// Serves the record of `client`, if it is posted (flat combining: Hendler, Incze, Shavit, Tzafrir 2010),
@@ -27,7 +28,9 @@ pub fn serve(
     }
 }
 
-fn answer_call(
+/// Adds the amount of `client`, whose record the caller took, answers it with the sum, or with Memory where
+/// that can't be, and gives the state back. It is the project's own.
+pub fn answer_call(
     joined: &mut Joined<Counter>,
     list: &List<Counter>,
     client: u32,
@@ -65,4 +68,48 @@ pub fn pass(joined: &mut Joined<Counter>, list: &List<Counter>) -> Result<(), u3
     }
     joined.release(list, state);
     Ok(())
+}
+
+/// Collects the reply to the call of a client, where it is there (flat combining: Hendler, Incze, Shavit,
+/// Tzafrir 2010). An answer Memory is none. The client doesn't combine.
+pub fn reply_of(joined: &mut Joined<Counter>, list: &List<Counter>) -> Option<u64>
+    requires list { joined.old.seat.table_id ≡ list.now.table.shared.table_id }
+    requires unheld { (work joined.old.seat).holds ≡ false }
+    ensures list { (joined.new.client ≡ joined.old.client) × (joined.new.seat.table_id ≡ joined.old.seat.table_id) }
+    ensures unheld { (work joined.new.seat).holds ≡ false }
+    ensures some { IfSome result (λ _. IsResting joined.new.client joined.new.seat.me.0) }
+{
+    match joined.collect(list) {
+        Ok(Answer::Reply(sum)) => Some(sum),
+        _ => None,
+    }
+}
+
+/// Posts `amount`, and serves what there is, or waits for another to do so, until the reply is there or the
+/// turns have run out (flat combining: Hendler, Incze, Shavit, Tzafrir 2010). `None` where they have.
+pub fn ask(
+    joined: &mut Joined<Counter>,
+    list: &List<Counter>,
+    amount: u64,
+    turns: &mut u64,
+) -> Option<u64>
+    requires list { joined.old.seat.table_id ≡ list.now.table.shared.table_id }
+    requires idle { IsResting joined.old.client joined.old.seat.me.0 }
+    ensures list { (joined.new.client ≡ joined.old.client) × (joined.new.seat.table_id ≡ joined.old.seat.table_id) }
+    ensures unheld { (work joined.new.seat).holds ≡ false }
+    ensures some { IfSome result (λ _. IsResting joined.new.client joined.new.seat.me.0) }
+{
+    joined.post(list, amount);
+    let backoff = Backoff::new();
+    while *turns > 0 {
+        *turns -= 1;
+        let reply = reply_of(joined, list);
+        if reply.is_some() {
+            return reply;
+        }
+        if pass(joined, list).is_err() {
+            backoff.snooze();
+        }
+    }
+    None
 }

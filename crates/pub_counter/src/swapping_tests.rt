@@ -1,7 +1,7 @@
 // Calls that wait, and a list that is closed while one waits.
 ghost use Rattle.std.specs.Prelude.{◌≡◌, false};
 ghost use Rattle.pub_list.specs.Joined.{work};
-ghost use Rattle.pub_counter.specs.Tests.{IsResting};
+ghost use Rattle.pub_counter.specs.Service.{IsResting};
 
 use super::Swap;
 use super::swapping::pass;

@@ -1,5 +1,5 @@
 use Rattle.std.proofs.Common.{◌≡◌}
-use Rattle.pub_counter.specs.Tests.{IsResting}
+use Rattle.pub_counter.specs.Service.{IsResting}
 use Rattle.pub_counter.proofs.combining_tests.ask_all.Given as goal
 
 abbrev pub invariant-loop-round : goal.invariant-loop-round

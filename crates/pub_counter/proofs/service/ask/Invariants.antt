@@ -1,6 +1,6 @@
 use Rattle.std.proofs.Common.{◌≡◌, false}
 use Rattle.pub_list.specs.Joined.{work}
-use Rattle.pub_counter.proofs.combining_tests.ask.Given as goal
+use Rattle.pub_counter.proofs.service.ask.Given as goal
 
 abbrev pub invariant-loop-turns : goal.invariant-loop-turns
 invariant-loop-turns l = (l.joined.seat.table_id ≡ l.fn.joined.seat.table_id) × (l.joined.client ≡ l.fn.joined.client) × ((work l.joined.seat).holds ≡ false)

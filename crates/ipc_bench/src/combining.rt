@@ -1,0 +1,228 @@
+// Measurements of a publication list that serves a counter.
+ghost use Rattle.std.specs.Prelude.{◌≡◌, ◌≤◌, false, All, IfOk, IfSome};
+ghost use Rattle.pub_list.specs.Joined.{work};
+ghost use Rattle.pub_counter.specs.Service.{IsResting};
+
+use crate::measuring::Run;
+use pub_counter::Counter;
+use pub_counter::service::{answer_call, ask, pass, reply_of};
+use pub_list::{Fresh, Joined, List, Took, WordState};
+use std::alloc::AllocError;
+use std::thread::Threads;
+use std::time::Instant;
+use std::{io, thread};
+
+/// How many steps a client alone takes to be served.
+pub const STEPS: usize = 6;
+
+/// How often a client looks for the reply to a call before it gives up.
+const TURNS: u64 = 10_000_000;
+
+/// A client that isn't served.
+fn unserved() -> io::Error {
+    io::Error::from(io::ErrorKind::Other)
+}
+
+/// So many clients join, and one of them is there.
+fn joined_one(list: &List<Counter>, mut clients: Vec<Fresh<Counter>>) -> Option<Joined<Counter>>
+    requires { All (λ f. f.seat.table_id ≡ list.now.table.shared.table_id) clients.items }
+    ensures list { IfSome result (λ j. j.seat.table_id ≡ list.now.table.shared.table_id) }
+    ensures idle { IfSome result (λ j. IsResting j.client j.seat.me.0) }
+{
+    let first = clients.pop()?.join(list);
+    for fresh in clients {
+        fresh.join(list);
+    }
+    Some(first)
+}
+
+/// One call of a client that posts, combines, serves its own record alone, and collects, with the moment before
+/// each step and after the last.
+fn steps(
+    rt: &HostRuntime,
+    joined: &mut Joined<Counter>,
+    list: &List<Counter>,
+) -> io::Result<[Instant; 7]>
+    requires list { joined.old.seat.table_id ≡ list.now.table.shared.table_id }
+    requires idle { IsResting joined.old.client joined.old.seat.me.0 }
+    ensures list { joined.new.seat.table_id ≡ joined.old.seat.table_id }
+    ensures idle { IfOk result (λ _. IsResting joined.new.client joined.new.seat.me.0) }
+{
+    let own = joined.client();
+    let start = Instant::now(rt)?;
+    joined.post(list, 1);
+    let posted = Instant::now(rt)?;
+    let Ok(state) = joined.seize(list) else {
+        return Err(unserved());
+    };
+    let seized = Instant::now(rt)?;
+    let Took::FromPosted(amount) = joined.take(list, own, WordState::Posted) else {
+        return Err(unserved());
+    };
+    let taken = Instant::now(rt)?;
+    let state = answer_call(joined, list, own, amount, state);
+    let answered = Instant::now(rt)?;
+    joined.release(list, state);
+    let released = Instant::now(rt)?;
+    match reply_of(joined, list) {
+        Some(_) => Ok([
+            start,
+            posted,
+            seized,
+            taken,
+            answered,
+            released,
+            Instant::now(rt)?,
+        ]),
+        None => Err(unserved()),
+    }
+}
+
+/// The same with no moment.
+fn ask_alone(joined: &mut Joined<Counter>, list: &List<Counter>) -> io::Result<u64>
+    requires list { joined.old.seat.table_id ≡ list.now.table.shared.table_id }
+    requires idle { IsResting joined.old.client joined.old.seat.me.0 }
+    ensures list { joined.new.seat.table_id ≡ joined.old.seat.table_id }
+    ensures idle { IfOk result (λ _. IsResting joined.new.client joined.new.seat.me.0) }
+{
+    let own = joined.client();
+    joined.post(list, 1);
+    let Ok(state) = joined.seize(list) else {
+        return Err(unserved());
+    };
+    let Took::FromPosted(amount) = joined.take(list, own, WordState::Posted) else {
+        return Err(unserved());
+    };
+    let state = answer_call(joined, list, own, amount, state);
+    joined.release(list, state);
+    reply_of(joined, list).ok_or(unserved())
+}
+
+/// The same, and the client serves whoever has joined.
+fn ask_by_pass(joined: &mut Joined<Counter>, list: &List<Counter>) -> io::Result<u64>
+    requires list { joined.old.seat.table_id ≡ list.now.table.shared.table_id }
+    requires idle { IsResting joined.old.client joined.old.seat.me.0 }
+    ensures list { joined.new.seat.table_id ≡ joined.old.seat.table_id }
+    ensures idle { IfOk result (λ _. IsResting joined.new.client joined.new.seat.me.0) }
+{
+    joined.post(list, 1);
+    if pass(joined, list).is_err() {
+        return Err(unserved());
+    }
+    reply_of(joined, list).ok_or(unserved())
+}
+
+/// A list of so many clients, all joined, and one of them.
+fn opened(rt: &HostRuntime, clients: u32) -> io::Result<(List<Counter>, Joined<Counter>)>
+    requires { (1 ≤ clients) × (clients ≤ 64) }
+    ensures list { IfOk result (λ m. m.1.seat.table_id ≡ m.0.table.shared.table_id) }
+    ensures idle { IfOk result (λ m. IsResting m.1.client m.1.seat.me.0) }
+{
+    let (list, fresh) = List::new(rt.alloc(), clients, Counter::new(rt.alloc()))?;
+    match joined_one(&list, fresh) {
+        Some(joined) => Ok((list, joined)),
+        None => Err(unserved()),
+    }
+}
+
+/// What each step of a client alone takes, with one reading of the time.
+pub fn each_step(rt: &HostRuntime, calls: u32) -> io::Result<[Run; STEPS]> {
+    let (list, mut joined) = opened(rt, 1)?;
+    let mut runs = [Run::new(calls); STEPS];
+    for _ in 0..calls {
+        let moments = steps(rt, &mut joined, &list)?;
+        for step in 0..STEPS {
+            runs[step].add_time_between(moments[step], moments[step + 1]);
+            runs[step].add_answer(1);
+        }
+    }
+    Ok(runs)
+}
+
+/// What two readings of the time take, one after the other.
+pub fn readings(rt: &HostRuntime, calls: u32) -> io::Result<Run> {
+    let mut run = Run::new(calls);
+    for _ in 0..calls {
+        let start = Instant::now(rt)?;
+        run.add_time(rt, start)?;
+        run.add_answer(1);
+    }
+    Ok(run)
+}
+
+/// All steps of a client alone, together.
+pub fn alone(rt: &HostRuntime, calls: u32) -> io::Result<Run> {
+    let (list, mut joined) = opened(rt, 1)?;
+    let mut run = Run::new(calls);
+    let start = Instant::now(rt)?;
+    for _ in 0..calls {
+        let sum = ask_alone(&mut joined, &list)?;
+        run.add_answer(u32::try_from(sum).unwrap_or(u32::MAX));
+    }
+    run.add_time(rt, start)?;
+    Ok(run)
+}
+
+/// One of so many clients that joined asks, and looks at each record.
+pub fn one_of(rt: &HostRuntime, clients: u32, calls: u32) -> io::Result<Run> {
+    let (list, mut joined) = opened(rt, clients.max(1).min(64))?;
+    let mut run = Run::new(calls);
+    let start = Instant::now(rt)?;
+    for _ in 0..calls {
+        let sum = ask_by_pass(&mut joined, &list)?;
+        run.add_answer(u32::try_from(sum).unwrap_or(u32::MAX));
+    }
+    run.add_time(rt, start)?;
+    Ok(run)
+}
+
+/// So many calls of one client of many: how many were answered.
+fn ask_often(mut joined: Joined<Counter>, list: &List<Counter>, calls: u32) -> u32
+    requires list { joined.seat.table_id ≡ list.now.table.shared.table_id }
+    requires idle { IsResting joined.client joined.seat.me.0 }
+{
+    for call in 0..calls {
+        let mut turns = TURNS;
+        if ask(&mut joined, list, 1, &mut turns).is_none() {
+            return call;
+        }
+    }
+    calls
+}
+
+/// Each client asks so often in a thread of its own: how many calls of each were answered.
+fn asked<R: Threads + Sync>(
+    rt: &R,
+    list: &List<Counter>,
+    clients: Vec<Fresh<Counter>>,
+    calls: u32,
+) -> Result<Vec<u32>, AllocError>
+    requires { All (λ f. f.seat.table_id ≡ list.now.table.shared.table_id) clients.items }
+{
+    thread::map_vec(
+        rt,
+        clients,
+        &|fresh: Fresh<Counter>| -> u32
+            requires { fresh.seat.table_id ≡ list.now.table.shared.table_id }
+        { ask_often(fresh.join(list), list, calls) },
+    )
+}
+
+/// So many clients ask, each in a thread of its own, as many calls together.
+pub fn in_threads<W: Threads + Sync>(
+    rt: &HostRuntime,
+    workers: &W,
+    threads: u32,
+    calls: u32,
+) -> io::Result<Run> {
+    let clients = threads.max(1).min(64);
+    let (list, fresh) = List::new(rt.alloc(), clients, Counter::new(rt.alloc()))?;
+    let mut run = Run::new(calls / clients * clients);
+    let start = Instant::now(rt)?;
+    let answered = asked(workers, &list, fresh, calls / clients)?;
+    run.add_time(rt, start)?;
+    for count in answered {
+        run.add_answer(count);
+    }
+    Ok(run)
+}
