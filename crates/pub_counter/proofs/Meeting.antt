@@ -1,13 +1,10 @@
 -- What a client that serves swaps knows after each record.
-use Rattle.std.proofs.Common.{◌≡◌, ◌≢◌, ◌⊎◌, ℕ, ◌+◌, ◌<◌, List, [], ◌∷◌, ◌++◌, length, cond, eqb, true, ⊎_elim, None, Some, sym, refl, ap, ◌∙◌, subst, inl, inr, arith, eq-eqb, ne_eqb, length-append}
+use Rattle.std.proofs.Common.{◌≡◌, ◌≢◌, ℕ, List, [], ◌∷◌, ◌++◌, length, cond, eqb, true, ⊎_elim, None, sym, refl, ap, ◌∙◌, subst, inl, inr, arith, eq-eqb, ne_eqb, length-append}
 use mathlib.Core.Logic.{dite}
 use native.Mathlib.Decide.{ℕ_discrete}
-use Rattle.pub_rule.specs.declared.work.Serving.TheVariants.{Posted, Parked}
-use Rattle.pub_rule.specs.declared.work.Work.{Work}
-use Rattle.pub_rule.specs.Lists.{IsOn}
-use Rattle.pub_rule.specs.WorkSteps.{with_work, refusing, leaving, entering, resuming, paying}
+use Rattle.pub_rule.specs.WorkSteps.{with_work, refusing, leaving, entering, resuming}
 use Rattle.pub_rule.specs.WorkPlays.{replying}
-use Rattle.pub_list.specs.Combining.{MayAnswer, MayPark, IsCombining, IsOwed, OwesNothing, IsTook}
+use Rattle.pub_list.specs.Combining.{MayAnswer, MayPark, IsCombining, IsOwed, IsTook}
 use Rattle.pub_list.specs.declared.combining.Took.{Took}
 use Rattle.pub_list.specs.declared.combining.Took.TheVariants as took
 use Rattle.pub_list.specs.declared.records.WordState.TheVariants as states
@@ -16,7 +13,7 @@ use Rattle.pub_counter.specs.declared.counter.Turn.{Turn}
 use Rattle.pub_counter.specs.declared.swap.Swap.{Swap}
 use Rattle.pub_counter.specs.Counter.{own, own_call}
 use Rattle.pub_counter.specs.Swap.{legal, alone, replies, swapped, waits, meets}
-use Rattle.pub_counter.specs.Service.{Knowledge, IsAsFar}
+use Rattle.pub_counter.specs.Service.{Knowledge, IsAsFar, IsDealt}
 use Rattle.pub_counter.specs.Swapping.{IsServing, HasTaken, HasPartner}
 
 nil_behind : (l : List ℕ) → l ++ [] ≡ l
@@ -108,7 +105,7 @@ took_parked r v w took.FromParked h = h
 took_parked r v w took.Not h = absurd h
 
 -- a record that wasn't posted
-pub passes_by : (n r : ℕ) (v w : Knowledge) (state : Swap) (t : Took ℕ) → IsTook own replies r v w states.Posted t → ((x : ℕ) → t ≡ took.FromPosted x → ⊥) → IsServing n v state → IsServing n w state × IsAsFar v w
+pub passes_by : (n r : ℕ) (v w : Knowledge) (state : Swap) (t : Took ℕ) → IsTook own replies r v w states.Posted t → ((x : ℕ) → t ≡ took.FromPosted x → ⊥) → IsServing n v state → IsServing n w state × IsAsFar v w × IsDealt r v w
 passes_by n r v w state (took.FromPosted c) h not s = absurd (not c refl)
 passes_by n r v w state took.FromParked h not s = absurd h
-passes_by n r v w state took.Not e not s = (subst (λ (z : Knowledge). IsServing n z state) (sym e) s, (ap (λ (z : Knowledge). z.work.stage) e, ap (λ (z : Knowledge). z.work.posts) e))
+passes_by n r v w state took.Not e not s = (subst (λ (z : Knowledge). IsServing n z state) (sym e) s, (ap (λ (z : Knowledge). z.work.stage) e, ap (λ (z : Knowledge). z.work.posts) e, ap (λ (z : Knowledge). z.work.entered) e, ap (λ (z : Knowledge). z.work.got) e), (ap (λ (z : Knowledge). z.work.passed) e, ap (λ (z : Knowledge). z.work.past) e, ap (λ (z : Knowledge). z.work.begun) e))

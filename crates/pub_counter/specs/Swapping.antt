@@ -1,5 +1,5 @@
 -- How a client serves swaps.
-use Rattle.std.specs.Prelude.{◌≡◌, ◌≢◌, ℕ, true, ◌<◌, List, [], ◌∷◌, ◌++◌, length, Some}
+use Rattle.std.specs.Prelude.{◌≡◌, ◌≢◌, ℕ, true, ◌<◌, length, Some}
 use Rattle.pub_rule.specs.declared.work.Serving.TheVariants.{Posted}
 use Rattle.pub_list.specs.Combining.{IsCombining, OwesNothing}
 use Rattle.pub_counter.specs.declared.swap.Swap.{Swap}

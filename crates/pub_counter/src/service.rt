@@ -1,7 +1,8 @@
 //! How a client serves a counter: the combiner's pass of flat combining.
-ghost use Rattle.std.specs.Prelude.{◌≡◌, ◌<◌, false, IfSome};
+ghost use Rattle.std.specs.Prelude.{◌≡◌, ◌≢◌, ◌+◌, ◌<◌, false, IfSome, IsNone, OnOk, IfErr};
+ghost use Rattle.pub_rule.specs.WorkSteps.{with_work, meeting};
 ghost use Rattle.pub_list.specs.Joined.{work};
-ghost use Rattle.pub_counter.specs.Service.{IsServing, HasTaken, IsAsFar, IsResting};
+ghost use Rattle.pub_counter.specs.Service.{IsServing, HasTaken, IsAsFar, IsDealt, IsTold, HasReply, IsResting};
 
 use crate::counter::Counter;
 use crossbeam_utils::Backoff;
@@ -21,6 +22,7 @@ pub fn serve(
     ensures list { joined.new.seat.table_id ≡ joined.old.seat.table_id }
     ensures serving { IsServing list.now.clients joined.new.seat.me.0 result }
     ensures far { (joined.new.client ≡ joined.old.client) × IsAsFar joined.old.seat.me.0 joined.new.seat.me.0 }
+    ensures dealt { IsDealt client joined.old.seat.me.0 joined.new.seat.me.0 }
 {
     match joined.take(list, client, WordState::Posted) {
         Took::FromPosted(amount) => answer_call(joined, list, client, amount, state),
@@ -42,6 +44,7 @@ pub fn answer_call(
     ensures list { joined.new.seat.table_id ≡ joined.old.seat.table_id }
     ensures serving { IsServing list.now.clients joined.new.seat.me.0 result }
     ensures far { (joined.new.client ≡ joined.old.client) × IsAsFar joined.old.seat.me.0 joined.new.seat.me.0 }
+    ensures dealt { IsDealt client joined.old.seat.me.0 joined.new.seat.me.0 }
 {
     match state.add(u64::from(client), amount) {
         Some(sum) => joined.answer(list, client, Answer::Reply(sum), state),
@@ -57,6 +60,8 @@ pub fn pass(joined: &mut Joined<Counter>, list: &List<Counter>) -> Result<(), u3
     ensures list { joined.new.seat.table_id ≡ joined.old.seat.table_id }
     ensures unheld { (work joined.new.seat).holds ≡ false }
     ensures far { (joined.new.client ≡ joined.old.client) × IsAsFar joined.old.seat.me.0 joined.new.seat.me.0 }
+    ensures began { OnOk result ((work joined.new.seat).begun ≡ (work joined.old.seat).begun + 1) }
+    ensures busy { IfErr result (λ c. (c < list.now.clients) × (c ≢ joined.old.client) × (joined.new.seat.me.0 ≡ with_work (meeting c (work joined.old.seat)) joined.old.seat.me.0)) }
 {
     let mut state = joined.seize(list)?;
     let mut met = [0; 64];
@@ -77,6 +82,7 @@ pub fn reply_of(joined: &mut Joined<Counter>, list: &List<Counter>) -> Option<u6
     requires unheld { (work joined.old.seat).holds ≡ false }
     ensures list { (joined.new.client ≡ joined.old.client) × (joined.new.seat.table_id ≡ joined.old.seat.table_id) }
     ensures unheld { (work joined.new.seat).holds ≡ false }
+    ensures told { IsTold joined.old.client joined.old.seat.me.0 joined.new.seat.me.0 result }
     ensures some { IfSome result (λ _. IsResting joined.new.client joined.new.seat.me.0) }
 {
     match joined.collect(list) {
@@ -97,6 +103,8 @@ pub fn ask(
     requires idle { IsResting joined.old.client joined.old.seat.me.0 }
     ensures list { (joined.new.client ≡ joined.old.client) × (joined.new.seat.table_id ≡ joined.old.seat.table_id) }
     ensures unheld { (work joined.new.seat).holds ≡ false }
+    ensures reply { IfSome result (λ sum. HasReply joined.old.client amount sum joined.old.seat.me.0 joined.new.seat.me.0) }
+    ensures none { IsNone result → turns.new ≡ 0 }
     ensures some { IfSome result (λ _. IsResting joined.new.client joined.new.seat.me.0) }
 {
     joined.post(list, amount);

@@ -1,7 +1,8 @@
 //! How a client serves swaps: the combiner's pass of flat combining, where calls wait.
-ghost use Rattle.std.specs.Prelude.{◌≡◌, ◌<◌, false, None};
+ghost use Rattle.std.specs.Prelude.{◌≡◌, ◌≢◌, ◌+◌, ◌<◌, false, None, OnOk, IfErr};
+ghost use Rattle.pub_rule.specs.WorkSteps.{with_work, meeting};
 ghost use Rattle.pub_list.specs.Joined.{work};
-ghost use Rattle.pub_counter.specs.Service.{IsAsFar};
+ghost use Rattle.pub_counter.specs.Service.{IsAsFar, IsDealt};
 ghost use Rattle.pub_counter.specs.Swap.{alone};
 ghost use Rattle.pub_counter.specs.Swapping.{IsServing, HasTaken, HasPartner};
 
@@ -16,6 +17,8 @@ pub fn serve(joined: &mut Joined<Swap>, list: &List<Swap>, client: u32, state: S
     ensures list { joined.new.seat.table_id ≡ joined.old.seat.table_id }
     ensures serving { IsServing list.now.clients joined.new.seat.me.0 result }
     ensures far { (joined.new.client ≡ joined.old.client) × IsAsFar joined.old.seat.me.0 joined.new.seat.me.0 }
+    ensures dealt { client < list.now.clients → IsDealt client joined.old.seat.me.0 joined.new.seat.me.0 }
+    ensures begun { (work joined.new.seat).begun ≡ (work joined.old.seat).begun }
 {
     if client >= list.clients() {
         return state;
@@ -38,6 +41,7 @@ fn enter(
     ensures list { joined.new.seat.table_id ≡ joined.old.seat.table_id }
     ensures serving { IsServing list.now.clients joined.new.seat.me.0 result }
     ensures far { (joined.new.client ≡ joined.old.client) × IsAsFar joined.old.seat.me.0 joined.new.seat.me.0 }
+    ensures dealt { IsDealt client joined.old.seat.me.0 joined.new.seat.me.0 }
 {
     match state.waits() {
         None => park(joined, list, client, amount, state),
@@ -63,6 +67,7 @@ fn park(
     ensures list { joined.new.seat.table_id ≡ joined.old.seat.table_id }
     ensures serving { IsServing list.now.clients joined.new.seat.me.0 result }
     ensures far { (joined.new.client ≡ joined.old.client) × IsAsFar joined.old.seat.me.0 joined.new.seat.me.0 }
+    ensures dealt { IsDealt client joined.old.seat.me.0 joined.new.seat.me.0 }
 {
     if state.enter(u64::from(client), amount) {
         joined.mark_parked(list, client, state)
@@ -86,6 +91,7 @@ fn meet(
     ensures list { joined.new.seat.table_id ≡ joined.old.seat.table_id }
     ensures serving { IsServing list.now.clients joined.new.seat.me.0 result }
     ensures far { (joined.new.client ≡ joined.old.client) × IsAsFar joined.old.seat.me.0 joined.new.seat.me.0 }
+    ensures dealt { IsDealt client joined.old.seat.me.0 joined.new.seat.me.0 }
 {
     if !state.enter(u64::from(client), amount) {
         return joined.answer(list, client, Answer::Memory, state);
@@ -103,6 +109,8 @@ pub fn pass(joined: &mut Joined<Swap>, list: &List<Swap>) -> Result<(), u32>
     ensures list { joined.new.seat.table_id ≡ joined.old.seat.table_id }
     ensures unheld { (work joined.new.seat).holds ≡ false }
     ensures far { (joined.new.client ≡ joined.old.client) × IsAsFar joined.old.seat.me.0 joined.new.seat.me.0 }
+    ensures began { OnOk result ((work joined.new.seat).begun ≡ (work joined.old.seat).begun + 1) }
+    ensures busy { IfErr result (λ c. (c < list.now.clients) × (c ≢ joined.old.client) × (joined.new.seat.me.0 ≡ with_work (meeting c (work joined.old.seat)) joined.old.seat.me.0)) }
 {
     let mut state = joined.seize(list)?;
     let mut met = [0; 64];

@@ -1,4 +1,4 @@
-use Rattle.std.proofs.Common.{◌≡◌, ◌∷◌, ◌++◌, [], ◌∙◌, ap, sym, refl, subst}
+use Rattle.std.proofs.Common.{◌≡◌, ◌∷◌, ◌++◌, [], ap, sym, refl, subst}
 use Rattle.pub_counter.specs.Swapping.{IsServing}
 use Rattle.pub_counter.proofs.Meeting.{may_reply, owed, took_parked, may_hand, serves_on}
 use Rattle.pub_counter.proofs.swapping.meet.Goals as goal

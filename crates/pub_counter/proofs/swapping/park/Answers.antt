@@ -1,4 +1,4 @@
-use Rattle.std.proofs.Common.{◌≡◌, ◌∷◌, ◌++◌, [], ◌∙◌, ap, sym, refl, subst}
+use Rattle.std.proofs.Common.{◌≡◌, ◌∷◌, ◌++◌, [], sym, refl, subst}
 use Rattle.pub_counter.specs.Swapping.{IsServing}
 use Rattle.pub_counter.proofs.Meeting.{may_park, parks_on}
 use Rattle.pub_counter.proofs.swapping.park.Goals as goal
