@@ -1,3 +1,4 @@
 mod Asking
 mod Meeting
+mod Passing
 mod Serving

@@ -1,6 +1,6 @@
 //! How a client serves a counter: the combiner's pass of flat combining.
-ghost use Rattle.std.specs.Prelude.{◌≡◌, ◌≢◌, ◌+◌, ◌<◌, false, IfSome, IsNone, OnOk, IfErr};
-ghost use Rattle.pub_rule.specs.WorkSteps.{with_work, meeting};
+ghost use Rattle.std.specs.Prelude.{◌≡◌, ◌≢◌, ◌+◌, ◌<◌, true, false, IfSome, IsNone, OnOk, IfErr};
+ghost use Rattle.pub_rule.specs.WorkSteps.{with_work, meeting, is_own};
 ghost use Rattle.pub_list.specs.Joined.{work};
 ghost use Rattle.pub_counter.specs.Service.{IsServing, HasTaken, IsAsFar, IsDealt, IsTold, HasReply, IsResting};
 
@@ -61,6 +61,7 @@ pub fn pass(joined: &mut Joined<Counter>, list: &List<Counter>) -> Result<(), u3
     ensures unheld { (work joined.new.seat).holds ≡ false }
     ensures far { (joined.new.client ≡ joined.old.client) × IsAsFar joined.old.seat.me.0 joined.new.seat.me.0 }
     ensures began { OnOk result ((work joined.new.seat).begun ≡ (work joined.old.seat).begun + 1) }
+    ensures own { OnOk result (is_own joined.old.client (work joined.old.seat).stage ≡ true → (work joined.new.seat).past ≡ true) }
     ensures busy { IfErr result (λ c. (c < list.now.clients) × (c ≢ joined.old.client) × (joined.new.seat.me.0 ≡ with_work (meeting c (work joined.old.seat)) joined.old.seat.me.0)) }
 {
     let mut state = joined.seize(list)?;
