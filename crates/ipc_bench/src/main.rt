@@ -9,6 +9,7 @@ mod measuring;
 mod messages;
 mod slots;
 mod spaces;
+mod waiting;
 
 use measuring::{Pair, Run};
 use std::process::ExitCode;
@@ -23,6 +24,9 @@ const BYTES: [u32; 4] = [0, 64, 1_024, 8_192];
 
 /// How many messages a queue holds.
 const MESSAGES: [u32; 3] = [1, 100, 1_000];
+
+/// How many clients wait.
+const WAITING: [u32; 3] = [1, 16, 63];
 
 /// How many clients joined a list.
 const CLIENTS: [u32; 3] = [1, 8, 64];
@@ -44,6 +48,8 @@ enum Operation {
     ApplyGet,
     SendAndReceive,
     ReceiveLast,
+    PassToAReceiver,
+    WhileOthersWait,
     Readings,
     EachStep,
     Alone,
@@ -51,7 +57,7 @@ enum Operation {
     InThreads,
 }
 
-const OPERATIONS: [Operation; 13] = [
+const OPERATIONS: [Operation; 15] = [
     Operation::Find,
     Operation::UnbindAndBind,
     Operation::Get,
@@ -60,6 +66,8 @@ const OPERATIONS: [Operation; 13] = [
     Operation::ApplyGet,
     Operation::SendAndReceive,
     Operation::ReceiveLast,
+    Operation::PassToAReceiver,
+    Operation::WhileOthersWait,
     Operation::Readings,
     Operation::EachStep,
     Operation::Alone,
@@ -98,6 +106,8 @@ impl Operation {
             Operation::ApplyGet => &["Space::apply, msgget of a key"],
             Operation::SendAndReceive => &["Space::apply, msgsnd and msgrcv"],
             Operation::ReceiveLast => &["Space::apply, msgrcv of the last"],
+            Operation::PassToAReceiver => &["Space::apply, a waiting receiver"],
+            Operation::WhileOthersWait => &["Space::apply, while others wait"],
             Operation::Readings => &["reading the time"],
             Operation::EachStep => &["post", "seize", "take", "answer", "release", "collect"],
             Operation::Alone => &["post to collect"],
@@ -109,8 +119,9 @@ impl Operation {
     /// The sizes at which it is measured.
     fn sizes(self) -> &'static [u32] {
         match self {
-            Operation::SendAndReceive => &BYTES,
+            Operation::SendAndReceive | Operation::PassToAReceiver => &BYTES,
             Operation::ReceiveLast => &MESSAGES,
+            Operation::WhileOthersWait => &WAITING,
             Operation::Readings | Operation::EachStep | Operation::Alone => &[1],
             Operation::OneOf => &CLIENTS,
             Operation::InThreads => &THREADS,
@@ -121,8 +132,9 @@ impl Operation {
     /// What a size counts.
     fn unit(self) -> &'static str {
         match self {
-            Operation::SendAndReceive => "bytes",
+            Operation::SendAndReceive | Operation::PassToAReceiver => "bytes",
             Operation::ReceiveLast => "messages",
+            Operation::WhileOthersWait => "waiting",
             Operation::Readings | Operation::EachStep | Operation::Alone | Operation::OneOf => {
                 "clients"
             }
@@ -148,6 +160,8 @@ impl Operation {
             Operation::ApplyGet => alone(rt, spaces::get_of_a_key(rt, size, calls)?),
             Operation::SendAndReceive => alone(rt, messages::send_and_receive(rt, size, calls)?),
             Operation::ReceiveLast => alone(rt, messages::receive_last(rt, size, calls)?),
+            Operation::PassToAReceiver => alone(rt, waiting::pass_to_a_receiver(rt, size, calls)?),
+            Operation::WhileOthersWait => alone(rt, waiting::while_others_wait(rt, size, calls)?),
             Operation::Readings => alone(rt, combining::readings(rt, calls)?),
             Operation::EachStep => each(rt, combining::each_step(rt, calls)?),
             Operation::Alone => alone(rt, combining::alone(rt, calls)?),

@@ -17,7 +17,7 @@ const LAST: i64 = 2;
 const BEFORE: i64 = 1;
 
 /// Sends a text to a queue.
-fn send(space: &mut Space, id: u32, mtype: i64, text: Items<u8>) -> io::Result<()> {
+pub fn send(space: &mut Space, id: u32, mtype: i64, text: Items<u8>) -> io::Result<()> {
     let call = Call::MsgSnd {
         id,
         mtype,
@@ -31,7 +31,7 @@ fn send(space: &mut Space, id: u32, mtype: i64, text: Items<u8>) -> io::Result<(
 }
 
 /// Receives the first text of a type from a queue.
-fn receive(space: &mut Space, id: u32, msgtyp: i64) -> io::Result<Items<u8>> {
+pub fn receive(space: &mut Space, id: u32, msgtyp: i64) -> io::Result<Items<u8>> {
     let call = Call::MsgRcv {
         id,
         size: u64::MAX,
@@ -46,7 +46,7 @@ fn receive(space: &mut Space, id: u32, msgtyp: i64) -> io::Result<Items<u8>> {
 
 /// Sends a text of so many bytes and receives it, so many times, in a namespace of its own.
 fn add_pairs(rt: &HostRuntime, run: &mut Run, bytes: u32, pairs: u32) -> io::Result<()> {
-    let mut space = opened(rt)?;
+    let mut space = opened(rt, 1)?;
     let id = msgget(&mut space, 0, 0o600)?;
     let mut text = Items::new(vec![in rt.alloc(); 97u8; bytes as usize]?);
     let start = Instant::now(rt)?;
@@ -82,7 +82,7 @@ fn filled_queue(rt: &HostRuntime, space: &mut Space, messages: u32) -> io::Resul
 /// Receives the last of so many messages, which alone has the type that is asked for, from each queue of a
 /// batch, and sends it again.
 pub fn receive_last(rt: &HostRuntime, messages: u32, calls: u32) -> io::Result<Run> {
-    let mut space = opened(rt)?;
+    let mut space = opened(rt, 1)?;
     let mut ids: Vec<u32> = Vec::new(rt.alloc());
     for _ in 0..BATCH {
         ids.push(filled_queue(rt, &mut space, messages)?)?;

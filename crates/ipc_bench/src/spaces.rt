@@ -8,36 +8,52 @@ use ipc_space::{Effects, Space};
 use std::io;
 use std::time::Instant;
 
-/// A namespace of one client, with as many slots as there may be.
-pub fn opened(rt: &HostRuntime) -> io::Result<Space> {
+/// A namespace of so many clients of one user, 1 to 64, with as many slots as there may be.
+pub fn opened(rt: &HostRuntime, clients: u32) -> io::Result<Space> {
     let alloc = rt.alloc();
     let limits = Limits {
         slots: Limit::Slots.most(),
         ..Limits::default()
     };
-    let mut clients = Vec::new(alloc);
-    clients.push(Creds::new(100, 10, Vec::new(alloc), Caps::empty()))?;
-    Ok(Space::start(limits, clients)?)
+    let mut all = Vec::new(alloc);
+    for _ in 0..clients {
+        all.push(Creds::new(100, 10, Vec::new(alloc), Caps::empty()))?;
+    }
+    if all.is_empty() || all.len() > 64 {
+        return Err(io::Error::from(io::ErrorKind::InvalidInput));
+    }
+    Ok(Space::start(limits, all)?)
 }
 
-/// The answer to a call of the client, None where it isn't served.
-pub fn answer(space: &mut Space, call: Call) -> io::Result<Option<Answer>> {
-    if space.clients() == 0 || space.is_waiting(0) {
+/// What a call of a client tells, None where there is no such client or it waits.
+pub fn effects(space: &mut Space, client: u32, call: Call) -> io::Result<Option<Effects>> {
+    if client >= space.clients() || space.is_waiting(client) {
         return Ok(None);
     }
-    let Effects { own, .. } = space.apply(0, 0, call)?;
-    match own {
-        Some(
-            Reply::Entered {
-                outcome: Ok(answer),
-                ..
-            },
-        ) => Ok(Some(answer)),
-        _ => Ok(None),
+    Ok(Some(space.apply(client, 0, call)?))
+}
+
+/// The answer to a call of client 0, None where it isn't served.
+pub fn answer(space: &mut Space, call: Call) -> io::Result<Option<Answer>> {
+    let Some(told) = effects(space, 0, call)? else {
+        return Ok(None);
+    };
+    let Effects { own, .. } = told;
+    Ok(own.and_then(answer_in))
+}
+
+/// The answer in a reply, None where it is a refusal.
+pub fn answer_in(reply: Reply) -> Option<Answer> {
+    match reply {
+        Reply::Entered {
+            outcome: Ok(answer),
+            ..
+        } => Some(answer),
+        _ => None,
     }
 }
 
-/// One msgget of the client.
+/// One msgget of client 0.
 pub fn msgget(space: &mut Space, key: u32, flags: u32) -> io::Result<u32> {
     match answer(space, Call::MsgGet { key, flags })? {
         Some(Answer::Id(id)) => Ok(id),
@@ -47,7 +63,7 @@ pub fn msgget(space: &mut Space, key: u32, flags: u32) -> io::Result<u32> {
 
 /// Gets the queues of keys that are there.
 pub fn get_of_a_key(rt: &HostRuntime, size: u32, calls: u32) -> io::Result<Run> {
-    let mut space = opened(rt)?;
+    let mut space = opened(rt, 1)?;
     for number in 0..size {
         msgget(&mut space, key_of(number), IPC_CREAT | 0o600)?;
     }

@@ -82,6 +82,12 @@ pub enum Call {
         kind: Kind,
         id: u32,
     },
+    /// Ends the waiting call of the client of a process, its number plus 1, as a caught signal would (EINTR of
+    /// msgop(2)). The caller has the same effective user, or CAP_SYS_ADMIN. It is the project's own, and stands
+    /// for the signal.
+    Interrupt {
+        pid: u32,
+    },
 }
 
 impl Call {
@@ -139,6 +145,7 @@ impl Call {
                 kind: *kind,
                 id: *id,
             }),
+            Call::Interrupt { pid } => Ok(Call::Interrupt { pid: *pid }),
         }
     }
 }

@@ -11,8 +11,14 @@ pub enum Rule {
     NotOwner,
     /// A `msg_qbytes` above MSGMNB is asked for, and the caller lacks CAP_SYS_RESOURCE.
     NeedsResource,
+    /// The caller has another effective user than the process and lacks CAP_SYS_ADMIN.
+    NotSameUser,
     /// The key has no object, and `IPC_CREAT` isn't given.
     NoKey,
+    /// No client has this process.
+    NoProcess,
+    /// The waiting call was interrupted.
+    Interrupted,
     /// The text of the message that is chosen is longer than asked for, and `MSG_NOERROR` isn't given.
     MessageTooLong,
     /// The queue is full for the message.
@@ -38,6 +44,8 @@ pub enum Rule {
     NoSlot,
     /// The queue has no message of the type that is asked for.
     NoMessage,
+    /// The object was removed while the call waited.
+    Removed,
 }
 
 /// The error number of a rule, as Linux has it (errno(3)).
@@ -48,7 +56,10 @@ pub fn errno(rule: Rule) -> u16
     match rule {
         Rule::NotOwner => 1,
         Rule::NeedsResource => 1,
+        Rule::NotSameUser => 1,
         Rule::NoKey => 2,
+        Rule::NoProcess => 3,
+        Rule::Interrupted => 4,
         Rule::MessageTooLong => 7,
         Rule::QueueFull => 11,
         Rule::OwnerBits | Rule::GroupBits | Rule::OtherBits => 13,
@@ -59,6 +70,7 @@ pub fn errno(rule: Rule) -> u16
         Rule::BadArgument => 22,
         Rule::NoSlot => 28,
         Rule::NoMessage => 42,
+        Rule::Removed => 43,
     }
 }
 
@@ -70,7 +82,10 @@ pub fn error_name(rule: Rule) -> &'static str
     match rule {
         Rule::NotOwner => "EPERM",
         Rule::NeedsResource => "EPERM",
+        Rule::NotSameUser => "EPERM",
         Rule::NoKey => "ENOENT",
+        Rule::NoProcess => "ESRCH",
+        Rule::Interrupted => "EINTR",
         Rule::MessageTooLong => "E2BIG",
         Rule::QueueFull => "EAGAIN",
         Rule::OwnerBits | Rule::GroupBits | Rule::OtherBits => "EACCES",
@@ -81,6 +96,7 @@ pub fn error_name(rule: Rule) -> &'static str
         Rule::BadArgument => "EINVAL",
         Rule::NoSlot => "ENOSPC",
         Rule::NoMessage => "ENOMSG",
+        Rule::Removed => "EIDRM",
     }
 }
 
@@ -92,7 +108,10 @@ pub fn rule_name(rule: Rule) -> &'static str
     match rule {
         Rule::NotOwner => "not-owner",
         Rule::NeedsResource => "needs-resource",
+        Rule::NotSameUser => "not-same-user",
         Rule::NoKey => "no-key",
+        Rule::NoProcess => "no-process",
+        Rule::Interrupted => "interrupted",
         Rule::MessageTooLong => "message-too-long",
         Rule::QueueFull => "queue-full",
         Rule::OwnerBits => "owner-bits",
@@ -105,5 +124,6 @@ pub fn rule_name(rule: Rule) -> &'static str
         Rule::BadArgument => "bad-argument",
         Rule::NoSlot => "no-slot",
         Rule::NoMessage => "no-message",
+        Rule::Removed => "removed",
     }
 }

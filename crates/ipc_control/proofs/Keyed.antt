@@ -1,19 +1,18 @@
 -- Queues and their keys: what a search by key finds, and what stays true while queues come and go.
 use Rattle.std.proofs.Common.{◌≡◌, ℕ, ◌≤◌, true, false, refl, sym, ap, ◌∙◌, Option, Some, None, ⊎_elim}
-use Rattle.std.specs.Prelude.{◌==◌, if◌then◌else◌, option_map, Result, Ok, Err, OnOk, OnErr, IsSome, IfSome}
+use Rattle.std.specs.Prelude.{◌==◌, if◌then◌else◌, option_map, IsSome, IfSome}
 use Rattle.std.specs.Ordering.{nat_cmp}
 use Rattle.std.specs.FinMap as map
 use Rattle.std.proofs.lemmas.Bool.{cases_Bool, cases_eq, eq-eqb, eqb-true, false≢true, ne_eqb}
 use Rattle.std.proofs.lemmas.Cmp.{nat_cmp_total}
 use Rattle.std.proofs.lemmas.Option.{none-some, same_Some}
-use Rattle.std.proofs.lemmas.Result.{on_ok_weaker, on_err_weaker}
 use Rattle.ipc_perm.specs.declared.perms.Perm.{Perm}
 use Rattle.ipc_ids.specs.Table.{Table, empty_table, find_object, with_object, without_object}
 use Rattle.ipc_ids.proofs.Searches.{find_object-none, find_object-some}
 use Rattle.ipc_ids.proofs.Sound.{IsFresh, IsSound-change, IsSound-empty, IsSound-new, IsSound-without, get-insert-other, get-insert-same, get-remove-other, get-remove-same}
 use Rattle.msg_queue.specs.declared.messages.Message.{Message}
 use Rattle.ipc_model.specs.State.{Queue, has_key}
-use Rattle.ipc_model.specs.Messages.{with_message, without_message}
+use Rattle.ipc_model.specs.Messages.{without_message}
 use Rattle.ipc_control.specs.Queues.{AreKeyed, with_key}
 
 has_key-from : (key : ℕ) (queue : Queue) → (key ≡ 0 → ⊥) → queue.perm.key ≡ key → has_key key queue ≡ true
@@ -203,28 +202,15 @@ module _ (queues : Table Queue) (keys : map.FinMap nat_cmp ℕ) (are : AreKeyed 
       (λ (ne : q ≡ key → ⊥). get-remove-other (with_key keys key id) key q ne ∙ other-with_key key id q ne)
       (cases_eq q key))
 
--- what a call that may fail leaves: the new value, or the old one
-on_either : {A B : Type 0} (r : Result A B) (P : Type 0) → OnOk r P → OnErr r P → P
-on_either (Ok x) P ok err = ok
-on_either (Err x) P ok err = err
-
--- a queue to which a message was sent, or not, keeps its key
-pub key-sent : {A B : Type 0} (r : Result A B) (old new : Queue) (client now : ℕ) (message : Message) → OnOk r (new ≡ with_message old client now message) → OnErr r (new ≡ old) → new.perm.key ≡ old.perm.key
-key-sent r old new client now message ok err =
-    on_either r (new.perm.key ≡ old.perm.key) (on_ok_weaker r (λ is. ap (λ (q : Queue). q.perm.key) is) ok) (on_err_weaker r (λ is. ap (λ (q : Queue). q.perm.key) is) err)
-
-insert-same : (queues : Table Queue) (id : ℕ) (queue : Queue) → map.get queues.objects id ≡ Some queue → with_object queues id queue ≡ queues
-insert-same queues id queue there = ap (λ (m : map.FinMap nat_cmp Queue). record queues { objects = m })
-    (map.same_map nat_cmp_total map.nat_cmp-IsAntisymmetric (map.insert queues.objects id queue) queues.objects (λ j. ⊎_elim
-    (λ (same : j ≡ id). ap (λ n. map.get (map.insert queues.objects id queue) n) same ∙ get-insert-same queues.objects id queue ∙ sym there ∙ ap (λ n. map.get queues.objects n) (sym same))
-    (λ (ne : j ≡ id → ⊥). get-insert-other queues.objects id queue j ne)
+-- an object that is put back leaves the table as it was
+pub insert-same : {X : Type 0} (t : Table X) (id : ℕ) (x : X) → map.get t.objects id ≡ Some x → with_object t id x ≡ t
+insert-same {X} t id x there = ap (λ (m : map.FinMap nat_cmp X). record t { objects = m })
+    (map.same_map nat_cmp_total map.nat_cmp-IsAntisymmetric (map.insert t.objects id x) t.objects (λ j. ⊎_elim
+    (λ (same : j ≡ id). ap (λ n. map.get (map.insert t.objects id x) n) same ∙ get-insert-same t.objects id x ∙ sym there ∙ ap (λ n. map.get t.objects n) (sym same))
+    (λ (ne : j ≡ id → ⊥). get-insert-other t.objects id x j ne)
     (cases_eq j id)))
 
--- a queue that didn't change leaves the table as it was
-pub same-where : {A B : Type 0} (r : Result A B) (queues : Table Queue) (id : ℕ) (old new : Queue) → map.get queues.objects id ≡ Some old → OnErr r (new ≡ old) → OnErr r (with_object queues id new ≡ queues)
-same-where r queues id old new there err = on_err_weaker r (λ is. ap (λ (q : Queue). with_object queues id q) is ∙ insert-same queues id old there) err
-
--- nor does a receiver change the key
+-- a receiver doesn't change the key
 pub key-received : (found : Option (ℕ × Message)) (client now : ℕ) (old new : Queue) → IsSome found → IfSome found (λ f. new ≡ without_message old client now f.0) → new.perm.key ≡ old.perm.key
 key-received None client now old new some is = absurd (false≢true some)
 key-received (Some f) client now old new some is = ap (λ (q : Queue). q.perm.key) is

@@ -2,8 +2,12 @@
 
 ghost use Rattle.std.specs.Prelude.{
   ◌≡◌,
+  ◌==◌,
+  ◌+◌,
+  ◌-◌,
   ◌<◌,
   ◌≤◌,
+  ℕ,
   false,
   not,
   Some,
@@ -24,6 +28,7 @@ ghost use Rattle.ipc_model.specs.State.{has_key};
 ghost use Rattle.ipc_model.specs.Controls.{status_of_queue, with_change, with_settings};
 ghost use Rattle.ipc_model.specs.Messages.{chosen, with_message, without_message};
 ghost use Rattle.msg_queue.specs.Messages.{is_full};
+ghost use Rattle.ipc_control.specs.Held.{one_if, queues_of, room};
 ghost use Rattle.ipc_control.specs.Queues.{with_key};
 
 use ipc_call::{Items, Memory, QueueStatus, Status};
@@ -49,26 +54,29 @@ pub struct Queue {
 
 impl Model for Queue {
     ghost use Rattle.msg_queue.specs.Queues.{contents};
-    ghost use Rattle.ipc_model.specs.State.{Queue as QueueValue};
+    ghost use Rattle.ipc_control.specs.Held.{Held};
 
-    ghost Value = { QueueValue };
+    ghost Value = { Held };
 
     ghost view = { λ q. record {
-      perm = q.perm;
-      messages = contents q.messages;
-      qbytes = q.messages.qbytes;
-      last_sender = q.last_sender;
-      last_receiver = q.last_receiver;
-      send_time = q.send_time;
-      receive_time = q.receive_time;
-      change_time = q.change_time;
+      queue = record {
+        perm = q.perm;
+        messages = contents q.messages;
+        qbytes = q.messages.qbytes;
+        last_sender = q.last_sender;
+        last_receiver = q.last_receiver;
+        send_time = q.send_time;
+        receive_time = q.receive_time;
+        change_time = q.change_time;
+      };
+      reserved = q.messages.reserved;
     } };
 }
 
 impl Queue {
     /// A queue without messages that was made now, in seconds, and holds at most so many bytes.
     pub fn new(alloc: Global, perm: Perm, qbytes: u32, now: u64) -> Queue
-        ensures { result ≡ record {
+        ensures queue { result.queue ≡ record {
           perm = perm;
           messages = [];
           qbytes = qbytes;
@@ -78,6 +86,7 @@ impl Queue {
           receive_time = 0;
           change_time = now;
         } }
+        ensures reserved { result.reserved ≡ 0 }
     {
         Queue {
             perm,
@@ -92,14 +101,14 @@ impl Queue {
 
     /// Its ipc_perm.
     pub fn perm(&self) -> Perm
-        ensures { result ≡ self.now.perm }
+        ensures { result ≡ self.now.queue.perm }
     {
         self.perm
     }
 
     /// Its state, as IPC_STAT tells it (msgctl(2)).
     pub fn status(&self) -> Status
-        ensures { result ≡ status_of_queue self.now }
+        ensures { result ≡ status_of_queue self.now.queue }
     {
         Status::Queue(QueueStatus {
             key: self.perm.key,
@@ -121,7 +130,7 @@ impl Queue {
 
     /// Whether there is room for a message with a text of `len` bytes (msgsnd of msgop(2)).
     pub fn fits(&self, len: usize) -> bool
-        ensures { result ≡ not (is_full self.now.messages self.now.qbytes len) }
+        ensures { result ≡ not (is_full self.now.queue.messages self.now.queue.qbytes len) }
     {
         self.messages.fits(len)
     }
@@ -129,25 +138,41 @@ impl Queue {
     /// The length in bytes of the text that a receiver takes, None where no message fits (msgrcv of msgop(2)).
     /// `except` is MSG_EXCEPT.
     pub fn chosen_len(&self, msgtyp: i64, except: bool) -> Option<usize>
-        ensures { result ≡ option_map (λ found. length found.1.text) (chosen self.now.messages msgtyp except) }
+        ensures { result ≡ option_map (λ found. length found.1.text) (chosen self.now.queue.messages msgtyp except) }
     {
         let (_, len) = self.messages.choose(msgtyp, except)?;
         Some(len)
     }
 
-    /// Adds a message at the end, from this client at a moment in seconds (msgsnd of msgop(2)). Memory comes
-    /// where a growth was refused, and then nothing has changed.
-    pub fn send(&mut self, client: u32, mtype: i64, text: Items<u8>, now: u64) -> Result<(), Memory>
-        requires client { client < 64 }
-        requires room { is_full self.old.messages self.old.qbytes (length text) ≡ false }
-        ensures ok { OnOk result (self.new ≡ with_message self.old client now (record { mtype = mtype; text = text })) }
+    /// Reserves a place for a message to come. Memory comes where a growth was refused, and then nothing has
+    /// changed. Reserving is the project's own.
+    pub fn reserve(&mut self) -> Result<(), Memory>
+        ensures ok { OnOk result (self.new ≡ record self.old { reserved = self.old.reserved + 1 }) }
         ensures err { OnErr result (self.new ≡ self.old) }
     {
-        self.messages.reserve_one()?;
+        self.messages.reserve_one()
+    }
+
+    /// Gives a reserved place back, for which no message comes. It is the project's own.
+    pub fn release(&mut self)
+        requires { 0 < self.old.reserved }
+        ensures { self.new ≡ record self.old { reserved = self.old.reserved - 1 } }
+    {
+        self.messages.free_one();
+    }
+
+    /// Adds a message at the end, in a place that was reserved, from this client at a moment in seconds (msgsnd
+    /// of msgop(2)). It takes no memory.
+    pub fn send(&mut self, client: u32, mtype: i64, text: Items<u8>, now: u64)
+        requires client { client < 64 }
+        requires reserved { 0 < self.old.reserved }
+        requires room { is_full self.old.queue.messages self.old.queue.qbytes (length text) ≡ false }
+        ensures queue { self.new.queue ≡ with_message self.old.queue client now (record { mtype = mtype; text = text }) }
+        ensures reserved { self.new.reserved + 1 ≡ self.old.reserved }
+    {
         self.messages.put(mtype, text);
         self.last_sender = client + 1;
         self.send_time = now;
-        Ok(())
     }
 
     /// Takes out the message that a receiver takes, which there is, for this client at a moment in seconds: its
@@ -161,9 +186,10 @@ impl Queue {
         now: u64,
     ) -> (i64, Items<u8>)
         requires client { client < 64 }
-        requires there { IsSome (chosen self.old.messages msgtyp except) }
-        ensures message { IfSome (chosen self.old.messages msgtyp except) (λ found. (result.0 ≡ found.1.mtype) × (result.1 ≡ take size found.1.text)) }
-        ensures queue { IfSome (chosen self.old.messages msgtyp except) (λ found. self.new ≡ without_message self.old client now found.0) }
+        requires there { IsSome (chosen self.old.queue.messages msgtyp except) }
+        ensures message { IfSome (chosen self.old.queue.messages msgtyp except) (λ found. (result.0 ≡ found.1.mtype) × (result.1 ≡ take size found.1.text)) }
+        ensures queue { IfSome (chosen self.old.queue.messages msgtyp except) (λ found. self.new.queue ≡ without_message self.old.queue client now found.0) }
+        ensures reserved { self.new.reserved ≡ self.old.reserved }
     {
         let Some((place, _)) = self.messages.choose(msgtyp, except) else {
             unreachable!()
@@ -178,7 +204,8 @@ impl Queue {
     /// Sets its owner, the low nine bits of its mode, and its msg_qbytes where that is given, at a moment in
     /// seconds (IPC_SET of msgctl(2)). Key, creator, messages and the other times stay.
     pub fn set(&mut self, uid: u32, gid: u32, mode: u32, qbytes: Option<u64>, now: u64)
-        ensures { self.new ≡ with_settings self.old now uid gid mode qbytes }
+        ensures queue { self.new.queue ≡ with_settings self.old.queue now uid gid mode qbytes }
+        ensures reserved { self.new.reserved ≡ self.old.reserved }
     {
         self.perm.uid = uid;
         self.perm.gid = gid;
@@ -200,24 +227,25 @@ pub struct Queues {
 impl Model for Queues {
     ghost use Rattle.std.specs.FinMap as map;
     ghost use Rattle.std.specs.Coded.{codes};
-    ghost use Rattle.ipc_model.specs.State.{Queue as QueueValue};
     ghost use Rattle.ipc_ids.specs.Table.{Table};
+    ghost use Rattle.ipc_control.specs.Held.{Held, queues_of};
     ghost use Rattle.ipc_control.specs.Queues.{AreKeyed};
 
-    ghost Value = { Table QueueValue };
+    ghost Value = { Table Held };
 
     ghost coded = { Prim.hlevel (codes, map.code) };
 
     ghost view = { λ q. q.slots };
 
-    ghost invariant = { λ q. AreKeyed q.slots q.keys };
+    ghost invariant = { λ q. AreKeyed (queues_of q.slots) q.keys };
 }
 
 impl Queues {
     /// No queue, with this many slots, at most 32768, and this sequence number in each.
     pub fn new(alloc: Global, slots: u32, first_seq: u16) -> Queues
         requires { slots ≤ 32768 }
-        ensures { result ≡ empty_table slots first_seq }
+        ensures queues { queues_of result ≡ empty_table slots first_seq }
+        ensures room { (id : ℕ) → room result id ≡ 0 }
     {
         Queues {
             slots: Slots::new(alloc, slots, first_seq),
@@ -227,7 +255,7 @@ impl Queues {
 
     /// The queue of a key: its identifier and permissions. None for key 0.
     pub fn find(&self, key: u32) -> Option<(u32, Perm)>
-        ensures { result ≡ option_map (λ found. (found.0, found.1.perm)) (find_object (has_key key) self.now) }
+        ensures { result ≡ option_map (λ found. (found.0, found.1.perm)) (find_object (has_key key) (queues_of self.now)) }
     {
         let id = self.keys.find(key)?;
         let queue = self.get(id)?;
@@ -236,14 +264,14 @@ impl Queues {
 
     /// The queue of an identifier.
     pub fn get(&self, id: u32) -> Option<&Queue>
-        ensures { option_copied result ≡ map.get self.now.objects id }
+        ensures { option_map (λ held. held.queue) (option_copied result) ≡ map.get (queues_of self.now).objects id }
     {
         self.slots.get(id)
     }
 
     /// The identifier of the next new queue, None where each slot holds one or is retired.
     pub fn next_id(&self) -> Option<u32>
-        ensures { result ≡ id_of_next self.now }
+        ensures { result ≡ id_of_next (queues_of self.now) }
     {
         self.slots.next_id()
     }
@@ -251,9 +279,11 @@ impl Queues {
     /// Puts a queue, whose key no other has, at the next identifier, which is handed in as it was answered.
     /// Memory comes where a growth was refused, and then nothing has changed.
     pub fn insert(&mut self, id: u32, queue: Queue) -> Result<(), Memory>
-        requires next { id_of_next self.old ≡ Some id }
-        requires free { find_object (has_key queue.perm.key) self.old ≡ None }
-        ensures ok { OnOk result (self.new ≡ with_object self.old id queue) }
+        requires next { id_of_next (queues_of self.old) ≡ Some id }
+        requires free { find_object (has_key queue.queue.perm.key) (queues_of self.old) ≡ None }
+        requires unreserved { queue.reserved ≡ 0 }
+        ensures ok { OnOk result (queues_of self.new ≡ with_object (queues_of self.old) id queue.queue) }
+        ensures room { (j : ℕ) → room self.new j ≡ room self.old j }
         ensures err { OnErr result (self.new ≡ self.old) }
     {
         let key = queue.perm().key;
@@ -271,8 +301,9 @@ impl Queues {
     /// Sets the owner, the mode and the msg_qbytes of the queue of an identifier, which there is, at a moment
     /// in seconds (IPC_SET of msgctl(2)). It takes no memory.
     pub fn set(&mut self, id: u32, uid: u32, gid: u32, mode: u32, qbytes: Option<u64>, now: u64)
-        requires { IsSome (map.get self.old.objects id) }
-        ensures { self.new ≡ with_change self.old id (λ queue. with_settings queue now uid gid mode qbytes) (map.get self.old.objects id) }
+        requires { IsSome (map.get (queues_of self.old).objects id) }
+        ensures queues { queues_of self.new ≡ with_change (queues_of self.old) id (λ queue. with_settings queue now uid gid mode qbytes) (map.get (queues_of self.old).objects id) }
+        ensures room { (j : ℕ) → room self.new j ≡ room self.old j }
     {
         let Some(queue) = self.slots.get_mut(id) else {
             unreachable!()
@@ -280,26 +311,45 @@ impl Queues {
         queue.set(uid, gid, mode, qbytes, now);
     }
 
-    /// Adds a message at the end of the queue of an identifier, which there is, from this client at a moment in
-    /// seconds (msgsnd of msgop(2)). Memory comes where a growth was refused, and then nothing has changed.
-    pub fn send(
-        &mut self,
-        id: u32,
-        client: u32,
-        mtype: i64,
-        text: Items<u8>,
-        now: u64,
-    ) -> Result<(), Memory>
-        requires client { client < 64 }
-        requires there { IsSome (map.get self.old.objects id) }
-        requires room { IfSome (map.get self.old.objects id) (λ queue. is_full queue.messages queue.qbytes (length text) ≡ false) }
-        ensures ok { OnOk result (IfSome (map.get self.old.objects id) (λ queue. self.new ≡ with_object self.old id (with_message queue client now (record { mtype = mtype; text = text })))) }
+    /// Reserves a place for a message to come in the queue of an identifier, which there is. Memory comes where a
+    /// growth was refused, and then nothing has changed. Reserving is the project's own.
+    pub fn reserve(&mut self, id: u32) -> Result<(), Memory>
+        requires { IsSome (map.get (queues_of self.old).objects id) }
+        ensures queues { OnOk result (queues_of self.new ≡ queues_of self.old) }
+        ensures room { OnOk result ((j : ℕ) → room self.new j ≡ room self.old j + one_if (j == id)) }
         ensures err { OnErr result (self.new ≡ self.old) }
     {
         let Some(queue) = self.slots.get_mut(id) else {
             unreachable!()
         };
-        queue.send(client, mtype, text, now)
+        queue.reserve()
+    }
+
+    /// Gives a reserved place of the queue of an identifier back. It is the project's own.
+    pub fn release(&mut self, id: u32)
+        requires { 0 < room self.old id }
+        ensures queues { queues_of self.new ≡ queues_of self.old }
+        ensures room { (j : ℕ) → room self.new j + one_if (j == id) ≡ room self.old j }
+    {
+        let Some(queue) = self.slots.get_mut(id) else {
+            unreachable!()
+        };
+        queue.release();
+    }
+
+    /// Adds a message at the end of the queue of an identifier, in a place that was reserved, from this client at a
+    /// moment in seconds (msgsnd of msgop(2)). It takes no memory.
+    pub fn send(&mut self, id: u32, client: u32, mtype: i64, text: Items<u8>, now: u64)
+        requires client { client < 64 }
+        requires reserved { 0 < room self.old id }
+        requires room { IfSome (map.get (queues_of self.old).objects id) (λ queue. is_full queue.messages queue.qbytes (length text) ≡ false) }
+        ensures queues { IfSome (map.get (queues_of self.old).objects id) (λ queue. queues_of self.new ≡ with_object (queues_of self.old) id (with_message queue client now (record { mtype = mtype; text = text }))) }
+        ensures room { (j : ℕ) → room self.new j + one_if (j == id) ≡ room self.old j }
+    {
+        let Some(queue) = self.slots.get_mut(id) else {
+            unreachable!()
+        };
+        queue.send(client, mtype, text, now);
     }
 
     /// Takes out the message that a receiver takes of the queue of an identifier; there are both (msgrcv of
@@ -314,12 +364,13 @@ impl Queues {
         now: u64,
     ) -> (i64, Items<u8>)
         requires client { client < 64 }
-        requires there { IsSome (map.get self.old.objects id) }
-        requires message { IfSome (map.get self.old.objects id) (λ queue. IsSome (chosen queue.messages msgtyp except)) }
-        ensures message { IfSome (map.get self.old.objects id) (λ queue. IfSome (chosen queue.messages msgtyp except) (λ found.
+        requires there { IsSome (map.get (queues_of self.old).objects id) }
+        requires message { IfSome (map.get (queues_of self.old).objects id) (λ queue. IsSome (chosen queue.messages msgtyp except)) }
+        ensures message { IfSome (map.get (queues_of self.old).objects id) (λ queue. IfSome (chosen queue.messages msgtyp except) (λ found.
             (result.0 ≡ found.1.mtype) × (result.1 ≡ take size found.1.text))) }
-        ensures queues { IfSome (map.get self.old.objects id) (λ queue. IfSome (chosen queue.messages msgtyp except) (λ found.
-            self.new ≡ with_object self.old id (without_message queue client now found.0))) }
+        ensures queues { IfSome (map.get (queues_of self.old).objects id) (λ queue. IfSome (chosen queue.messages msgtyp except) (λ found.
+            queues_of self.new ≡ with_object (queues_of self.old) id (without_message queue client now found.0))) }
+        ensures room { (j : ℕ) → room self.new j ≡ room self.old j }
     {
         let Some(queue) = self.slots.get_mut(id) else {
             unreachable!()
@@ -327,10 +378,13 @@ impl Queues {
         queue.receive(client, size, msgtyp, except, now)
     }
 
-    /// Takes out the queue of an identifier, which there is, and frees its key. It takes no memory.
+    /// Takes out the queue of an identifier, which there is and has no place reserved, and frees its key. It takes
+    /// no memory.
     pub fn remove(&mut self, id: u32)
-        requires { IsSome (map.get self.old.objects id) }
-        ensures { self.new ≡ without_object self.old id }
+        requires there { IsSome (map.get (queues_of self.old).objects id) }
+        requires unreserved { room self.old id ≡ 0 }
+        ensures queues { queues_of self.new ≡ without_object (queues_of self.old) id }
+        ensures room { (j : ℕ) → room self.new j ≡ room self.old j }
     {
         let Some(queue) = self.slots.remove(id) else {
             unreachable!()

@@ -3,6 +3,7 @@ pub mod Entries
 pub mod Free
 pub mod Identifiers
 pub mod Ids
+pub mod Images
 pub mod Least
 pub mod Places
 pub mod Searches

@@ -1,4 +1,5 @@
 pub mod Faults
+pub mod Images
 pub mod Lends
 pub mod Slots
 pub mod Table

@@ -1,5 +1,5 @@
 -- What is decided on a call, as a list of checks in their order (the order is the project's own where POSIX leaves it open).
-use Rattle.std.specs.Prelude.{ℕ, Bool, List, [], ◌∷◌, Option, Some, None, if◌then◌else◌}
+use Rattle.std.specs.Prelude.{ℕ, ◌==◌, bit_and, Bool, List, [], ◌∷◌, Option, Some, None, if◌then◌else◌}
 use Rattle.ipc_call.specs.declared.rules.Rule.{Rule}
 use Rattle.ipc_call.specs.declared.replies.Answer.{Answer}
 use Rattle.ipc_model.specs.State.{State}
@@ -10,9 +10,9 @@ pub data Decision : Type 0 where
   Wait : Decision
   Serve : (answer : Answer) (new : State) → Decision
 
--- what a call does that can't go on now: until calls wait, each is refused as if IPC_NOWAIT were given
+-- a call that can't go on now waits, or with IPC_NOWAIT, 04000, it is refused
 abbrev pub or_wait : ℕ → Rule → Decision
-or_wait flags rule = Refuse rule
+or_wait flags rule = if bit_and flags 2048 == 0 then Wait else Refuse rule
 
 -- the rule that refuses, unless the test passes
 abbrev pub check : Bool → Rule → Option Rule

@@ -1,9 +1,12 @@
 pub mod Controls
 pub mod Decide
 pub mod Decision
+pub mod Forced
 pub mod History
+pub mod Interrupts
 pub mod Made
 pub mod Messages
 pub mod Queues
 pub mod State
 pub mod Step
+pub mod Waits

@@ -1,7 +1,7 @@
 -- The identifiers of the objects that the events of a history made.
 use Rattle.std.specs.Prelude.{ℕ, Bool, true, false, List, [], ◌∷◌, ◌++◌, Option, Some, None, Ok, Err, if◌then◌else◌, is_some}
 use Rattle.ipc_call.specs.declared.calls.Call.{Call}
-use Rattle.ipc_call.specs.declared.calls.Call.TheVariants.{MsgGet, MsgSnd, MsgRcv, IpcStat, IpcSet, IpcRmid}
+use Rattle.ipc_call.specs.declared.calls.Call.TheVariants.{MsgGet, MsgSnd, MsgRcv, IpcStat, IpcSet, IpcRmid, Interrupt}
 use Rattle.ipc_call.specs.declared.calls.Kind.{Kind}
 use Rattle.ipc_call.specs.declared.calls.Kind.TheVariants as kinds
 use Rattle.ipc_call.specs.declared.replies.Answer.TheVariants.{Id, Done, Message, Status}
@@ -24,6 +24,7 @@ is_get_of kind (MsgRcv id size msgtyp flags) = false
 is_get_of kind (IpcStat other id) = false
 is_get_of kind (IpcSet other id uid gid mode qbytes) = false
 is_get_of kind (IpcRmid other id) = false
+is_get_of kind (Interrupt pid) = false
 
 -- the identifier in an answer, unless there was such an object before
 abbrev pub new_in : State → Kind → Option Outcome → List ℕ

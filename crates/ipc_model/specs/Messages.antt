@@ -1,11 +1,10 @@
 -- Messages of a queue: msgsnd and msgrcv (msgop(2), POSIX.1-2017 XSH msgsnd and msgrcv).
-use Rattle.std.specs.Prelude.{◌==◌, ℕ, ◌+◌, ℤ, pos, int_le, nat_le, Bool, true, false, not, ◌||◌, List, [], ◌∷◌, ◌++◌, length, take, remove, slice_get, Option, Some, None, option_and_then, option_map, if◌then◌else◌, bit_and}
+use Rattle.std.specs.Prelude.{◌==◌, ℕ, ℤ, pos, int_le, nat_le, Bool, true, false, not, ◌||◌, List, [], ◌∷◌, ◌++◌, length, take, remove, slice_get, Option, Some, None, option_and_then, option_map, if◌then◌else◌, bit_and}
 use Rattle.std.specs.FinMap as finite
 use Rattle.ipc_call.specs.declared.rules.Rule.TheVariants.{BadId, BadType, TextTooLong, QueueFull, NoMessage, MessageTooLong}
 use Rattle.ipc_call.specs.declared.replies.Answer.TheVariants.{Done, Message as MessageAnswer}
 use Rattle.ipc_creds.specs.Credentials.{Credentials}
 use Rattle.ipc_perm.specs.declared.access.Want.{Want}
-use Rattle.ipc_perm.specs.declared.perms.Perm.{Perm}
 use Rattle.ipc_perm.specs.Access.{Need, Permission, denial}
 use Rattle.ipc_ids.specs.Table.{with_object}
 use Rattle.msg_queue.specs.declared.messages.Message.{Message}

@@ -1,6 +1,6 @@
--- One event: the clock, the decision on the call, and then the waiting calls that can go on (the order in which
--- waiting calls end is the project's own choice).
-use Rattle.std.specs.Prelude.{ℕ, zero, suc, max, Bool, false, List, [], ◌∷◌, ◌++◌, length, remove, Option, Some, None, option_map, unwrap_or, slice_get, Ok, Err}
+-- One event: the clock, the decision on the call, the waiting calls that its grant ends, and then those that can go on (the
+-- order in which waiting calls end is the project's own choice).
+use Rattle.std.specs.Prelude.{ℕ, zero, suc, max, Bool, false, List, [], ◌∷◌, ◌++◌, length, remove, filter, flat_map, is_none, Option, Some, None, option_map, unwrap_or, slice_get, Ok, Err}
 use Rattle.ipc_call.specs.declared.calls.Call.{Call}
 use Rattle.ipc_call.specs.declared.replies.Answer.{Answer}
 use Rattle.ipc_call.specs.declared.replies.Waiting.{Waiting}
@@ -11,6 +11,7 @@ use Rattle.ipc_ids.specs.Table.{least_from}
 use Rattle.ipc_model.specs.State.{State}
 use Rattle.ipc_model.specs.Decision.{Decision, Refuse, Wait, Serve}
 use Rattle.ipc_model.specs.Decide.{decide, goes_on}
+use Rattle.ipc_model.specs.Forced.{forced}
 
 -- how a call ended
 abbrev pub Outcome : Type 0
@@ -93,13 +94,29 @@ own_of (Refuse rule) = Some (Err rule)
 own_of Wait = None
 own_of (Serve answer new) = Some (Ok answer)
 
+abbrev pub told_forced : ℕ → Option Rule → List Ended
+told_forced client None = []
+told_forced client (Some rule) = record { client = client; outcome = Err rule } ∷ []
+
+-- the waiting calls that the grant of this call ends leave the list, earliest first
+abbrev pub force : State → Call → Moved
+force s call = record {
+  state = record s { parked = filter (λ w. is_none (forced s call w)) s.parked };
+  ended = flat_map (λ w. told_forced w.client (forced s call w)) s.parked;
+}
+
+abbrev pub forced_by : State → Call → Decision → Moved
+forced_by s call (Refuse rule) = record { state = s; ended = [] }
+forced_by s call Wait = record { state = s; ended = [] }
+forced_by s call (Serve answer new) = force s call
+
 abbrev pub stepped : Option Outcome → Moved → Stepped
 stepped own m = record { state = m.state; own = own; ended = m.ended }
 
 abbrev pub entered : State → ℕ → Call → Decision → Stepped
-entered s client call d = stepped (own_of d) (settled (state_by s client call d))
+entered s client call d = stepped (own_of d) (and_then (forced_by (state_by s client call d) call d) settled)
 
--- refuse, grant or wait; then settle
+-- refuse, grant or wait; after a grant the calls end that it ends; then settle
 abbrev pub enter : State → ℕ → Call → Stepped
 enter s client call = entered s client call (decide s client call)
 

@@ -2,7 +2,7 @@
 use Rattle.std.specs.Prelude.{ℕ, Bool, true, false, not, ◌&&◌, ◌||◌, ◌==◌, ◌/◌, ◌%◌, bit_and, [], ◌∷◌, Option, Some, None, if◌then◌else◌}
 use Rattle.std.specs.List.{list_any}
 use Rattle.ipc_call.specs.declared.rules.Rule.{Rule}
-use Rattle.ipc_call.specs.declared.rules.Rule.TheVariants.{OwnerBits, GroupBits, OtherBits, NotOwner, NeedsResource}
+use Rattle.ipc_call.specs.declared.rules.Rule.TheVariants.{OwnerBits, GroupBits, OtherBits, NotOwner, NeedsResource, NotSameUser}
 use Rattle.ipc_creds.specs.Credentials.{Credentials, is_in_group, has_capability, cap_ipc_owner, cap_sys_admin, cap_sys_resource}
 use Rattle.ipc_perm.specs.declared.perms.Perm.{Perm}
 use Rattle.ipc_perm.specs.declared.access.Class.{Class}
@@ -50,6 +50,10 @@ permits c p want = is_subset want (rights_of c p) || has_capability c cap_ipc_ow
 abbrev pub controls : Credentials → Perm → Bool
 controls c p = is_owner c p || has_capability c cap_sys_admin
 
+-- the caller may interrupt a process of this effective user (kill(2), but for the capability, which is the project's own)
+abbrev pub has_same_user : Credentials → ℕ → Bool
+has_same_user c euid = c.euid == euid || has_capability c cap_sys_admin
+
 -- what the flags of a get ask of an object that is there: read for any of 0444, alter for any of 0222 (msgget(2))
 abbrev pub asked_of : ℕ → Want
 asked_of flags = record { read = not (bit_and flags 292 == 0); alter = not (bit_and flags 146 == 0) }
@@ -69,11 +73,13 @@ pub data Need : Type 0 where
   Permission : (perm : Perm) (want : Want) → Need
   Control : (perm : Perm) → Need
   Resource : Need
+  SameUser : (euid : ℕ) → Need
 
 -- the rule of a need that fails, and None where it is met
 abbrev pub denial : Credentials → Need → Option Rule
 denial c (Permission p want) = if permits c p want then None else Some (rule_of (class_of c p))
 denial c (Control p) = if controls c p then None else Some NotOwner
+denial c (SameUser euid) = if has_same_user c euid then None else Some NotSameUser
 denial c Resource = if has_capability c cap_sys_resource then None else Some NeedsResource
 
 -- the verdict with its ground: a capability only where the class or the ownership fails
@@ -84,6 +90,10 @@ verdict_on c p want =
 abbrev pub control_verdict_on : Credentials → Perm → Verdict
 control_verdict_on c p =
     if is_owner c p then Allowed grounds.Owner else (if has_capability c cap_sys_admin then Allowed grounds.SysAdmin else Denied NotOwner)
+
+abbrev pub interrupt_verdict_on : Credentials → ℕ → Verdict
+interrupt_verdict_on c euid =
+    if c.euid == euid then Allowed grounds.Owner else (if has_capability c cap_sys_admin then Allowed grounds.SysAdmin else Denied NotSameUser)
 
 abbrev pub is_allowed : Verdict → Bool
 is_allowed (Allowed _) = true

@@ -20,6 +20,8 @@ ghost use Rattle.ipc_perm.specs.Access.{
   controls,
   is_allowed,
   denied_rule,
+  interrupt_verdict_on,
+  SameUser,
 };
 
 use crate::perms::Perm;
@@ -104,6 +106,21 @@ pub fn may_control(creds: &Creds, perm: &Perm) -> Verdict
         return Verdict::Allowed(Ground::SysAdmin);
     }
     Verdict::Denied(Rule::NotOwner)
+}
+
+/// Whether a caller may interrupt a process of this effective user (kill(2): EPERM): it has the same one, or
+/// CAP_SYS_ADMIN. That this capability decides, and not CAP_KILL, is the project's own.
+pub fn may_interrupt(creds: &Creds, euid: u32) -> Verdict
+    ensures verdict { result ≡ interrupt_verdict_on creds.now euid }
+    ensures denial { denied_rule result ≡ denial creds.now (SameUser euid) }
+{
+    if creds.euid() == euid {
+        return Verdict::Allowed(Ground::Owner);
+    }
+    if !creds.caps().contains(Caps::SYS_ADMIN) {
+        return Verdict::Denied(Rule::NotSameUser);
+    }
+    Verdict::Allowed(Ground::SysAdmin)
 }
 
 /// The rights that the flags of a get ask of an object that is there: read for any bit of 0444,

@@ -1,31 +1,37 @@
 -- What no event undoes: the tables stay sound, and an identifier that was used stays used.
-use Rattle.std.proofs.Common.{◌≡◌, ℕ, zero, suc, Bool, true, false, not, cond, List, [], ◌∷◌, map, length, refl, sym, subst, Option, Some, None}
-use Rattle.std.specs.Prelude.{◌==◌, ◌&&◌, ◌||◌, ℤ, pos, int_le, nat_le, take, slice_get, option_map}
+use Rattle.std.proofs.Common.{◌≡◌, ℕ, zero, suc, Bool, true, false, not, cond, List, [], ◌∷◌, map, length, refl, sym, ap, subst, Option, Some, None}
+use Rattle.std.specs.Prelude.{◌==◌, ◌&&◌, ◌||◌, ℤ, pos, int_le, nat_le, take, bit_and, slice_get, option_map}
 use Rattle.std.specs.FinMap as finite
 use Rattle.std.proofs.lemmas.Option.{none-some}
 use Rattle.ipc_call.specs.declared.calls.Call.{Call}
-use Rattle.ipc_call.specs.declared.calls.Call.TheVariants.{MsgGet, MsgSnd, MsgRcv, IpcStat, IpcSet, IpcRmid}
+use Rattle.ipc_call.specs.declared.calls.Call.TheVariants.{MsgGet, MsgSnd, MsgRcv, IpcStat, IpcSet, IpcRmid, Interrupt}
 use Rattle.ipc_call.specs.declared.calls.Kind.{Kind}
 use Rattle.ipc_call.specs.declared.calls.Kind.TheVariants as kinds
 use Rattle.ipc_call.specs.declared.replies.Answer.{Answer}
 use Rattle.ipc_call.specs.declared.replies.Answer.TheVariants.{Done, Message as MessageAnswer, Status}
 use Rattle.ipc_call.specs.declared.replies.Waiting.{Waiting}
 use Rattle.ipc_call.specs.declared.rules.Rule.{Rule}
-use Rattle.ipc_call.specs.declared.rules.Rule.TheVariants.{NoKey, KeyExists, BadArgument, BadType, TextTooLong, QueueFull, MessageTooLong}
+use Rattle.ipc_call.specs.declared.rules.Rule.TheVariants.{NoKey, KeyExists, BadArgument, BadType, TextTooLong, QueueFull, MessageTooLong, NoMessage}
 use Rattle.ipc_creds.specs.Credentials.{Credentials}
 use Rattle.ipc_perm.specs.declared.perms.Perm.{Perm}
-use Rattle.ipc_perm.specs.Access.{Control, Need, Permission, asked_of, denial}
+use Rattle.ipc_perm.specs.Access.{Control, Need, Permission, SameUser, asked_of, denial}
 use Rattle.msg_queue.specs.declared.messages.Message.{Message}
 use Rattle.msg_queue.specs.Messages.{is_full}
 use Rattle.ipc_ids.specs.Table.{IsSound, WasUsed, next_id, without_object}
 use Rattle.ipc_ids.proofs.Sound.{IsSound-change, IsSound-new, IsSound-without, WasUsed-with, WasUsed-without, next_id-fresh}
 use Rattle.ipc_model.specs.State.{Queue, State, creds_at, queue_with_key}
-use Rattle.ipc_model.specs.Decision.{Decision, Refuse, Wait, Serve, by_check, by_checks, check}
+use Rattle.ipc_model.specs.Decision.{Decision, Refuse, Wait, Serve, by_check, by_checks, check, or_wait}
 use Rattle.ipc_model.specs.Queues.{get_queue, get_found, make_queue, with_queue, new_queue, asks_to_make, asks_alone}
 use Rattle.ipc_model.specs.Messages.{chosen, cuts, excepts, queue_at, receive_found, send_found, send_message, take_chosen, to_alter, to_read, with_changed}
+use Rattle.ipc_model.specs.Interrupts.{interrupt_found, process}
 use Rattle.ipc_model.specs.Controls.{needs_of_set, perm_of, remove_found, set_found, stat_object, stat_queue, status_of_queue, takes_qbytes, with_change, with_set, with_settings}
 use Rattle.ipc_model.specs.Decide.{decide}
-use Rattle.ipc_model.specs.Step.{Event, Moved, at_moment, end_at, end_waiting, ended_by, first_ready, settle, settle_from, settled, state_by, step, without}
+use Rattle.ipc_space.specs.Namespace.{Kept, moved_by}
+use Rattle.ipc_model.specs.Step.{Event, Moved, at_moment, end_at, end_waiting, ended_by, first_ready, force, forced_by, settle, settle_from, settled, state_by, step, without}
+
+-- what is kept is equal, and so is its state
+pub state_of : {a b : Kept} → a ≡ b → a.state ≡ b.state
+state_of is = ap (λ (k : Kept). k.state) is
 
 -- the second state may come after the first
 pub record Follows (s t : State) : Type 0 where
@@ -130,11 +136,15 @@ Keeps-changed s answer id old new there = (
   },
 )
 
+Keeps-or_wait : (s : State) (flags : ℕ) (rule : Rule) → Keeps s (or_wait flags rule)
+unfolding Keeps
+Keeps-or_wait s flags rule = Keeps-if s (bit_and flags 2048 == 0) Wait (Refuse rule) tt tt
+
 Keeps-send_found : (s : State) (c : Credentials) (client id flags : ℕ) (message : Message) (queue : Option Queue) → queue ≡ queue_at s id → Keeps s (send_found s c client id flags message queue)
 unfolding Keeps
 Keeps-send_found s c client id flags message None is = tt
 Keeps-send_found s c client id flags message (Some queue) is =
-    Keeps-check s (denial c (Permission queue.perm to_alter)) _ (Keeps-if s (is_full queue.messages queue.qbytes (length message.text)) (Refuse QueueFull) _ tt (Keeps-changed s Done id queue _ is))
+    Keeps-check s (denial c (Permission queue.perm to_alter)) _ (Keeps-if s (is_full queue.messages queue.qbytes (length message.text)) (or_wait flags QueueFull) _ (Keeps-or_wait s flags QueueFull) (Keeps-changed s Done id queue _ is))
 
 Keeps-send_message : (s : State) (c : Credentials) (client id flags : ℕ) (message : Message) → Keeps s (send_message s c client id flags message)
 Keeps-send_message s c client id flags message =
@@ -142,7 +152,7 @@ Keeps-send_message s c client id flags message =
 
 Keeps-take_chosen : (s : State) (client id size flags : ℕ) (queue : Queue) (found : Option (ℕ × Message)) → Some queue ≡ queue_at s id → Keeps s (take_chosen s client id size flags queue found)
 unfolding Keeps
-Keeps-take_chosen s client id size flags queue None is = tt
+Keeps-take_chosen s client id size flags queue None is = Keeps-or_wait s flags NoMessage
 Keeps-take_chosen s client id size flags queue (Some found) is = Keeps-check s (check (nat_le (length found.1.text) size || cuts flags) MessageTooLong) _ (Keeps-changed s (MessageAnswer found.1.mtype (take size found.1.text)) id queue _ is)
 
 Keeps-receive_found : (s : State) (c : Credentials) (client id size : ℕ) (msgtyp : ℤ) (flags : ℕ) (queue : Option Queue) → queue ≡ queue_at s id → Keeps s (receive_found s c client id size msgtyp flags queue)
@@ -173,6 +183,11 @@ unfolding Keeps
 Keeps-set_found s c kind id uid gid mode qbytes None = tt
 Keeps-set_found s c kind id uid gid mode qbytes (Some perm) = Keeps-denials s c (needs_of_set s (Some perm) qbytes) _ (Keeps-with_set s Done kind id uid gid mode qbytes)
 
+Keeps-interrupt_found : (s : State) (c : Credentials) (target : Option Credentials) → Keeps s (interrupt_found s c target)
+unfolding Keeps
+Keeps-interrupt_found s c None = tt
+Keeps-interrupt_found s c (Some target) = Keeps-check s (denial c (SameUser target.euid)) _ (Keeps-same s Done)
+
 -- each call
 pub Keeps-decide : (s : State) (client : ℕ) (call : Call) → Keeps s (decide s client call)
 unfolding decide
@@ -182,6 +197,7 @@ Keeps-decide s client (MsgRcv id size msgtyp flags) = Keeps-receive_found s (cre
 Keeps-decide s client (IpcStat kind id) = Keeps-stat_object s (creds_at s client) kind id
 Keeps-decide s client (IpcSet kind id uid gid mode qbytes) =
     Keeps-check s (check (takes_qbytes kind qbytes) BadArgument) _ (Keeps-set_found s (creds_at s client) kind id uid gid mode qbytes (perm_of s kind id))
+Keeps-decide s client (Interrupt pid) = Keeps-interrupt_found s (creds_at s client) (process s pid)
 Keeps-decide s client (IpcRmid kind id) = Keeps-remove_found s (creds_at s client) kind id (perm_of s kind id) refl
 
 Follows-state_by : (s : State) (client : ℕ) (call : Call) (d : Decision) → Keeps s d → Follows s (state_by s client call d)
@@ -214,10 +230,21 @@ Follows-settle (suc n) s = Follows-settle_from (settle n) (Follows-settle n) s (
 pub Follows-settled : (s : State) → Follows s (settled s).state
 Follows-settled s = Follows-settle (length s.parked) s
 
+pub Follows-forced_by : (s : State) (call : Call) (d : Decision) → Follows s (forced_by s call d).state
+Follows-forced_by s call (Refuse rule) = Follows-same s s refl
+Follows-forced_by s call Wait = Follows-same s s refl
+Follows-forced_by s call (Serve answer new) = Follows-same s (force s call).state refl
+
+-- what a call leaves before the waiting ones go on may follow
+pub Follows-moved : (s : State) (client : ℕ) (call : Call) → Follows s (moved_by s client call).state
+Follows-moved s client call =
+    let d = decide s client call in
+    let entered = state_by s client call d in
+    Follows-on s entered (forced_by entered call d).state (Follows-state_by s client call d (Keeps-decide s client call)) (Follows-forced_by entered call d)
+
 -- the state after an event may follow the one before it
 pub Follows-step : (s : State) (e : Event) → Follows s (step s e).state
 Follows-step s e =
     let now = at_moment s e.now in
-    let d = decide now e.client e.call in
-    let entered = state_by now e.client e.call d in
-    Follows-on s now (settled entered).state (Follows-same s now refl) (Follows-on now entered (settled entered).state (Follows-state_by now e.client e.call d (Keeps-decide now e.client e.call)) (Follows-settled entered))
+    let moved = (moved_by now e.client e.call).state in
+    Follows-on s now (settled moved).state (Follows-same s now refl) (Follows-on now moved (settled moved).state (Follows-moved now e.client e.call) (Follows-settled moved))

@@ -1,12 +1,11 @@
 -- An identifier that an event gives to a new object was never used before, so none is given twice.
 use Rattle.std.proofs.Common.{◌≡◌, ℕ, ◌≤◌, Bool, true, false, eqb, not, cond, List, [], ◌∷◌, ◌++◌, refl, sym, ap, ◌∙◌, subst, Option, Some, None, Ok, Err}
 use Rattle.std.specs.Prelude.{◌==◌, ◌&&◌, option_map, if◌then◌else◌, is_some}
-use Rattle.std.specs.FinMap as map
 use Rattle.std.specs.List.{AllByRecursion, IsDistinct}
 use Rattle.std.proofs.lemmas.Bool.{true≢false, ne_eqb}
 use Rattle.std.proofs.lemmas.Option.{none-some}
 use Rattle.ipc_call.specs.declared.calls.Call.{Call}
-use Rattle.ipc_call.specs.declared.calls.Call.TheVariants.{MsgGet, MsgSnd, MsgRcv, IpcStat, IpcSet, IpcRmid}
+use Rattle.ipc_call.specs.declared.calls.Call.TheVariants.{MsgGet, MsgSnd, MsgRcv, IpcStat, IpcSet, IpcRmid, Interrupt}
 use Rattle.ipc_call.specs.declared.calls.Kind.{Kind}
 use Rattle.ipc_call.specs.declared.calls.Kind.TheVariants as kinds
 use Rattle.ipc_call.specs.declared.replies.Answer.TheVariants.{Id, Done, Message, Status}
@@ -22,7 +21,7 @@ use Rattle.ipc_model.specs.State.{Queue, State, creds_at, has_key, opening, queu
 use Rattle.ipc_model.specs.Decision.{Decision, Refuse, Wait, Serve, by_check, check}
 use Rattle.ipc_model.specs.Queues.{get_queue, get_found, make_queue, with_queue, new_queue, asks_to_make, asks_alone}
 use Rattle.ipc_model.specs.Decide.{decide}
-use Rattle.ipc_model.specs.Step.{Event, Outcome, at_moment, own_of, settled, state_by, step}
+use Rattle.ipc_model.specs.Step.{Event, Outcome, at_moment, force, forced_by, own_of, settled, state_by, step}
 use Rattle.ipc_model.specs.History.{History}
 use Rattle.ipc_model.specs.Made.{has_object, is_get_of, made, made_by, made_from, new_in}
 use Rattle.ipc_space.proofs.Keeping.{Follows, Follows-settled, Follows-step, Keeps, Keeps-decide}
@@ -91,7 +90,7 @@ all-unless P true id named = tt
 all-unless P false id named = (named refl, tt)
 
 named-in : (s : State) (d : Decision) (client : ℕ) (call : Call) → NamesFresh s d → Keeps s d → IsSound s.queues
-    → AllByRecursion (IsNamed s kinds.Queue (settled (state_by s client call d)).state) (new_in s kinds.Queue (own_of d))
+    → AllByRecursion (IsNamed s kinds.Queue (settled (forced_by (state_by s client call d) call d).state).state) (new_in s kinds.Queue (own_of d))
 unfolding NamesFresh Keeps
 named-in s (Refuse rule) client call names keeps sound = tt
 named-in s Wait client call names keeps sound = tt
@@ -100,7 +99,8 @@ named-in s (Serve (Message mtype text) new) client call names keeps sound = tt
 named-in s (Serve (Status status) new) client call names keeps sound = tt
 named-in s (Serve (Id id) new) client call names keeps sound = all-unless _ (has_object s kinds.Queue id) id (λ absent.
     let fresh = names absent in
-    (fresh-unused s.queues id fresh.0, (Follows-settled new).used (keeps.1.sound sound) id fresh.1))
+    let forced = (force new call).state in
+    (fresh-unused s.queues id fresh.0, (Follows-settled forced).used (keeps.1.sound sound) id fresh.1))
 
 named-by : (kind : Kind) (s : State) (client now : ℕ) (call : Call) → IsSound s.queues
     → AllByRecursion (IsNamed s kind (step s (record { client = client; now = now; call = call })).state) (made_by kind s (record { client = client; now = now; call = call }))
@@ -114,18 +114,21 @@ named-by kinds.Queue s client now (MsgRcv id size msgtyp flags) sound = tt
 named-by kinds.Queue s client now (IpcStat other id) sound = tt
 named-by kinds.Queue s client now (IpcSet other id uid gid mode qbytes) sound = tt
 named-by kinds.Queue s client now (IpcRmid other id) sound = tt
+named-by kinds.Queue s client now (Interrupt pid) sound = tt
 named-by kinds.Sems s client now (MsgGet key flags) sound = tt
 named-by kinds.Sems s client now (MsgSnd id mtype text flags) sound = tt
 named-by kinds.Sems s client now (MsgRcv id size msgtyp flags) sound = tt
 named-by kinds.Sems s client now (IpcStat other id) sound = tt
 named-by kinds.Sems s client now (IpcSet other id uid gid mode qbytes) sound = tt
 named-by kinds.Sems s client now (IpcRmid other id) sound = tt
+named-by kinds.Sems s client now (Interrupt pid) sound = tt
 named-by kinds.Segment s client now (MsgGet key flags) sound = tt
 named-by kinds.Segment s client now (MsgSnd id mtype text flags) sound = tt
 named-by kinds.Segment s client now (MsgRcv id size msgtyp flags) sound = tt
 named-by kinds.Segment s client now (IpcStat other id) sound = tt
 named-by kinds.Segment s client now (IpcSet other id uid gid mode qbytes) sound = tt
 named-by kinds.Segment s client now (IpcRmid other id) sound = tt
+named-by kinds.Segment s client now (Interrupt pid) sound = tt
 
 used-later : (kind : Kind) (s t : State) → Follows s t → IsSound s.queues → (id : ℕ) → IsUsed s kind id → IsUsed t kind id
 used-later kinds.Queue s t follows sound id used = follows.used sound id used

@@ -22,7 +22,7 @@ parked_at n [] k w are is = absurd (none-some w is)
 parked_at n (v ∷ ws) zero w are is = let same = same_Some v w is in (subst (λ (x : Waiting). x.client < n) same are.0, subst (λ (x : Waiting). can_wait x.call ≡ true) same are.1)
 parked_at n (v ∷ ws) (suc k) w are is = parked_at n ws k w are.3 is
 
-list_any-remove : (test : Waiting → Bool) (ws : List Waiting) (k : ℕ) → list_any test ws ≡ false → list_any test (remove ws k) ≡ false
+pub list_any-remove : (test : Waiting → Bool) (ws : List Waiting) (k : ℕ) → list_any test ws ≡ false → list_any test (remove ws k) ≡ false
 list_any-remove test [] zero none = refl
 list_any-remove test [] (suc k) none = refl
 list_any-remove test (w ∷ ws) zero none = (or_parts (test w) (list_any test ws) none).1
@@ -36,12 +36,12 @@ AreParked-remove n [] (suc k) are = tt
 AreParked-remove n (w ∷ ws) zero are = are.3
 AreParked-remove n (w ∷ ws) (suc k) are = (are.0, are.1, list_any-remove (λ v. v.client == w.client) ws k are.2, AreParked-remove n ws k are.3)
 
-list_any-push : (test : Waiting → Bool) (ws : List Waiting) (w : Waiting) → list_any test ws ≡ false → test w ≡ false → list_any test (ws ++ w ∷ []) ≡ false
+pub list_any-push : (test : Waiting → Bool) (ws : List Waiting) (w : Waiting) → list_any test ws ≡ false → test w ≡ false → list_any test (ws ++ w ∷ []) ≡ false
 list_any-push test [] w none here = or_from (test w) false here refl
 list_any-push test (v ∷ ws) w none here =
     let parts = or_parts (test v) (list_any test ws) none in or_from (test v) (list_any test (ws ++ w ∷ [])) parts.0 (list_any-push test ws w parts.1 here)
 
-turned : (a b : ℕ) → (a == b) ≡ false → (b == a) ≡ false
+pub turned : (a b : ℕ) → (a == b) ≡ false → (b == a) ≡ false
 turned a b apart = ne_eqb b a (λ e. eqb-false a b apart (sym e))
 
 -- one more call, of a client with no call that waits
@@ -52,7 +52,7 @@ AreParked-push n (v ∷ ws) w are known can free =
     let parts = or_parts (v.client == w.client) (list_any (λ u. u.client == w.client) ws) free in
     (are.0, are.1, list_any-push (λ u. u.client == v.client) ws w are.2 (turned v.client w.client parts.0), AreParked-push n ws w are.3 known can parts.1)
 
-apart_from : (x : ℕ) (ws : List Waiting) → list_any (λ v. v.client == x) ws ≡ false → AllByRecursion (λ y. eqb x y ≡ false) (map (λ v. v.client) ws)
+pub apart_from : (x : ℕ) (ws : List Waiting) → list_any (λ v. v.client == x) ws ≡ false → AllByRecursion (λ y. eqb x y ≡ false) (map (λ v. v.client) ws)
 apart_from x [] none = tt
 apart_from x (w ∷ ws) none =
     let parts = or_parts (w.client == x) (list_any (λ v. v.client == x) ws) none in (turned w.client x parts.0, apart_from x ws parts.1)

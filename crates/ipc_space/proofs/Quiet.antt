@@ -11,8 +11,9 @@ use Rattle.ipc_ids.specs.Table.{least_from}
 use Rattle.ipc_model.specs.State.{State, opening}
 use Rattle.ipc_model.specs.Decision.{Decision, Refuse, Wait, Serve}
 use Rattle.ipc_model.specs.Decide.{decide, goes_on}
-use Rattle.ipc_model.specs.Step.{Event, at_moment, end_at, end_waiting, ended_by, entered, first_ready, is_ready, own_of, settle, settle_from, settled, state_by, step, without}
+use Rattle.ipc_model.specs.Step.{Event, at_moment, end_at, end_waiting, ended_by, entered, first_ready, is_ready, own_of, settle, settle_from, settled, step, without}
 use Rattle.ipc_model.specs.History.{History, run, run_from, next_step}
+use Rattle.ipc_space.specs.Namespace.{moved_by}
 use Rattle.ipc_space.proofs.Keeping.{Keeps, Keeps-decide}
 use Rattle.ipc_space.proofs.Deciding.{clock_alike}
 use Rattle.ipc_space.proofs.Settling.{ready_at, settled-none}
@@ -55,7 +56,7 @@ quiet-settled s = quiet-settle (length s.parked) s (omega arith)
 quiet-run_from : (s : State) (es : List Event) → IsQuiet s → IsQuiet (run_from s es)
 quiet-run_from s [] quiet = quiet
 quiet-run_from s (e ∷ es) quiet =
-    let now = at_moment s e.now in quiet-run_from (step s e).state es (quiet-settled (state_by now e.client e.call (decide now e.client e.call)))
+    let now = at_moment s e.now in quiet-run_from (step s e).state es (quiet-settled (moved_by now e.client e.call).state)
 
 -- after every history no waiting call is ready
 pub quiet-run : (h : History) → IsQuiet (run h)

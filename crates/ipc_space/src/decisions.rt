@@ -5,8 +5,8 @@ ghost use Rattle.ipc_model.specs.Decide.{can_wait as may_wait};
 ghost use Rattle.ipc_model.specs.Decision.{or_wait as refuse_or_wait};
 ghost use Rattle.ipc_space.specs.Decisions.{decided, decided_by};
 
-use ipc_call::{Call, Rule};
-use ipc_perm::Verdict;
+use ipc_call::{Call, IPC_NOWAIT, Rule};
+use ipc_perm::{Verdict, Want};
 
 /// The decision on a call.
 #[derive(Clone, Copy, Debug)]
@@ -19,12 +19,27 @@ pub enum Decided {
     Go,
 }
 
-/// The decision on a call that can't go on now. As yet none waits.
+/// The right that a call asks which changes what is in an object.
+pub const TO_ALTER: Want = Want {
+    read: false,
+    alter: true,
+};
+
+/// The right that a call asks which tells what is in an object.
+pub const TO_READ: Want = Want {
+    read: true,
+    alter: false,
+};
+
+/// The decision on a call that can't go on now: it waits, or with IPC_NOWAIT it is refused.
 pub fn or_wait(flags: u32, rule: Rule) -> Decided
     ensures { result ≡ decided (refuse_or_wait flags rule) }
 {
-    let _ = flags;
-    Decided::Refuse(rule)
+    if flags & IPC_NOWAIT == 0 {
+        Decided::Wait
+    } else {
+        Decided::Refuse(rule)
+    }
 }
 
 /// The decision on a call that asks for nothing but this verdict.
@@ -42,11 +57,11 @@ pub fn can_wait(call: &Call) -> bool
     ensures { result ≡ may_wait call.now }
 {
     match call {
+        Call::MsgSnd { .. } | Call::MsgRcv { .. } => true,
         Call::MsgGet { .. }
-        | Call::MsgSnd { .. }
-        | Call::MsgRcv { .. }
         | Call::IpcStat { .. }
         | Call::IpcSet { .. }
-        | Call::IpcRmid { .. } => false,
+        | Call::IpcRmid { .. }
+        | Call::Interrupt { .. } => false,
     }
 }

@@ -9,6 +9,7 @@ ghost use Rattle.ipc_call.specs.declared.rules.Rule.{Rule as RuleOf};
 ghost use Rattle.ipc_model.specs.Step.{Event, Stepped, at_moment};
 ghost use Rattle.ipc_model.specs.History.{History, IsLegal, run, next_step};
 ghost use Rattle.ipc_model.specs.Made.{made};
+ghost use Rattle.ipc_model.specs.Waits.{AreNotReady, ArePermitted, WaitOnce};
 
 /// No identifier is given to two objects of one kind: of the objects of a kind that the events of a history
 /// made, each has another identifier than all before it. A get that finds its key makes none. That an
@@ -21,4 +22,16 @@ pub fn ids_once()
 pub fn refused_calls_change_nothing()
     ensures { (h : History) (e : Event) (rule : RuleOf) → IsLegal h → (next_step h e).own ≡ Some (Err rule)
         → next_step h e ≡ record { state = at_moment (run h) e.now; own = Some (Err rule); ended = [] } }
+{}
+
+/// No waiting call is ready or unpermitted after a call: after every history each call that waits would still
+/// wait if it came now, and its client has the rights on the object that it needs.
+pub fn waiting_calls_are_permitted_and_not_ready()
+    ensures not_ready { (h : History) → AreNotReady (run h) }
+    ensures permitted { (h : History) → ArePermitted (run h) }
+{}
+
+/// No client waits twice, after every legal history.
+pub fn no_client_waits_twice()
+    ensures { (h : History) → IsLegal h → WaitOnce (run h) }
 {}

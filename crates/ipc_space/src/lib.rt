@@ -4,10 +4,12 @@
 
 mod control_calls;
 mod decisions;
+mod forcing;
 mod journal;
 pub mod laws;
 mod message_calls;
 mod namespace;
+mod reserving;
 mod spaces;
 
 pub use ipc_call::JournalRow;

@@ -8,24 +8,12 @@ ghost use Rattle.ipc_model.specs.Messages.{cuts, receive_message, send_message};
 ghost use Rattle.ipc_model.specs.Queues.{get_queue, get_found, make_queue as make_queue_by, new_queue as new_queue_by};
 ghost use Rattle.ipc_space.specs.Decisions.{decided};
 
-use crate::decisions::{Decided, go_if, or_wait};
+use crate::decisions::{Decided, TO_ALTER, TO_READ, go_if, or_wait};
 use crate::namespace::Namespace;
 use ipc_call::{Answer, IPC_CREAT, IPC_EXCL, Items, MSG_EXCEPT, MSG_NOERROR, Memory, Rule};
 use ipc_control::Queue;
 use ipc_creds::Creds;
-use ipc_perm::{Mode, Perm, Verdict, Want, asked_of_flags, decide};
-
-/// The right that msgsnd asks.
-const TO_ALTER: Want = Want {
-    read: false,
-    alter: true,
-};
-
-/// The right that msgrcv asks.
-const TO_READ: Want = Want {
-    read: true,
-    alter: false,
-};
+use ipc_perm::{Mode, Perm, Verdict, asked_of_flags, decide};
 
 impl Namespace {
     /// The decision on msgsnd. Type and length are looked at before the identifier.
@@ -37,7 +25,7 @@ impl Namespace {
         len: usize,
         flags: u32,
     ) -> Decided
-        ensures { (client : ℕ) (text : List ℕ) → length text ≡ len → result ≡ decided (send_message self.now creds.now client id flags (record { mtype = mtype; text = text })) }
+        ensures { (client : ℕ) (text : List ℕ) → length text ≡ len → result ≡ decided (send_message self.now.state creds.now client id flags (record { mtype = mtype; text = text })) }
     {
         if mtype < 1 {
             return Decided::Refuse(Rule::BadType);
@@ -67,15 +55,17 @@ impl Namespace {
         text: Items<u8>,
         flags: u32,
     ) -> Result<Answer, Memory>
-        requires known { client < length self.old.clients }
-        requires go { decided (send_message self.old (creds_at self.old client) client id flags (record { mtype = mtype; text = text })) ≡ Decided.Go }
-        ensures served { IfOk result (λ answer. send_message self.old (creds_at self.old client) client id flags (record { mtype = mtype; text = text }) ≡ Serve answer self.new) }
-        ensures parked { self.new.parked ≡ self.old.parked }
-        ensures limits { self.new.limits ≡ self.old.limits }
-        ensures clients { self.new.clients ≡ self.old.clients }
+        requires known { client < length self.old.state.clients }
+        requires go { decided (send_message self.old.state (creds_at self.old.state client) client id flags (record { mtype = mtype; text = text })) ≡ Decided.Go }
+        ensures served { IfOk result (λ answer. send_message self.old.state (creds_at self.old.state client) client id flags (record { mtype = mtype; text = text }) ≡ Serve answer self.new.state) }
+        ensures parked { self.new.state.parked ≡ self.old.state.parked }
+        ensures limits { self.new.state.limits ≡ self.old.state.limits }
+        ensures clients { self.new.state.clients ≡ self.old.state.clients }
+        ensures latest { self.new.latest ≡ self.old.latest }
         ensures err { OnErr result (self.new ≡ self.old) }
     {
-        self.queues.send(id, client, mtype, text, self.clock)?;
+        self.queues.reserve(id)?;
+        self.queues.send(id, client, mtype, text, self.clock);
         Ok(Answer::Done)
     }
 
@@ -88,7 +78,7 @@ impl Namespace {
         msgtyp: i64,
         flags: u32,
     ) -> Decided
-        ensures { (client : ℕ) → result ≡ decided (receive_message self.now creds.now client id size msgtyp flags) }
+        ensures { (client : ℕ) → result ≡ decided (receive_message self.now.state creds.now client id size msgtyp flags) }
     {
         let Some(queue) = self.queues.get(id) else {
             return Decided::Refuse(Rule::BadId);
@@ -96,13 +86,10 @@ impl Namespace {
         if let Verdict::Denied(rule) = decide(creds, &queue.perm(), TO_READ) {
             return Decided::Refuse(rule);
         }
-        let Some(len) = queue.chosen_len(msgtyp, flags & MSG_EXCEPT != 0) else {
-            return or_wait(flags, Rule::NoMessage);
-        };
-        if hands_out(len, size, flags) {
-            Decided::Go
-        } else {
-            Decided::Refuse(Rule::MessageTooLong)
+        match queue.chosen_len(msgtyp, flags & MSG_EXCEPT != 0) {
+            None => or_wait(flags, Rule::NoMessage),
+            Some(len) if hands_out(len, size, flags) => Decided::Go,
+            Some(_) => Decided::Refuse(Rule::MessageTooLong),
         }
     }
 
@@ -115,12 +102,13 @@ impl Namespace {
         msgtyp: i64,
         flags: u32,
     ) -> Answer
-        requires known { client < length self.old.clients }
-        requires go { decided (receive_message self.old (creds_at self.old client) client id size msgtyp flags) ≡ Decided.Go }
-        ensures served { receive_message self.old (creds_at self.old client) client id size msgtyp flags ≡ Serve result self.new }
-        ensures parked { self.new.parked ≡ self.old.parked }
-        ensures limits { self.new.limits ≡ self.old.limits }
-        ensures clients { self.new.clients ≡ self.old.clients }
+        requires known { client < length self.old.state.clients }
+        requires go { decided (receive_message self.old.state (creds_at self.old.state client) client id size msgtyp flags) ≡ Decided.Go }
+        ensures served { receive_message self.old.state (creds_at self.old.state client) client id size msgtyp flags ≡ Serve result self.new.state }
+        ensures parked { self.new.state.parked ≡ self.old.state.parked }
+        ensures limits { self.new.state.limits ≡ self.old.state.limits }
+        ensures clients { self.new.state.clients ≡ self.old.state.clients }
+        ensures latest { self.new.latest ≡ self.old.latest }
     {
         let except = flags & MSG_EXCEPT != 0;
         let (mtype, text) = self
@@ -131,7 +119,7 @@ impl Namespace {
 
     /// The decision on msgget. Key 0 is IPC_PRIVATE, and has no queue.
     pub(super) fn decide_get_queue(&self, creds: &Creds, key: u32, flags: u32) -> Decided
-        ensures { result ≡ decided (get_queue self.now creds.now key flags) }
+        ensures { result ≡ decided (get_queue self.now.state creds.now key flags) }
     {
         if key == 0 {
             return self.decide_make_queue();
@@ -144,7 +132,7 @@ impl Namespace {
 
     /// The decision on a get whose key has no queue.
     fn decide_absent_queue(&self, flags: u32) -> Decided
-        ensures { (creds : Credentials) (key : ℕ) → result ≡ decided (get_found self.now creds key flags None) }
+        ensures { (creds : Credentials) (key : ℕ) → result ≡ decided (get_found self.now.state creds key flags None) }
     {
         if flags & IPC_CREAT == 0 {
             return Decided::Refuse(Rule::NoKey);
@@ -154,7 +142,7 @@ impl Namespace {
 
     /// The decision on a new queue, whoever makes it.
     fn decide_make_queue(&self) -> Decided
-        ensures { (creds : Credentials) (key flags : ℕ) → result ≡ decided (make_queue_by self.now creds key flags) }
+        ensures { (creds : Credentials) (key flags : ℕ) → result ≡ decided (make_queue_by self.now.state creds key flags) }
     {
         match self.queues.next_id() {
             None => Decided::Refuse(Rule::NoSlot),
@@ -169,12 +157,13 @@ impl Namespace {
         key: u32,
         flags: u32,
     ) -> Result<Answer, Memory>
-        requires known { client < length self.old.clients }
-        requires go { decided (get_queue self.old (creds_at self.old client) key flags) ≡ Decided.Go }
-        ensures served { IfOk result (λ answer. get_queue self.old (creds_at self.old client) key flags ≡ Serve answer self.new) }
-        ensures parked { self.new.parked ≡ self.old.parked }
-        ensures limits { self.new.limits ≡ self.old.limits }
-        ensures clients { self.new.clients ≡ self.old.clients }
+        requires known { client < length self.old.state.clients }
+        requires go { decided (get_queue self.old.state (creds_at self.old.state client) key flags) ≡ Decided.Go }
+        ensures served { IfOk result (λ answer. get_queue self.old.state (creds_at self.old.state client) key flags ≡ Serve answer self.new.state) }
+        ensures parked { self.new.state.parked ≡ self.old.state.parked }
+        ensures limits { self.new.state.limits ≡ self.old.state.limits }
+        ensures clients { self.new.state.clients ≡ self.old.state.clients }
+        ensures latest { self.new.latest ≡ self.old.latest }
         ensures err { OnErr result (self.new ≡ self.old) }
     {
         if key == 0 {
@@ -188,13 +177,14 @@ impl Namespace {
 
     /// Makes the queue on which that was decided.
     fn make_queue(&mut self, client: u32, key: u32, flags: u32) -> Result<Answer, Memory>
-        requires known { client < length self.old.clients }
-        requires go { decided (make_queue_by self.old (creds_at self.old client) key flags) ≡ Decided.Go }
-        requires free { queue_of_key self.old key ≡ None }
-        ensures served { IfOk result (λ answer. make_queue_by self.old (creds_at self.old client) key flags ≡ Serve answer self.new) }
-        ensures parked { self.new.parked ≡ self.old.parked }
-        ensures limits { self.new.limits ≡ self.old.limits }
-        ensures clients { self.new.clients ≡ self.old.clients }
+        requires known { client < length self.old.state.clients }
+        requires go { decided (make_queue_by self.old.state (creds_at self.old.state client) key flags) ≡ Decided.Go }
+        requires free { queue_of_key self.old.state key ≡ None }
+        ensures served { IfOk result (λ answer. make_queue_by self.old.state (creds_at self.old.state client) key flags ≡ Serve answer self.new.state) }
+        ensures parked { self.new.state.parked ≡ self.old.state.parked }
+        ensures limits { self.new.state.limits ≡ self.old.state.limits }
+        ensures clients { self.new.state.clients ≡ self.old.state.clients }
+        ensures latest { self.new.latest ≡ self.old.latest }
         ensures err { OnErr result (self.new ≡ self.old) }
     {
         let Some(id) = self.queues.next_id() else {
@@ -207,15 +197,16 @@ impl Namespace {
 
     /// The identifier and permissions of the queue of a key.
     fn queue_with_key(&self, key: u32) -> Option<(u32, Perm)>
-        ensures { result ≡ queue_of_key self.now key }
+        ensures { result ≡ queue_of_key self.now.state key }
     {
         self.queues.find(key)
     }
 
     /// A queue that the client owns and made, with the mode in the flags.
     fn new_queue(&self, client: u32, key: u32, flags: u32) -> Queue
-        requires { client < length self.now.clients }
-        ensures { result ≡ new_queue_by self.now (creds_at self.now client) key flags }
+        requires { client < length self.now.state.clients }
+        ensures queue { result.queue ≡ new_queue_by self.now.state (creds_at self.now.state client) key flags }
+        ensures reserved { result.reserved ≡ 0 }
     {
         let creds = &self.clients[client as usize];
         let perm = Perm {

@@ -23,6 +23,7 @@ ghost use Rattle.ipc_call.specs.Limits.{are_in_range};
 ghost use Rattle.ipc_model.specs.State.{is_waiting as waits};
 ghost use Rattle.ipc_model.specs.Step.{Stepped};
 ghost use Rattle.ipc_model.specs.History.{run, rows_of, rows_by, IsLegal, with_event, next_step, told_own, told_ended, answered_row, rule_in};
+ghost use Rattle.ipc_model.specs.Waits.{AreNotReady, ArePermitted, WaitOnce};
 ghost use Rattle.ipc_space.specs.Spaces.{own_reply, other_replies};
 
 use crate::journal::Journal;
@@ -51,13 +52,14 @@ pub struct Space {
 
 impl Model for Space {
     ghost use Rattle.ipc_model.specs.History.{History};
+    ghost use Rattle.std.specs.Prelude.{◌≤◌};
     ghost use Rattle.ipc_space.specs.Spaces.{history_in, IsOfHistory};
 
     ghost Value = { History };
 
-    ghost view = { λ s. history_in s.namespace s.journal.rows };
+    ghost view = { λ s. history_in s.namespace.state s.journal.rows };
 
-    ghost invariant = { λ s. IsOfHistory s.namespace s.journal.rows s.events };
+    ghost invariant = { λ s. IsOfHistory s.namespace.state s.journal.rows s.events × (s.namespace.latest ≤ s.events) };
 }
 
 impl Space {
@@ -79,8 +81,10 @@ impl Space {
     }
 
     /// Serves a call of a client at a moment in seconds, as the next event. The client is one of the
-    /// namespace, and has no call that waits. Memory (ENOMEM) comes where a growth was refused, and
-    /// then nothing has changed, the clock and the journal included.
+    /// namespace, and has no call that waits. Afterwards no waiting call is ready, each one's client has
+    /// the rights that it needs, and no client waits twice. Memory (ENOMEM) comes where a growth was refused,
+    /// and then nothing has changed, the clock and the journal included.
+    #[tactic(auto, using(crate::proofs::Permitted::run_not_ready, crate::proofs::Permitted::run_permitted, crate::proofs::Once::waits_once))]
     pub fn apply(&mut self, client: u32, now: u64, call: Call) -> Result<Effects, Memory>
         requires known { client < length self.old.clients }
         requires free { waits (run self.old) client ≡ false }
@@ -89,15 +93,18 @@ impl Space {
             effects.own ≡ own_reply (length self.old.events + 1) (next_step self.old (record { client = client; now = now; call = call })).own) }
         ensures others { IfOk result (λ effects.
             effects.others.items ≡ other_replies (length self.old.events + 1) (next_step self.old (record { client = client; now = now; call = call })).ended) }
+        ensures not_ready { AreNotReady (run self.new) }
+        ensures permitted { ArePermitted (run self.new) }
+        ensures once { WaitOnce (run self.new) }
         ensures err { OnErr result (self.new ≡ self.old) }
     {
         let most = self.namespace.most_ended(&call);
         self.journal.reserve(most + 2)?;
         let mut others = Vec::with_capacity(self.namespace.alloc(), most)?;
         let copied = call.copy()?;
-        let served = self.namespace.serve(client, now, call)?;
-        self.events += 1;
-        let place = self.events;
+        let place = self.events + 1;
+        let served = self.namespace.serve(client, place, now, call)?;
+        self.events = place;
         let row = JournalRow::Called {
             client,
             now,

@@ -1,7 +1,7 @@
 -- The calls that the words behind a client's name make; None where they aren't in the grammar.
 use Rattle.std.specs.Prelude.{ℕ, List, [], ◌∷◌, codes, bytes_eq, Option, Some, None, if◌then◌else◌, option_map}
 use Rattle.ipc_call.specs.declared.calls.Call.{Call}
-use Rattle.ipc_call.specs.declared.calls.Call.TheVariants.{MsgGet, MsgSnd, MsgRcv, IpcStat, IpcSet, IpcRmid}
+use Rattle.ipc_call.specs.declared.calls.Call.TheVariants.{MsgGet, MsgSnd, MsgRcv, IpcStat, IpcSet, IpcRmid, Interrupt}
 use Rattle.ipc_call.specs.declared.calls.Kind.{Kind}
 use Rattle.ipc_call.specs.declared.calls.Kind.TheVariants.{Queue, Sems, Segment}
 use Rattle.ipc_text.specs.Grammar.{◌>>=◌}
@@ -91,12 +91,22 @@ set_of (kind ∷ id ∷ uid ∷ []) = None
 set_of (kind ∷ id ∷ uid ∷ gid ∷ []) = None
 set_of (kind ∷ id ∷ uid ∷ gid ∷ mode ∷ rest) = set_words kind id uid gid mode rest
 
--- the word of a control of an object of any kind, and its arguments
+-- PID
+abbrev pub interrupt_of : List (List ℕ) → Option Call
+interrupt_of [] = None
+interrupt_of (pid ∷ []) = option_map (λ p. Interrupt p) (number_32 pid)
+interrupt_of (pid ∷ more ∷ others) = None
+
+-- the word of a call on a process, and its arguments
+abbrev pub process_of : List ℕ → List (List ℕ) → Option Call
+process_of word words = if bytes_eq word (codes "interrupt") then interrupt_of words else None
+
+-- the word of a control of an object of any kind or of a process, and its arguments
 unfoldable pub control_of : List ℕ → List (List ℕ) → Option Call
 control_of word words =
     if bytes_eq word (codes "stat") then stat_of words
     else (if bytes_eq word (codes "set") then set_of words
-    else (if bytes_eq word (codes "rmid") then rmid_of words else None))
+    else (if bytes_eq word (codes "rmid") then rmid_of words else process_of word words))
 
 -- the word of the call, and its arguments
 unfoldable pub call_of : List (List ℕ) → Option Call

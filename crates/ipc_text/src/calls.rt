@@ -1,7 +1,7 @@
 // The calls that the words behind a client's name make.
 
 ghost use Rattle.std.specs.Prelude.{◌≡◌, ◌≢◌, [], ◌∷◌, length, IfOk, MatchOption};
-ghost use Rattle.ipc_text.specs.Calls.{call_of as call_words, control_of as control_words, kind_named as kind_word, msgget_of as msgget_words, object_of as object_words};
+ghost use Rattle.ipc_text.specs.Calls.{call_of as call_words, control_of as control_words, interrupt_of as interrupt_words, process_of as process_words, kind_named as kind_word, msgget_of as msgget_words, object_of as object_words};
 ghost use Rattle.ipc_text.specs.Calls.{qbytes_of as qbytes_words, rmid_of as rmid_words, set_of as set_line, set_words as set_parts, stat_of as stat_words};
 ghost use Rattle.ipc_text.specs.Calls.{msgrcv_of as msgrcv_line, msgrcv_words as msgrcv_parts, msgsnd_of as msgsnd_line, msgsnd_words as msgsnd_parts};
 ghost use Rattle.ipc_text.specs.Words.{words_of};
@@ -30,7 +30,7 @@ pub fn call_of(alloc: Global, words: &[u8]) -> Result<Option<Call>, AllocError>
     }
 }
 
-// The control of an object of any kind.
+// The control of an object of any kind, or of a process.
 #[tactic(auto, unfolding(crate::specs::Calls::control_of))]
 fn control_of(word: &[u8], words: &[u8]) -> Option<Call>
     ensures { result ≡ control_words word.now (words_of words.now) }
@@ -39,7 +39,18 @@ fn control_of(word: &[u8], words: &[u8]) -> Option<Call>
         b"stat" => stat_of(words),
         b"set" => set_of(words),
         b"rmid" => rmid_of(words),
-        _ => None,
+        _ => process_of(word, words),
+    }
+}
+
+// A call on a process.
+fn process_of(word: &[u8], words: &[u8]) -> Option<Call>
+    ensures { result ≡ process_words word.now (words_of words.now) }
+{
+    if word == b"interrupt".as_slice() {
+        interrupt_of(words)
+    } else {
+        None
     }
 }
 
@@ -157,6 +168,17 @@ fn rmid_of(words: &[u8]) -> Option<Call>
 {
     let (kind, id) = object_of(words)?;
     Some(Call::IpcRmid { kind, id })
+}
+
+fn interrupt_of(words: &[u8]) -> Option<Call>
+    ensures { result ≡ interrupt_words (words_of words.now) }
+{
+    let (pid, words) = split_word(words)?;
+    if split_word(words).is_some() {
+        return None;
+    }
+    let pid = number_32(pid)?;
+    Some(Call::Interrupt { pid })
 }
 
 #[tactic(auto, unfolding(crate::specs::Calls::set_of))]

@@ -1,40 +1,38 @@
-use Rattle.std.proofs.Common.{length, sym, ap, ◌∙◌, subst, arith, below_more, Some}
-use Rattle.ipc_call.specs.declared.replies.Waiting.{Waiting}
-use Rattle.std.proofs.lemmas.Option.{slice_get-get_or}
-use Rattle.ipc_model.specs.State.{State}
-use Rattle.ipc_model.specs.Step.{is_ready}
-use Rattle.ipc_space.specs.Namespace.{AreParked}
-use Rattle.ipc_space.proofs.Deciding.{goes, goes-true, is_ready-decided}
-use Rattle.ipc_ids.proofs.Least.{least_none, least_some}
-use Rattle.ipc_space.proofs.Parked.{parked_at}
+use Rattle.std.proofs.Common.{◌≡◌, ◌<◌, true, length, refl, sym, ap, ◌∙◌, subst, rules}
+use Rattle.std.specs.Prelude.{option_map, IfSome}
+use Rattle.std.specs.List.{find, AllByRecursion}
+use Rattle.ipc_model.specs.Decide.{can_wait, decide, goes_on}
+use Rattle.ipc_model.specs.State.{State, is_waiting}
+use Rattle.ipc_parked.specs.Parked.{waiting}
+use Rattle.ipc_parked.proofs.Picking.{may_ask, picks_waiting}
+use Rattle.ipc_space.specs.Namespace.{AreParked, place_of}
+use Rattle.ipc_space.proofs.Keeping.{state_of}
+use Rattle.ipc_space.proofs.Places.{each-parked, found-waits}
+use Rattle.ipc_space.proofs.Settling.{ready-found}
 use Rattle.ipc_space.proofs.namespace.Namespace.first_ready.Goals as goal
+use Rattle.ipc_space.proofs.namespace.Namespace.first_ready.Goals.{After-earliest}
 
-pub decide-requires : goal.decide-requires
-decide-requires c =
-    let s = c.args.self.now in
-    let are = subst (λ (s : State). AreParked (length s.clients) s.parked) c.self.view_is c.self.invariant.1 in
-    let same = c.deref-waiting-items.ensures.value ∙ ap (λ (s : State). s.parked) c.self.view_is in
-    (parked_at (length s.clients) c.deref-waiting-items.result.now c.loop-place.place c.waiting-item.result (subst (λ ws. AreParked (length s.clients) ws) (sym same) are) (slice_get-get_or c.deref-waiting-items.result.now c.loop-place.place c.waiting-item.result c.loop-place-test.true ∙ ap (λ (w : Waiting). Some w) (sym c.waiting-item.is))).0
+pub earliest-requires : goal.earliest-requires
+earliest-requires c =
+    let s = c.args.self.now.state in
+    let each = subst (λ (s : State). AllByRecursion (λ w. (w.client < length s.clients) × (can_wait w.call ≡ true)) (waiting c.self.inside.parked)) (state_of c.self.view_is) (each-parked (length c.self.inside.clients.items) (waiting c.self.inside.parked) c.self.invariant.1) in
+    may_ask _ (λ w. (w.client < length s.clients) × (can_wait w.call ≡ true)) _ each (λ client call known. search rules)
 
-pub returns-in_default : goal.returns-in_default
-returns-in_default c =
-    let s = c.args.self.now in
-    let k = c.loop-place.place in
-    let are = subst (λ (s : State). AreParked (length s.clients) s.parked) c.self.view_is c.self.invariant.1 in
-    let same = c.deref-waiting-items.ensures.value ∙ ap (λ (s : State). s.parked) c.self.view_is in
-    let here = is_ready-decided s c.deref-waiting-items.result.now k c.waiting-item.result c.decide.result are same c.loop-place-test.true c.waiting-item.is c.decide.ensures in
-    sym (least_some (λ j. is_ready s j) (length s.parked) 0 k (omega arith) (omega (arith, ap length same, c.loop-place-test.true)) (λ j a b. c.loop-place.invariant j b) (here ∙ goes-true c.decide.result c.in_default.not-Wait))
+found : (c : After-earliest) → c.earliest.result ≡ option_map (λ w. w.client) (find (λ w. goes_on (decide c.args.self.now.state w.client w.call)) c.args.self.now.state.parked)
+found c =
+    let s = c.args.self.now.state in
+    picks_waiting _ (λ client call. goes_on (decide s client call)) _ _ c.earliest.ensures (λ client call answer says. search rules)
+    ∙ ap (λ (t : State). option_map (λ w. w.client) (find (λ w. goes_on (decide s w.client w.call)) t.parked)) (state_of c.self.view_is)
 
-pub loop-place-preserved : goal.loop-place-preserved
-loop-place-preserved c =
-    let s = c.args.self.now in
-    let are = subst (λ (s : State). AreParked (length s.clients) s.parked) c.self.view_is c.self.invariant.1 in
-    let same = c.deref-waiting-items.ensures.value ∙ ap (λ (s : State). s.parked) c.self.view_is in
-    let here = is_ready-decided s c.deref-waiting-items.result.now c.loop-place.place c.waiting-item.result c.decide.result are same c.loop-place-test.true c.waiting-item.is c.decide.ensures in
-    below_more _ _ c.loop-place.invariant (here ∙ ap goes c.in-Wait.is)
+pub returns-clause-place : goal.returns-clause-place
+returns-clause-place c =
+    let s = c.args.self.now.state in
+    let b = (goal.at.returns-clause-place c).After-earliest in
+    let are = subst (λ (s : State). AreParked (length s.clients) s.parked) (state_of c.self.view_is) c.self.invariant.1 in
+    ap (λ o. option_map (λ client. place_of client s.parked) o) (found b) ∙ ready-found s _ are refl
 
-pub returns : goal.returns
-returns c =
-    let s = c.args.self.now in
-    let same = c.deref-waiting-items.ensures.value ∙ ap (λ (s : State). s.parked) c.self.view_is in
-    sym (least_none (λ j. is_ready s j) (length s.parked) 0 (λ j a b. c.loop-place.invariant j (omega (arith, ap length same, c.loop-place-test.false))))
+pub returns-clause-waits : goal.returns-clause-waits
+returns-clause-waits c =
+    let s = c.args.self.now.state in
+    let b = (goal.at.returns-clause-waits c).After-earliest in
+    subst (λ o. IfSome o (λ client. is_waiting s client ≡ true)) (sym (found b)) (found-waits (λ w. goes_on (decide s w.client w.call)) s.parked _ refl)

@@ -1,9 +1,7 @@
 use Rattle.std.proofs.Common.{sym}
+use Rattle.ipc_space.specs.Namespace.{place_of}
 use Rattle.ipc_space.proofs.Settling.{ready_at}
 use Rattle.ipc_space.proofs.namespace.Namespace.settle.Goals as goal
 
-pub end_at-completion-requires-clause-place : goal.end_at-completion-requires-clause-place
-end_at-completion-requires-clause-place c = (ready_at c.loop-place.self c.in-Some.place (sym c.in-Some.ensures)).1
-
-pub end_at-completion-requires-clause-ready : goal.end_at-completion-requires-clause-ready
-end_at-completion-requires-clause-ready c = (ready_at c.loop-place.self c.in-Some.place (sym c.in-Some.ensures)).0
+pub end_ready-completion-requires-clause-ready : goal.end_ready-completion-requires-clause-ready
+end_ready-completion-requires-clause-ready c = let s = c.loop-client.self.state in (ready_at s (place_of c.in-Some.client s.parked) (sym c.in-Some.ensures.place)).0

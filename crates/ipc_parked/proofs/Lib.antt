@@ -1,0 +1,4 @@
+pub mod Clients
+pub mod Listed
+pub mod Picking
+pub mod Places

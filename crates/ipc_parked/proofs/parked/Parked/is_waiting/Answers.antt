@@ -1,0 +1,8 @@
+use Rattle.std.proofs.Common.{ap, List, ◌∙◌, ℕ}
+use Rattle.ipc_parked.specs.declared.parked.Arrival.{Arrival}
+use Rattle.ipc_parked.specs.Parked.{is_there}
+use Rattle.ipc_parked.proofs.Clients.{lookup_there}
+use Rattle.ipc_parked.proofs.parked.Parked.is_waiting.Goals as goal
+
+pub returns : goal.returns
+returns c = c.contains_key.ensures ∙ lookup_there c.args.client c.self.inside.arrivals.entries ∙ ap (λ (es : List (ℕ × Arrival)). is_there c.args.client es) c.self.view_is

@@ -1,0 +1,64 @@
+-- The calls that wait, as one list of clients with their calls, in order of arrival. The list is the project's own.
+use Rattle.std.specs.Prelude.{◌≡◌, ℕ, ◌==◌, ◌<◌, ◌⊎◌, Bool, true, false, not, List, [], ◌∷◌, map, filter, fold, Option, Some, None}
+use Rattle.std.specs.List.{find, list_any, AllByRecursion}
+use Rattle.std.specs.Option.{option_map}
+use Rattle.std.specs.Borrow.{Bor}
+use Rattle.ipc_call.specs.declared.calls.Call.{Call}
+use Rattle.ipc_call.specs.declared.calls.Kind.{Kind}
+use Rattle.ipc_call.specs.declared.replies.Waiting.{Waiting}
+use Rattle.ipc_model.specs.Forced.{waits_on}
+use Rattle.ipc_parked.specs.declared.parked.Arrival.{Arrival}
+
+-- each client with its call
+abbrev pub waiting : List (ℕ × Arrival) → List Waiting
+waiting es = map (λ e. record { client = e.0; call = e.1.call }) es
+
+-- a call of the client waits
+abbrev pub is_there : ℕ → List (ℕ × Arrival) → Bool
+is_there client es = list_any (λ e. e.0 == client) es
+
+-- the call of the client, with its place
+abbrev pub arrival_of : ℕ → List (ℕ × Arrival) → Option Arrival
+arrival_of client es = option_map (λ e. e.1) (find (λ e. e.0 == client) es)
+
+-- those of other clients
+abbrev pub others : ℕ → List (ℕ × Arrival) → List (ℕ × Arrival)
+others client es = filter (λ e. not (e.0 == client)) es
+
+-- the place of the last, 0 where none waits
+abbrev pub latest : List (ℕ × Arrival) → ℕ
+latest es = fold (λ _ e. e.1.place) 0 es
+
+-- each is of another client
+unfoldable pub AreDistinct : List (ℕ × Arrival) → Type 0
+AreDistinct [] = Unit {0}
+AreDistinct (e ∷ es) = (is_there e.0 es ≡ false) × AreDistinct es
+
+-- the same of clients and calls
+unfoldable pub AreApart : List Waiting → Type 0
+AreApart [] = Unit {0}
+AreApart (w ∷ ws) = (list_any (λ v. v.client == w.client) ws ≡ false) × AreApart ws
+
+-- the place of each is above this one, and above those before it
+unfoldable pub AreRising : ℕ → List (ℕ × Arrival) → Type 0
+AreRising place [] = Unit {0}
+AreRising place (e ∷ es) = (place < e.1.place) × AreRising e.1.place es
+
+-- those that wait on this object
+abbrev pub on_object : Kind → ℕ → List (ℕ × Arrival) → List (ℕ × Arrival)
+on_object kind id es = filter (λ e. waits_on kind id e.1.call) es
+
+-- a test may be asked of each, where it may be asked of a client and a call that have pre
+abbrev pub MayAsk : (ℕ → Bor Call → Type 0) → List (ℕ × Arrival) → Type 0
+MayAsk pre es = AllByRecursion (λ e. (call : Bor Call) → call.now ≡ e.1.call → pre e.0 call) es
+
+-- the test may give this answer of a client and its call, where post says what it may give
+pub record Answers (post : ℕ → Bor Call → Bool → Type 0) (e : ℕ × Arrival) (answer : Bool) : Type 0 where
+  pub shown : Bor Call
+  pub shows : shown.now ≡ e.1.call
+  pub says : post e.0 shown answer
+
+-- the client of the first of which the answer is true, None where it is false of each
+abbrev pub Picks : (ℕ × Arrival → Bool → Type 0) → List (ℕ × Arrival) → Option ℕ → Type 0
+Picks answers [] client = client ≡ None
+Picks answers (e ∷ es) client = ((client ≡ Some e.0) × answers e true) ⊎ (answers e false × Picks answers es client)

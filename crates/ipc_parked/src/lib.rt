@@ -1,0 +1,9 @@
+//! The calls that wait, by client and in order of arrival. None is copied, and only what parks one takes
+//! memory.
+#![tactic(auto)]
+
+mod parked;
+#[cfg(test)]
+mod tests;
+
+pub use parked::{Arrival, Parked, waits_on};

@@ -1,0 +1,157 @@
+// The calls that wait.
+
+ghost use Rattle.std.specs.Prelude.{◌≡◌, ◌<◌, ◌≤◌, true, false, [], ◌∷◌, ◌++◌, length, OnOk, OnErr, Some};
+ghost use Rattle.std.specs.Option.{option_map};
+ghost use Rattle.ipc_model.specs.Forced.{waits_on as call_waits_on};
+ghost use Rattle.ipc_parked.specs.Parked.{
+  is_there,
+  arrival_of,
+  others,
+  latest,
+  on_object as those_on_object,
+  MayAsk,
+  Answers,
+  Picks,
+};
+
+use indexmap::IndexMap;
+use ipc_call::{Call, Kind, Memory};
+use std::alloc::Global;
+use std::marker::Model;
+
+/// A call that waits, and when it came. That waiting calls are held in order of arrival is the project's
+/// own.
+#[derive(Debug, Drop)]
+pub struct Arrival {
+    /// The place, from 1, of the event that brought the call.
+    pub place: u64,
+    /// The call, which its client waits for (msgop(2)).
+    pub call: Call,
+}
+
+/// The calls that wait, at most one of each client, in order of arrival. Holding them by client is the
+/// project's own.
+#[derive(Debug, Drop)]
+pub struct Parked {
+    arrivals: IndexMap<u32, Arrival>,
+}
+
+impl Model for Parked {
+    ghost use Rattle.std.specs.Prelude.{ℕ, List};
+    ghost use Rattle.ipc_parked.specs.declared.parked.Arrival.{Arrival};
+    ghost use Rattle.ipc_parked.specs.Parked.{AreDistinct, AreRising};
+
+    ghost Value = { List (ℕ × Arrival) };
+
+    ghost view = { λ p. p.arrivals.entries };
+
+    ghost invariant = { λ p. AreDistinct p.arrivals.entries × AreRising 0 p.arrivals.entries };
+}
+
+impl Parked {
+    /// No call waits. Nothing is allocated.
+    pub fn new(alloc: Global) -> Parked
+        ensures { result ≡ [] }
+    {
+        Parked {
+            arrivals: IndexMap::new(alloc),
+        }
+    }
+
+    /// The call of a client waits from now on, after those that are there. None of the client is there, and
+    /// its place is above theirs. Memory comes where a growth was refused, and then nothing has changed.
+    pub fn park(&mut self, client: u32, place: u64, call: Call) -> Result<(), Memory>
+        requires free { is_there client self.old ≡ false }
+        requires later { latest self.old < place }
+        ensures ok { OnOk result (self.new ≡ self.old ++ (client, record { place = place; call = call }) ∷ []) }
+        ensures err { OnErr result (self.new ≡ self.old) }
+    {
+        self.arrivals.insert(client, Arrival { place, call })?;
+        Ok(())
+    }
+
+    /// How many calls wait. Takes no memory.
+    pub fn len(&self) -> usize
+        ensures { result ≡ length self.now }
+    {
+        self.arrivals.len()
+    }
+
+    /// Whether a call of the client waits. Takes no memory.
+    pub fn is_waiting(&self, client: u32) -> bool
+        ensures { result ≡ is_there client self.now }
+    {
+        self.arrivals.contains_key(&client)
+    }
+
+    /// The place of the event that brought the client's call, which waits. Takes no memory.
+    pub fn place_of(&self, client: u32) -> u64
+        requires { is_there client self.now ≡ true }
+        ensures { option_map (λ a. a.place) (arrival_of client self.now) ≡ Some result }
+    {
+        self.arrivals[&client].place
+    }
+
+    /// The client's call, which waits. Takes no memory.
+    pub fn call_of(&self, client: u32) -> &Call
+        requires { is_there client self.now ≡ true }
+        ensures { option_map (λ a. a.call) (arrival_of client self.now) ≡ Some result.now }
+    {
+        &self.arrivals[&client].call
+    }
+
+    /// The client of the earliest waiting call that passes the test, which is asked of those that wait and no
+    /// other. Takes no memory but what the test takes.
+    pub fn earliest<F: Fn(u32, &Call) -> bool>(&self, test: F) -> Option<u32>
+        requires { MayAsk (F.pre test) self.now }
+        ensures { Picks (Answers (F.post test)) self.now result }
+    {
+        for (client, arrival) in self.arrivals.iter() {
+            if test(*client, &arrival.call) {
+                return Some(*client);
+            }
+        }
+        None
+    }
+
+    /// The client of the earliest call that waits on the object of this kind and identifier and passes the
+    /// test, which is asked of those that wait on it and no other. Takes no memory but what the test takes.
+    pub fn on_object<F: Fn(u32, &Call) -> bool>(&self, kind: Kind, id: u32, test: F) -> Option<u32>
+        requires { MayAsk (F.pre test) (those_on_object kind id self.now) }
+        ensures { Picks (Answers (F.post test)) (those_on_object kind id self.now) result }
+    {
+        self.earliest(
+            |client: u32, call: &Call| -> bool
+                requires { call_waits_on kind id call.now ≡ true → F.pre test client call }
+                ensures asked { call_waits_on kind id call.entry.now ≡ true → F.post test client call.entry result }
+                ensures other { call_waits_on kind id call.entry.now ≡ false → result ≡ false }
+            { waits_on(kind, id, call) && test(client, call) },
+        )
+    }
+
+    /// The client's call waits no longer, and the others keep their order. Takes no memory.
+    pub fn finish(&mut self, client: u32) -> Call
+        requires { is_there client self.old ≡ true }
+        ensures call { option_map (λ a. a.call) (arrival_of client self.old) ≡ Some result }
+        ensures rest { self.new ≡ others client self.old }
+        ensures latest { latest self.new ≤ latest self.old }
+    {
+        self.arrivals.shift_remove(&client).unwrap().call
+    }
+}
+
+/// Whether the call waits on the object of this kind and identifier: msgsnd and msgrcv on their queue
+/// (msgop(2)). Takes no memory.
+pub fn waits_on(kind: Kind, id: u32, call: &Call) -> bool
+    ensures { result ≡ call_waits_on kind id call.now }
+{
+    match call {
+        Call::MsgSnd { id: other, .. } | Call::MsgRcv { id: other, .. } => kind == Kind::Queue
+            && *other == id,
+        Call::MsgGet { .. }
+        | Call::IpcStat { .. }
+        | Call::IpcSet { .. }
+        | Call::IpcRmid { .. }
+        | Call::Interrupt { .. } => false,
+    }
+}
