@@ -1,6 +1,6 @@
 -- No client waits twice, after any legal history.
-use Rattle.std.proofs.Common.{◌≡◌, ℕ, zero, suc, Bool, true, false, eqb, cond, List, [], ◌∷◌, ◌++◌, map, refl, sym, subst, Option, Some, None}
-use Rattle.std.specs.Prelude.{◌==◌, filter, is_none, remove, slice_get}
+use Rattle.std.proofs.Common.{◌≡◌, ℕ, zero, suc, Bool, true, false, eqb, cond, List, [], ◌∷◌, map, refl, sym, subst, Option, Some, None}
+use Rattle.std.specs.Prelude.{◌==◌, filter, is_none, slice_get}
 use Rattle.std.specs.List.{list_any, IsDistinct}
 use Rattle.std.proofs.lemmas.Bool.{or_parts, or_from}
 use Rattle.ipc_call.specs.declared.calls.Call.{Call}
@@ -13,14 +13,7 @@ use Rattle.ipc_model.specs.History.{AreLegalFrom, History, IsLegal, IsLegalAt, r
 use Rattle.ipc_model.specs.Step.{Event, at_moment, end_at, end_waiting, ended_by, first_ready, forced_by, settle, settle_from, state_by, step, without}
 use Rattle.ipc_parked.specs.Parked.{AreApart}
 use Rattle.ipc_space.proofs.Keeping.{Keeps, Keeps-decide}
-use Rattle.ipc_space.proofs.Parked.{apart_from, list_any-push, list_any-remove, turned}
-
-apart-remove : (ws : List Waiting) (k : ℕ) → AreApart ws → AreApart (remove ws k)
-unfolding AreApart
-apart-remove [] zero apart = tt
-apart-remove [] (suc k) apart = tt
-apart-remove (w ∷ ws) zero apart = apart.1
-apart-remove (w ∷ ws) (suc k) apart = (list_any-remove (λ v. v.client == w.client) ws k apart.0, apart-remove ws k apart.1)
+use Rattle.ipc_space.proofs.Parked.{apart-push, apart-remove, distinct}
 
 any-filter-if : (b : Bool) (test p : Waiting → Bool) (w : Waiting) (ws : List Waiting) → test w ≡ false → list_any test (filter p ws) ≡ false → list_any test (cond b (w ∷ filter p ws) (filter p ws)) ≡ false
 any-filter-if true test p w ws here none = or_from (test w) (list_any test (filter p ws)) here none
@@ -39,13 +32,6 @@ apart-filter : (p : Waiting → Bool) (ws : List Waiting) → AreApart ws → Ar
 unfolding AreApart
 apart-filter p [] apart = tt
 apart-filter p (w ∷ ws) apart = apart-filter-if (p w) p w ws (any-filter (λ v. v.client == w.client) p ws apart.0) (apart-filter p ws apart.1)
-
-apart-push : (ws : List Waiting) (w : Waiting) → AreApart ws → list_any (λ v. v.client == w.client) ws ≡ false → AreApart (ws ++ w ∷ [])
-unfolding AreApart
-apart-push [] w apart free = (refl, tt)
-apart-push (v ∷ ws) w apart free =
-    let parts = or_parts (v.client == w.client) (list_any (λ u. u.client == w.client) ws) free in
-    (list_any-push (λ u. u.client == v.client) ws w apart.0 (turned v.client w.client parts.0), apart-push ws w apart.1 parts.1)
 
 apart-ended_by : (s : State) (client : ℕ) (d : Decision) → Keeps s d → AreApart s.parked → AreApart (ended_by s client d).state.parked
 unfolding Keeps
@@ -89,11 +75,6 @@ apart-step s e legal apart =
 apart-run_from : (s : State) (es : List Event) → AreLegalFrom s es → AreApart s.parked → AreApart (run_from s es).parked
 apart-run_from s [] legal apart = apart
 apart-run_from s (e ∷ es) legal apart = apart-run_from (step s e).state es legal.1 (apart-step s e legal.0 apart)
-
-distinct : (ws : List Waiting) → AreApart ws → IsDistinct eqb (map (λ w. w.client) ws)
-unfolding IsDistinct AreApart
-distinct [] apart = tt
-distinct (w ∷ ws) apart = (apart_from w.client ws apart.0, distinct ws apart.1)
 
 pub waits_once : (h : History) → IsLegal h → IsDistinct eqb (map (λ w. w.client) (run h).parked)
 unfolding AreApart

@@ -1,7 +1,7 @@
 -- The place of a client's call in the list: what is found of the client, and what is left of the others, by place.
 use Rattle.std.proofs.Common.{◌≡◌, ℕ, zero, suc, ◌<◌, Bool, true, false, List, [], ◌∷◌, refl, sym, ap, subst, ◌∙◌, arith, ⊎_elim, Option, Some, None}
 use Rattle.std.specs.Prelude.{◌==◌, remove, slice_get, IfSome, option_map}
-use Rattle.std.specs.List.{find, list_any, AllByRecursion}
+use Rattle.std.specs.List.{find, list_any}
 use Rattle.std.proofs.lemmas.Bool.{cases_Bool, eq-eqb, eqb-true, or_parts, false≢true}
 use Rattle.std.proofs.lemmas.Option.{none-some, same_Some}
 use Rattle.ipc_call.specs.declared.calls.Call.{Call}
@@ -9,25 +9,13 @@ use Rattle.ipc_call.specs.declared.replies.Waiting.{Waiting}
 use Rattle.ipc_parked.specs.declared.parked.Arrival.{Arrival}
 use Rattle.ipc_parked.specs.Parked.{AreApart, arrival_of, others, waiting}
 use Rattle.ipc_parked.proofs.Listed.{AreDistinct-waiting, waiting_others}
-use Rattle.ipc_model.specs.Decide.{can_wait}
-use Rattle.ipc_space.specs.Namespace.{AreParked, place_of}
+use Rattle.ipc_space.specs.Namespace.{place_of}
 use Rattle.ipc_space.proofs.Parked.{turned}
 
-apart : (n : ℕ) (ws : List Waiting) → AreParked n ws → AreApart ws
-unfolding AreParked AreApart
-apart n [] are = tt
-apart n (w ∷ ws) are = (are.2, apart n ws are.3)
-
 -- the others are those at other places
-pub waiting-others : (n client : ℕ) (es : List (ℕ × Arrival)) (call : Call) → AreParked n (waiting es) → slice_get (waiting es) (place_of client (waiting es)) ≡ Some (record { client = client; call = call })
+pub waiting-others : (client : ℕ) (es : List (ℕ × Arrival)) (call : Call) → AreApart (waiting es) → slice_get (waiting es) (place_of client (waiting es)) ≡ Some (record { client = client; call = call })
     → waiting (others client es) ≡ remove (waiting es) (place_of client (waiting es))
-waiting-others n client es call are here = waiting_others es (place_of client (waiting es)) (record { client = client; call = call }) (AreDistinct-waiting es (apart n (waiting es) are)) here
-
--- each is of a client that there is, and may wait
-pub each-parked : (n : ℕ) (ws : List Waiting) → AreParked n ws → AllByRecursion (λ w. (w.client < n) × (can_wait w.call ≡ true)) ws
-unfolding AreParked
-each-parked n [] are = tt
-each-parked n (w ∷ ws) are = ((are.0, are.1), each-parked n ws are.3)
+waiting-others client es call apart here = waiting_others es (place_of client (waiting es)) (record { client = client; call = call }) (AreDistinct-waiting es apart) here
 
 -- the client's call is at its place
 pub waiting-at : (client : ℕ) (call : Call) (es : List (ℕ × Arrival)) → option_map (λ a. a.call) (arrival_of client es) ≡ Some call → slice_get (waiting es) (place_of client (waiting es)) ≡ Some (record { client = client; call = call })
@@ -69,10 +57,10 @@ before-more : (test : Waiting → Bool) (v : Waiting) (ws : List Waiting) (n k :
 before-more test v ws n zero none before below = none
 before-more test v ws n (suc k) none before below = before k (omega (arith, below))
 
-pub found-first : (n : ℕ) (test : Waiting → Bool) (ws : List Waiting) (w : Waiting) → AreParked n ws → find test ws ≡ Some w → FirstAt test ws w
-unfolding AreParked
-found-first n test [] w are found = absurd (none-some w found)
-found-first n test (v ∷ ws) w are found =
+pub found-first : (test : Waiting → Bool) (ws : List Waiting) (w : Waiting) → AreApart ws → find test ws ≡ Some w → FirstAt test ws w
+unfolding AreApart
+found-first test [] w apart found = absurd (none-some w found)
+found-first test (v ∷ ws) w apart found =
     ⊎_elim
     (λ (yes : test v ≡ true).
     let first : Some v ≡ Some w = rw yes at found in
@@ -85,8 +73,8 @@ found-first n test (v ∷ ws) w are found =
     })
     (λ (no : test v ≡ false).
     let later : find test ws ≡ Some w = rw no at found in
-    let rest = found-first n test ws w are.3 later in
-    let other : (v.client == w.client) ≡ false = turned w.client v.client (none_at (λ u. u.client == v.client) ws (place_of w.client ws) w are.2 rest.here) in
+    let rest = found-first test ws w apart.1 later in
+    let other : (v.client == w.client) ≡ false = turned w.client v.client (none_at (λ u. u.client == v.client) ws (place_of w.client ws) w apart.0 rest.here) in
     record {
       here = rw other rest.here;
       passes = rest.passes;
@@ -128,14 +116,14 @@ pub record FirstOf (test : Waiting → Bool) (ws : List Waiting) (client : ℕ) 
   pub before : (k : ℕ) → k < place_of client ws → IfSome (slice_get ws k) (λ v. test v ≡ false)
   pub there : list_any (λ v. v.client == client) ws ≡ true
 
-found-of : (n : ℕ) (test : Waiting → Bool) (ws : List Waiting) (client : ℕ) (o : Option Waiting) → AreParked n ws → find test ws ≡ o → Some client ≡ option_map (λ w. w.client) o → FirstOf test ws client
-found-of n test ws client None are found is = absurd (none-some client (sym is))
-found-of n test ws client (Some w) are found is =
-    let first = found-first n test ws w are found in
+found-of : (test : Waiting → Bool) (ws : List Waiting) (client : ℕ) (o : Option Waiting) → AreApart ws → find test ws ≡ o → Some client ≡ option_map (λ w. w.client) o → FirstOf test ws client
+found-of test ws client None apart found is = absurd (none-some client (sym is))
+found-of test ws client (Some w) apart found is =
+    let first = found-first test ws w apart found in
     subst (λ x. FirstOf test ws x) (sym (same_Some client w.client is)) (record { call = w.call; here = first.here; passes = first.passes; before = first.before; there = found-there test ws w found })
 
-pub first-of : (n : ℕ) (test : Waiting → Bool) (ws : List Waiting) (client : ℕ) → AreParked n ws → Some client ≡ option_map (λ w. w.client) (find test ws) → FirstOf test ws client
-first-of n test ws client are is = found-of n test ws client (find test ws) are refl is
+pub first-of : (test : Waiting → Bool) (ws : List Waiting) (client : ℕ) → AreApart ws → Some client ≡ option_map (λ w. w.client) (find test ws) → FirstOf test ws client
+first-of test ws client apart is = found-of test ws client (find test ws) apart refl is
 
 pub none-found : (test : Waiting → Bool) (ws : List Waiting) (o : Option Waiting) → find test ws ≡ o → None ≡ option_map (λ w. w.client) o → find test ws ≡ None
 none-found test ws None found is = found

@@ -1,7 +1,7 @@
 -- The places that are reserved for waiting calls that send.
 use Rattle.std.proofs.Common.{◌≡◌, ℕ, ℤ, zero, suc, ◌+◌, ◌<◌, Bool, true, false, cond, List, [], ◌∷◌, ◌++◌, refl, sym, ap, arith, Some, None}
-use Rattle.std.specs.Prelude.{◌==◌, remove, slice_get, is_none, if◌then◌else◌}
-use Rattle.std.proofs.lemmas.Bool.{eqb-false, ne_eqb, true≢false}
+use Rattle.std.specs.Prelude.{remove, slice_get, is_none, if◌then◌else◌}
+use Rattle.std.proofs.lemmas.Bool.{true≢false}
 use Rattle.std.proofs.lemmas.Option.{none-some, same_Some}
 use Rattle.ipc_call.specs.declared.calls.Call.{Call}
 use Rattle.ipc_call.specs.declared.calls.Call.TheVariants.{MsgGet, MsgSnd, MsgRcv, IpcStat, IpcSet, IpcRmid, Interrupt}
@@ -10,6 +10,7 @@ use Rattle.ipc_call.specs.declared.rules.Rule.TheVariants.{Removed}
 use Rattle.ipc_control.specs.Held.{one_if}
 use Rattle.ipc_model.specs.Decide.{can_wait}
 use Rattle.ipc_model.specs.Forced.{waits_on_queue}
+use Rattle.ipc_space.proofs.Parked.{turned}
 use Rattle.ipc_space.specs.Namespace.{is_send_to, left_by, sends_on}
 
 pub sends_on-push : (id : ℕ) (ws : List Waiting) (w : Waiting) → sends_on id (ws ++ w ∷ []) ≡ sends_on id ws + one_if (is_send_to id w.call)
@@ -29,9 +30,6 @@ sends_on-remove id (v ∷ ws) (suc k) w here =
     let less = sends_on-remove id ws k w here in
     let all : (one_if (is_send_to id v.call) + sends_on id (remove ws k)) + one_if (is_send_to id w.call) ≡ one_if (is_send_to id v.call) + sends_on id ws = omega (arith, less) in
     all
-
-turned : (a b : ℕ) → (a == b) ≡ false → (b == a) ≡ false
-turned a b apart = ne_eqb b a (λ e. eqb-false a b apart (sym e))
 
 -- a call that doesn't wait on the queue doesn't send to it
 not_sent : (id : ℕ) (call : Call) → waits_on_queue id call ≡ false → is_send_to id call ≡ false

@@ -11,7 +11,7 @@ use Rattle.ipc_model.specs.Step.{and_then, end_at, first_ready, is_ready, settle
 use Rattle.ipc_ids.proofs.Least.{least_found, least_none, least_some}
 use Rattle.ipc_space.specs.Namespace.{AreParked, place_of}
 use Rattle.ipc_space.proofs.Deciding.{is_ready-at}
-use Rattle.ipc_space.proofs.Parked.{parked_at}
+use Rattle.ipc_space.proofs.Parked.{apart-parked, parked_at}
 use Rattle.ipc_space.proofs.Places.{found-first, found-none}
 
 settle-none : (n : ℕ) (s : State) → first_ready s ≡ None → settle n s ≡ record { state = s; ended = [] }
@@ -40,7 +40,7 @@ pub ready-found : (s : State) (o : Option Waiting) → AreParked (length s.clien
 ready-found s None are found =
     sym (least_none (λ k. is_ready s k) (length s.parked) 0 (λ k a b. not_ready-from s k (slice_get s.parked k) are refl (found-none (λ w. goes_on (decide s w.client w.call)) s.parked k found)))
 ready-found s (Some w) are found =
-    let first = found-first (length s.clients) (λ v. goes_on (decide s v.client v.call)) s.parked w are found in
+    let first = found-first (λ v. goes_on (decide s v.client v.call)) s.parked w (apart-parked (length s.clients) s.parked are) found in
     let k = place_of w.client s.parked in
     let within = slice_get_within s.parked k w first.here in
     sym

@@ -1,6 +1,6 @@
 -- What is true of the calls that wait, and what a granted call ends of them.
 use Rattle.std.specs.Prelude.{◌≡◌, ℕ, suc, ◌+◌, ◌<◌, ◌==◌, Bool, true, false, List, [], ◌∷◌, filter, flat_map, is_none, Option, Some, None, if◌then◌else◌}
-use Rattle.std.specs.List.{list_any}
+use Rattle.std.specs.List.{AllByRecursion}
 use Rattle.ipc_call.specs.declared.replies.Waiting.{Waiting}
 use Rattle.ipc_call.specs.declared.calls.Call.{Call}
 use Rattle.ipc_call.specs.declared.calls.Call.TheVariants.{MsgGet, MsgSnd, MsgRcv, IpcStat, IpcSet, IpcRmid, Interrupt}
@@ -13,6 +13,7 @@ use Rattle.ipc_model.specs.State.{State, creds_at, pid_of}
 use Rattle.ipc_model.specs.Decide.{can_wait, decide, needs}
 use Rattle.ipc_model.specs.Forced.{first_denial, waits_on}
 use Rattle.ipc_model.specs.Step.{Moved, forced_by, state_by, told_forced}
+use Rattle.ipc_parked.specs.Parked.{AreApart}
 use Rattle.ipc_space.specs.declared.forcing.Forcing.{Forcing}
 use Rattle.ipc_space.specs.declared.forcing.Forcing.TheVariants as forcings
 
@@ -21,10 +22,9 @@ pub record Kept : Type 0 where
   pub state : State
   pub latest : ℕ
 
--- each may wait, and each is of another client, of so many
+-- each is of a client that there is, of so many, and may wait; no two are of one client
 unfoldable pub AreParked : ℕ → List Waiting → Type 0
-AreParked clients [] = Unit {0}
-AreParked clients (w ∷ ws) = (w.client < clients) × (can_wait w.call ≡ true) × (list_any (λ v. v.client == w.client) ws ≡ false) × AreParked clients ws
+AreParked clients ws = AllByRecursion (λ w. (w.client < clients) × (can_wait w.call ≡ true)) ws × AreApart ws
 
 -- the queue that the call sends to
 abbrev pub sent_to : Call → Option ℕ

@@ -26,7 +26,7 @@ use Rattle.ipc_space.specs.Namespace.{AreParked, Kept, is_send_to, place_of, sen
 use Rattle.ipc_space.proofs.Places.{waiting-at, waiting-others}
 use Rattle.ipc_space.proofs.Deciding.{end_at-left, ended-served}
 use Rattle.ipc_space.proofs.Granting.{IfSome-map, send-room, send-served}
-use Rattle.ipc_space.proofs.Parked.{AreParked-remove, parked_at}
+use Rattle.ipc_space.proofs.Parked.{AreParked-remove, apart-parked, parked_at}
 use Rattle.ipc_space.proofs.Reserved.{no_other, room-left, sent-roomy}
 use Rattle.ipc_space.proofs.Keeping.{state_of}
 use Rattle.ipc_space.proofs.namespace.Namespace.complete.Goals as goal
@@ -45,7 +45,7 @@ inside_at : (c : After-finish-call) → slice_get (waiting c.self.inside.parked)
 inside_at c = waiting-at c.args.client c.finish-call.result c.self.inside.parked c.finish-call.ensures.call
 
 others_left : (c : After-finish-call) → waiting c.finish-call.new.self ≡ remove (waiting c.self.inside.parked) (place c)
-others_left c = ap waiting c.finish-call.ensures.rest ∙ waiting-others (length c.self.inside.clients.items) c.args.client c.self.inside.parked c.finish-call.result c.self.invariant.1 (inside_at c)
+others_left c = ap waiting c.finish-call.ensures.rest ∙ waiting-others c.args.client c.self.inside.parked c.finish-call.result (apart-parked (length c.self.inside.clients.items) (waiting c.self.inside.parked) c.self.invariant.1) (inside_at c)
 
 same_place : (c : After-finish-call) → place c ≡ place_of c.args.client c.args.self.now.state.parked
 same_place c = ap (λ (s : State). place_of c.args.client s.parked) (state_of c.self.view_is)

@@ -15,7 +15,7 @@ use Rattle.ipc_space.specs.declared.forcing.Forcing.{Forcing}
 use Rattle.ipc_space.specs.declared.forcing.Forcing.TheVariants as forcings
 use Rattle.ipc_space.specs.Namespace.{forced_as}
 use Rattle.ipc_space.proofs.Keeping.{state_of}
-use Rattle.ipc_space.proofs.Places.{each-parked}
+use Rattle.ipc_space.proofs.Parked.{each-parked}
 use Rattle.ipc_space.proofs.namespace.Namespace.earliest_forced.Goals as goal
 
 pub earliest-requires : goal.earliest-requires

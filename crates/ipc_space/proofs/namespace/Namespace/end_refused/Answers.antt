@@ -10,7 +10,7 @@ use Rattle.ipc_parked.specs.Parked.{waiting}
 use Rattle.ipc_parked.proofs.Listed.{any_waiting}
 use Rattle.ipc_space.specs.Namespace.{AreParked, is_at, place_of, sends_on}
 use Rattle.ipc_space.proofs.Keeping.{state_of}
-use Rattle.ipc_space.proofs.Parked.{AreParked-remove}
+use Rattle.ipc_space.proofs.Parked.{AreParked-remove, apart-parked}
 use Rattle.ipc_space.proofs.Places.{waiting-at, waiting-others}
 use Rattle.ipc_space.proofs.Reserved.{room-left, sent-roomy}
 use Rattle.ipc_space.proofs.namespace.Namespace.end_refused.Goals as goal
@@ -30,7 +30,7 @@ abbrev place : After-finish-call → ℕ
 place c = place_of c.args.client (waiting c.self.inside.parked)
 
 others_left : (c : After-finish-call) → waiting c.finish-call.new.self ≡ remove (waiting c.self.inside.parked) (place c)
-others_left c = ap waiting c.finish-call.ensures.rest ∙ waiting-others (length c.self.inside.clients.items) c.args.client c.self.inside.parked c.finish-call.result c.self.invariant.1 (at_place c)
+others_left c = ap waiting c.finish-call.ensures.rest ∙ waiting-others c.args.client c.self.inside.parked c.finish-call.result (apart-parked (length c.self.inside.clients.items) (waiting c.self.inside.parked) c.self.invariant.1) (at_place c)
 
 -- a place is reserved where the call sends
 pub release_in-requires : goal.release_in-requires

@@ -12,7 +12,7 @@ use Rattle.ipc_parked.proofs.Listed.{any_waiting}
 use Rattle.ipc_space.specs.Namespace.{AreParked, forced_as, place_of}
 use Rattle.ipc_space.proofs.Granting.{IfSome-map}
 use Rattle.ipc_space.proofs.Keeping.{state_of}
-use Rattle.ipc_space.proofs.Parked.{parked_at}
+use Rattle.ipc_space.proofs.Parked.{apart-parked, parked_at}
 use Rattle.ipc_space.proofs.Places.{FirstOf, first-of, found-none, none-found, waiting-at}
 use Rattle.ipc_space.proofs.namespace.Namespace.first_forced.Goals as goal
 use Rattle.ipc_space.proofs.namespace.Namespace.first_forced.Goals.{After-self, After-call_of}
@@ -27,7 +27,7 @@ are c = subst (λ (s : State). AreParked (length s.clients) s.parked) (state_of 
 first : (c : After-self) → FirstOf (λ w. is_some (forced_as c.args.self.now.state c.args.forcing w)) c.args.self.now.state.parked c.in_ok-client.client
 first c =
     let s = c.args.self.now.state in
-    first-of (length s.clients) (λ w. is_some (forced_as s c.args.forcing w)) s.parked c.in_ok-client.client (are c) c.in_ok-client.ensures
+    first-of (λ w. is_some (forced_as s c.args.forcing w)) s.parked c.in_ok-client.client (apart-parked (length s.clients) s.parked (are c)) c.in_ok-client.ensures
 
 same_call : (c : After-call_of) → c.call_of.result.now ≡ (first c.before).call
 same_call c =

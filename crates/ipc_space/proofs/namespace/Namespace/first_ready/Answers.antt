@@ -7,7 +7,8 @@ use Rattle.ipc_parked.specs.Parked.{waiting}
 use Rattle.ipc_parked.proofs.Picking.{may_ask, picks_waiting}
 use Rattle.ipc_space.specs.Namespace.{AreParked, place_of}
 use Rattle.ipc_space.proofs.Keeping.{state_of}
-use Rattle.ipc_space.proofs.Places.{each-parked, found-waits}
+use Rattle.ipc_space.proofs.Parked.{each-parked}
+use Rattle.ipc_space.proofs.Places.{found-waits}
 use Rattle.ipc_space.proofs.Settling.{ready-found}
 use Rattle.ipc_space.proofs.namespace.Namespace.first_ready.Goals as goal
 use Rattle.ipc_space.proofs.namespace.Namespace.first_ready.Goals.{After-earliest}
