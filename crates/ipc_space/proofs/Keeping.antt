@@ -1,5 +1,5 @@
 -- What no event undoes: the tables stay sound, and an identifier that was used stays used.
-use Rattle.std.proofs.Common.{◌≡◌, ℕ, zero, suc, Bool, true, false, not, cond, List, [], ◌∷◌, map, length, refl, sym, ap, subst, Option, Some, None}
+use Rattle.std.proofs.Common.{◌≡◌, ℕ, zero, suc, Bool, true, false, not, cond, List, [], ◌∷◌, map, length, refl, sym, subst, Option, Some, None}
 use Rattle.std.specs.Prelude.{◌==◌, ◌&&◌, ◌||◌, ℤ, pos, int_le, nat_le, take, bit_and, slice_get, option_map}
 use Rattle.std.specs.FinMap as finite
 use Rattle.std.proofs.lemmas.Option.{none-some}
@@ -26,12 +26,8 @@ use Rattle.ipc_model.specs.Messages.{chosen, cuts, excepts, queue_at, receive_fo
 use Rattle.ipc_model.specs.Interrupts.{interrupt_found, process}
 use Rattle.ipc_model.specs.Controls.{needs_of_set, perm_of, remove_found, set_found, stat_object, stat_queue, status_of_queue, takes_qbytes, with_change, with_set, with_settings}
 use Rattle.ipc_model.specs.Decide.{decide}
-use Rattle.ipc_space.specs.Namespace.{Kept, moved_by}
+use Rattle.ipc_namespace.specs.Namespace.{moved_by}
 use Rattle.ipc_model.specs.Step.{Event, Moved, at_moment, end_at, end_waiting, ended_by, first_ready, force, forced_by, settle, settle_from, settled, state_by, step, without}
-
--- what is kept is equal, and so is its state
-pub state_of : {a b : Kept} → a ≡ b → a.state ≡ b.state
-state_of is = ap (λ (k : Kept). k.state) is
 
 -- the second state may come after the first
 pub record Follows (s t : State) : Type 0 where

@@ -1,14 +1,6 @@
-pub mod Deciding
-pub mod Endings
-pub mod Granting
 pub mod Histories
 pub mod Keeping
-pub mod Moving
 pub mod Naming
 pub mod Once
-pub mod Parked
 pub mod Permitted
-pub mod Places
 pub mod Quiet
-pub mod Reserved
-pub mod Settling

@@ -13,7 +13,7 @@ use Rattle.ipc_model.specs.History.{AreLegalFrom, History, IsLegal, IsLegalAt, r
 use Rattle.ipc_model.specs.Step.{Event, at_moment, end_at, end_waiting, ended_by, first_ready, forced_by, settle, settle_from, state_by, step, without}
 use Rattle.ipc_parked.specs.Parked.{AreApart}
 use Rattle.ipc_space.proofs.Keeping.{Keeps, Keeps-decide}
-use Rattle.ipc_space.proofs.Parked.{apart-push, apart-remove, distinct}
+use Rattle.ipc_namespace.proofs.Parked.{apart-push, apart-remove, distinct}
 
 any-filter-if : (b : Bool) (test p : Waiting → Bool) (w : Waiting) (ws : List Waiting) → test w ≡ false → list_any test (filter p ws) ≡ false → list_any test (cond b (w ∷ filter p ws) (filter p ws)) ≡ false
 any-filter-if true test p w ws here none = or_from (test w) (list_any test (filter p ws)) here none

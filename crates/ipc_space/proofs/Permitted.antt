@@ -20,8 +20,8 @@ use Rattle.ipc_model.specs.Forced.{first_denial, or_later}
 use Rattle.ipc_model.specs.History.{History, run}
 use Rattle.ipc_model.specs.Step.{is_ready, without}
 use Rattle.ipc_model.specs.Waits.{AreNotReady, ArePermitted}
-use Rattle.ipc_space.proofs.Deciding.{only_parkable}
-use Rattle.ipc_space.proofs.Endings.{needs-alike}
+use Rattle.ipc_namespace.proofs.Deciding.{only_parkable}
+use Rattle.ipc_namespace.proofs.Endings.{needs-alike}
 use Rattle.ipc_space.proofs.Quiet.{IsQuiet, quiet-run}
 
 none-if : (b : Bool) (n : ℕ) (rest : Option ℕ) → cond b (Some n) rest ≡ None → (b ≡ false) × (rest ≡ None)

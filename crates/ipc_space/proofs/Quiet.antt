@@ -13,10 +13,10 @@ use Rattle.ipc_model.specs.Decision.{Decision, Refuse, Wait, Serve}
 use Rattle.ipc_model.specs.Decide.{decide, goes_on}
 use Rattle.ipc_model.specs.Step.{Event, at_moment, end_at, end_waiting, ended_by, entered, first_ready, is_ready, own_of, settle, settle_from, settled, step, without}
 use Rattle.ipc_model.specs.History.{History, run, run_from, next_step}
-use Rattle.ipc_space.specs.Namespace.{moved_by}
+use Rattle.ipc_namespace.specs.Namespace.{moved_by}
 use Rattle.ipc_space.proofs.Keeping.{Keeps, Keeps-decide}
-use Rattle.ipc_space.proofs.Deciding.{clock_alike}
-use Rattle.ipc_space.proofs.Settling.{ready_at, settled-none}
+use Rattle.ipc_namespace.proofs.Deciding.{clock_alike}
+use Rattle.ipc_namespace.proofs.Settling.{ready_at, settled-none}
 
 -- no waiting call is ready
 abbrev pub IsQuiet : State → Type 0

@@ -1,4 +1,2 @@
-pub mod Decisions
 pub mod Journal
-pub mod Namespace
 pub mod Spaces

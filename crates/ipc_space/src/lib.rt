@@ -2,14 +2,8 @@
 //! of what it was asked and what it answered.
 #![tactic(auto)]
 
-mod control_calls;
-mod decisions;
-mod forcing;
 mod journal;
 pub mod laws;
-mod message_calls;
-mod namespace;
-mod reserving;
 mod spaces;
 
 pub use ipc_call::JournalRow;

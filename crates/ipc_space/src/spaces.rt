@@ -27,9 +27,10 @@ ghost use Rattle.ipc_model.specs.Waits.{AreNotReady, ArePermitted, WaitOnce};
 ghost use Rattle.ipc_space.specs.Spaces.{own_reply, other_replies};
 
 use crate::journal::Journal;
-use crate::namespace::Namespace;
 use ipc_call::{Call, Ended, JournalRow, Limits, Memory, Outcome, Reply, Rule};
 use ipc_creds::Creds;
+use ipc_namespace::Namespace;
+use std::alloc::Global;
 use std::marker::Model;
 
 /// What an event tells the clients.
@@ -48,6 +49,7 @@ pub struct Space {
     namespace: Namespace,
     journal: Journal,
     events: u64,
+    alloc: Global,
 }
 
 impl Model for Space {
@@ -77,6 +79,7 @@ impl Space {
             namespace: Namespace::new(limits, clients),
             journal: Journal::new(alloc),
             events: 0,
+            alloc,
         })
     }
 
@@ -100,7 +103,7 @@ impl Space {
     {
         let most = self.namespace.most_ended(&call);
         self.journal.reserve(most + 2)?;
-        let mut others = Vec::with_capacity(self.namespace.alloc(), most)?;
+        let mut others = Vec::with_capacity(self.alloc, most)?;
         let copied = call.copy()?;
         let place = self.events + 1;
         let served = self.namespace.serve(client, place, now, call)?;

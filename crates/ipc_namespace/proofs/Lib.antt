@@ -1,0 +1,9 @@
+pub mod Deciding
+pub mod Endings
+pub mod Granting
+pub mod Kept
+pub mod Moving
+pub mod Parked
+pub mod Places
+pub mod Reserved
+pub mod Settling

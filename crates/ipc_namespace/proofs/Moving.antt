@@ -1,0 +1,87 @@
+-- What a granted call leaves, with the waiting calls that it ended.
+use Rattle.std.proofs.Common.{◌≡◌, ℕ, [], refl, sym, ap, ◌∙◌, Option, Some, None, Ok, Err}
+use Rattle.std.specs.Prelude.{slice_get, IfSome, IfOk, OnOk, Result}
+use Rattle.ipc_call.specs.declared.calls.Call.{Call}
+use Rattle.ipc_call.specs.declared.calls.Call.TheVariants.{IpcRmid}
+use Rattle.ipc_call.specs.declared.calls.Kind.{Kind}
+use Rattle.ipc_call.specs.declared.calls.Kind.TheVariants as kinds
+use Rattle.ipc_call.specs.declared.replies.Answer.{Answer}
+use Rattle.ipc_call.specs.declared.replies.Answer.TheVariants.{Done}
+use Rattle.ipc_call.specs.declared.replies.Waiting.{Waiting}
+use Rattle.ipc_creds.specs.Credentials.{Credentials}
+use Rattle.ipc_perm.specs.declared.perms.Perm.{Perm}
+use Rattle.ipc_perm.specs.Access.{Control, SameUser, denial}
+use Rattle.ipc_model.specs.State.{State}
+use Rattle.ipc_model.specs.Decision.{Serve}
+use Rattle.ipc_model.specs.Decide.{decide}
+use Rattle.ipc_model.specs.Controls.{perm_of, remove_found, remove_object, without}
+use Rattle.ipc_model.specs.Interrupts.{interrupt, interrupt_found, process}
+use Rattle.ipc_model.specs.Forced.{forced}
+use Rattle.ipc_model.specs.Step.{Moved, force, forced_by, state_by}
+use Rattle.ipc_namespace.specs.declared.decisions.Decided.TheVariants as ways
+use Rattle.ipc_namespace.specs.declared.forcing.Forcing.TheVariants as forcings
+use Rattle.ipc_namespace.specs.Decisions.{decided}
+use Rattle.ipc_namespace.specs.Namespace.{ended_as, forced_as, left_by, moved_by, sends_on}
+use Rattle.ipc_namespace.proofs.Endings.{ended-none, left-none}
+use Rattle.ipc_namespace.proofs.Granting.{by_check-go}
+use Rattle.ipc_namespace.proofs.Reserved.{none_left}
+
+-- a call that was granted: what it ends follows
+pub moved-at : (s new : State) (client : ℕ) (call same : Call) (answer : Answer) → call ≡ same → decide s client same ≡ Serve answer new → moved_by s client call ≡ force new same
+moved-at s new client call same answer is served = ap (λ (c : Call). moved_by s client c) is ∙ ap (λ d. forced_by (state_by s client same d) same d) served
+
+every : (o : Option Waiting) (P : Waiting → Type 0) → ((w : Waiting) → P w) → IfSome o P
+every None P all = tt
+every (Some w) P all = all w
+
+-- a call that ends none
+pub unforced : (new : State) (call : Call) → ((w : Waiting) → forced new call w ≡ None) → force new call ≡ record { state = new; ended = [] }
+unforced new call none = λ i. record {
+  state = record new { parked = left-none (forced new call) new.parked (λ k. every (slice_get new.parked k) (λ w. forced new call w ≡ None) none) i };
+  ended = ended-none (forced new call) new.parked (λ k. every (slice_get new.parked k) (λ w. forced new call w ≡ None) none) i;
+}
+
+-- the same, where the grant may fail
+pub moved-ok : {E : Type 0} (r : Result Answer E) (s new : State) (client : ℕ) (call same : Call) → call ≡ same → ((w : Waiting) → forced new same w ≡ None) → IfOk r (λ answer. decide s client same ≡ Serve answer new)
+    → OnOk r (new ≡ (moved_by s client call).state) × OnOk r ([] ≡ (moved_by s client call).ended)
+moved-ok (Err e) s new client call same is none served = (tt, tt)
+moved-ok (Ok answer) s new client call same is none served =
+    let moved = moved-at s new client call same answer is served ∙ unforced new same none in
+    (sym (ap (λ (m : Moved). m.state) moved), sym (ap (λ (m : Moved). m.ended) moved))
+
+removed-found : (s : State) (c : Credentials) (kind : Kind) (id : ℕ) (perm : Option Perm) → decided (remove_found s c kind id perm) ≡ ways.Go → remove_found s c kind id perm ≡ Serve Done (without s kind id)
+removed-found s c kind id None go = cc
+removed-found s c kind id (Some perm) go = by_check-go (denial c (Control perm)) (Serve Done (without s kind id)) go
+
+pub removed : (s : State) (c : Credentials) (kind : Kind) (id : ℕ) → decided (remove_object s c kind id) ≡ ways.Go → remove_object s c kind id ≡ Serve Done (without s kind id)
+removed s c kind id go = removed-found s c kind id (perm_of s kind id) go
+
+-- before a queue is removed, none sends to it
+pub removed-left : (s : State) (c : Credentials) (kind : Kind) (id : ℕ) → decided (remove_object s c kind id) ≡ ways.Go → sends_on id (left_by (forced_as s (forcings.Removed kind id)) s.parked) ≡ 0
+removed-left s c kinds.Queue id go = none_left id s.parked
+removed-left s c kinds.Sems id go = cc
+removed-left s c kinds.Segment id go = cc
+
+-- it is removed behind those that waited on it
+pub removed-after : (s : State) (kind : Kind) (id : ℕ) → without (record s { parked = left_by (forced_as s (forcings.Removed kind id)) s.parked }) kind id ≡ (force (without s kind id) (IpcRmid kind id)).state
+removed-after s kinds.Queue id = refl
+removed-after s kinds.Sems id = refl
+removed-after s kinds.Segment id = refl
+
+pub removed-ended : (s : State) (kind : Kind) (id : ℕ) → ended_as (forced_as s (forcings.Removed kind id)) s.parked ≡ (force (without s kind id) (IpcRmid kind id)).ended
+removed-ended s kinds.Queue id = refl
+removed-ended s kinds.Sems id = refl
+removed-ended s kinds.Segment id = refl
+
+served-same : (answer other : Answer) (s t : State) → Serve answer s ≡ Serve other t → s ≡ t
+served-same answer other s t is = cc
+
+pub left-removed : (s new : State) (c : Credentials) (kind : Kind) (id : ℕ) (answer : Answer) → decided (remove_object s c kind id) ≡ ways.Go → remove_object s c kind id ≡ Serve answer new → new ≡ without s kind id
+left-removed s new c kind id answer go served = served-same answer Done new (without s kind id) (sym served ∙ removed s c kind id go)
+
+interrupted-found : (s : State) (c : Credentials) (target : Option Credentials) → decided (interrupt_found s c target) ≡ ways.Go → interrupt_found s c target ≡ Serve Done s
+interrupted-found s c None go = cc
+interrupted-found s c (Some target) go = by_check-go (denial c (SameUser target.euid)) (Serve Done s) go
+
+pub interrupted : (s : State) (c : Credentials) (pid : ℕ) → decided (interrupt s c pid) ≡ ways.Go → interrupt s c pid ≡ Serve Done s
+interrupted s c pid go = interrupted-found s c (process s pid) go

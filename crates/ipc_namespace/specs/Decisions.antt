@@ -1,0 +1,16 @@
+-- What the code decides, of what the model decides: the grant is left out.
+use Rattle.ipc_model.specs.Decision.{Decision, Refuse, Wait, Serve}
+use Rattle.ipc_perm.specs.declared.access.Verdict.{Verdict}
+use Rattle.ipc_perm.specs.declared.access.Verdict.TheVariants.{Allowed, Denied}
+use Rattle.ipc_namespace.specs.declared.decisions.Decided.{Decided}
+use Rattle.ipc_namespace.specs.declared.decisions.Decided.TheVariants as ways
+
+abbrev pub decided : Decision → Decided
+decided (Refuse rule) = ways.Refuse rule
+decided Wait = ways.Wait
+decided (Serve answer new) = ways.Go
+
+-- what is decided where nothing but the verdict counts
+abbrev pub decided_by : Verdict → Decided
+decided_by (Allowed _) = ways.Go
+decided_by (Denied rule) = ways.Refuse rule

@@ -1,0 +1,167 @@
+// The controls of objects of any kind, IPC_STAT, IPC_SET and IPC_RMID (msgctl(2), semctl(2), shmctl(2)), and the interrupt
+// of a waiting call.
+
+ghost use Rattle.std.specs.Prelude.{◌≡◌, ℕ, ◌<◌, length, option_copied};
+ghost use Rattle.ipc_model.specs.State.{creds_at};
+ghost use Rattle.ipc_model.specs.Decision.{Serve};
+ghost use Rattle.ipc_model.specs.Controls.{is_within as is_within_limit, perm_of as perm_in, remove_object, set_object, stat_object};
+ghost use Rattle.ipc_model.specs.Interrupts.{interrupt, process as process_of};
+ghost use Rattle.ipc_namespace.specs.Decisions.{decided};
+ghost use Rattle.ipc_namespace.specs.Namespace.{sends_on};
+
+use crate::decisions::{Decided, TO_READ, go_if};
+use crate::namespace::Namespace;
+use bitflags::Flags;
+use ipc_call::{Answer, Kind, Rule};
+use ipc_creds::{Caps, Creds};
+use ipc_perm::{Perm, Verdict, decide, may_control, may_interrupt};
+
+impl Namespace {
+    /// The decision on IPC_STAT.
+    pub(super) fn decide_stat(&self, creds: &Creds, kind: Kind, id: u32) -> Decided
+        ensures { result ≡ decided (stat_object self.now.state creds.now kind id) }
+    {
+        match kind {
+            Kind::Queue => match self.queues.get(id) {
+                None => Decided::Refuse(Rule::BadId),
+                Some(queue) => go_if(decide(creds, &queue.perm(), TO_READ)),
+            },
+            Kind::Sems | Kind::Segment => Decided::Refuse(Rule::BadId),
+        }
+    }
+
+    /// Grants IPC_STAT. It takes no memory.
+    pub(super) fn grant_stat(&self, client: u32, kind: Kind, id: u32) -> Answer
+        requires known { client < length self.now.state.clients }
+        requires go { decided (stat_object self.now.state (creds_at self.now.state client) kind id) ≡ Decided.Go }
+        ensures { stat_object self.now.state (creds_at self.now.state client) kind id ≡ Serve result self.now.state }
+    {
+        match kind {
+            Kind::Queue => match self.queues.get(id) {
+                None => unreachable!(),
+                Some(queue) => Answer::Status(queue.status()),
+            },
+            Kind::Sems | Kind::Segment => unreachable!(),
+        }
+    }
+
+    /// The decision on IPC_SET. `qbytes` is asked before the identifier is looked up.
+    pub(super) fn decide_set(
+        &self,
+        creds: &Creds,
+        kind: Kind,
+        id: u32,
+        qbytes: Option<u64>,
+    ) -> Decided
+        ensures { (uid gid mode : ℕ) → result ≡ decided (set_object self.now.state creds.now kind id uid gid mode qbytes) }
+    {
+        if kind != Kind::Queue && qbytes.is_some() {
+            return Decided::Refuse(Rule::BadArgument);
+        }
+        let Some(perm) = self.perm_of(kind, id) else {
+            return Decided::Refuse(Rule::BadId);
+        };
+        if let Verdict::Denied(rule) = may_control(creds, &perm) {
+            return Decided::Refuse(rule);
+        }
+        if self.is_within(qbytes) || creds.caps().contains(Caps::SYS_RESOURCE) {
+            Decided::Go
+        } else {
+            Decided::Refuse(Rule::NeedsResource)
+        }
+    }
+
+    /// Grants IPC_SET. It takes no memory.
+    pub(super) fn grant_set(
+        &mut self,
+        client: u32,
+        kind: Kind,
+        id: u32,
+        uid: u32,
+        gid: u32,
+        mode: u32,
+        qbytes: Option<u64>,
+    ) -> Answer
+        requires known { client < length self.old.state.clients }
+        requires go { decided (set_object self.old.state (creds_at self.old.state client) kind id uid gid mode qbytes) ≡ Decided.Go }
+        ensures served { set_object self.old.state (creds_at self.old.state client) kind id uid gid mode qbytes ≡ Serve result self.new.state }
+        ensures parked { self.new.state.parked ≡ self.old.state.parked }
+        ensures limits { self.new.state.limits ≡ self.old.state.limits }
+        ensures clients { self.new.state.clients ≡ self.old.state.clients }
+        ensures latest { self.new.latest ≡ self.old.latest }
+    {
+        match kind {
+            Kind::Queue => self.queues.set(id, uid, gid, mode, qbytes, self.clock),
+            Kind::Sems | Kind::Segment => unreachable!(),
+        }
+        Answer::Done
+    }
+
+    /// Whether a msg_qbytes that is asked for is at most MSGMNB.
+    fn is_within(&self, qbytes: Option<u64>) -> bool
+        ensures { result ≡ is_within_limit self.now.state qbytes }
+    {
+        match qbytes {
+            None => true,
+            Some(qbytes) => qbytes <= u64::from(self.limits.msg_mnb),
+        }
+    }
+
+    /// The decision on IPC_RMID.
+    pub(super) fn decide_remove(&self, creds: &Creds, kind: Kind, id: u32) -> Decided
+        ensures { result ≡ decided (remove_object self.now.state creds.now kind id) }
+    {
+        let Some(perm) = self.perm_of(kind, id) else {
+            return Decided::Refuse(Rule::BadId);
+        };
+        go_if(may_control(creds, &perm))
+    }
+
+    /// Grants IPC_RMID: the object leaves, and its key is free. It takes no memory.
+    pub(super) fn grant_remove(&mut self, client: u32, kind: Kind, id: u32) -> Answer
+        requires known { client < length self.old.state.clients }
+        requires go { decided (remove_object self.old.state (creds_at self.old.state client) kind id) ≡ Decided.Go }
+        requires left { sends_on id self.old.state.parked ≡ 0 }
+        ensures served { remove_object self.old.state (creds_at self.old.state client) kind id ≡ Serve result self.new.state }
+        ensures parked { self.new.state.parked ≡ self.old.state.parked }
+        ensures limits { self.new.state.limits ≡ self.old.state.limits }
+        ensures clients { self.new.state.clients ≡ self.old.state.clients }
+        ensures latest { self.new.latest ≡ self.old.latest }
+    {
+        match kind {
+            Kind::Queue => self.queues.remove(id),
+            Kind::Sems | Kind::Segment => unreachable!(),
+        }
+        Answer::Done
+    }
+
+    /// The decision on an interrupt of the client of a process.
+    pub(super) fn decide_interrupt(&self, creds: &Creds, pid: u32) -> Decided
+        ensures { result ≡ decided (interrupt self.now.state creds.now pid) }
+    {
+        match self.process(pid) {
+            None => Decided::Refuse(Rule::NoProcess),
+            Some(target) => go_if(may_interrupt(creds, target.euid())),
+        }
+    }
+
+    /// The credentials of the client of a process.
+    fn process(&self, pid: u32) -> Option<&Creds>
+        ensures { option_copied result ≡ process_of self.now.state pid }
+    {
+        if pid == 0 {
+            return None;
+        }
+        self.clients.get(pid as usize - 1)
+    }
+
+    /// The permissions of the object of an identifier.
+    fn perm_of(&self, kind: Kind, id: u32) -> Option<Perm>
+        ensures { result ≡ perm_in self.now.state kind id }
+    {
+        match kind {
+            Kind::Queue => Some(self.queues.get(id)?.perm()),
+            Kind::Sems | Kind::Segment => None,
+        }
+    }
+}

@@ -1,0 +1,67 @@
+// What is decided on a call, before anything changes.
+
+ghost use Rattle.std.specs.Prelude.{◌≡◌};
+ghost use Rattle.ipc_model.specs.Decide.{can_wait as may_wait};
+ghost use Rattle.ipc_model.specs.Decision.{or_wait as refuse_or_wait};
+ghost use Rattle.ipc_namespace.specs.Decisions.{decided, decided_by};
+
+use ipc_call::{Call, IPC_NOWAIT, Rule};
+use ipc_perm::{Verdict, Want};
+
+/// The decision on a call.
+#[derive(Clone, Copy, Debug)]
+pub enum Decided {
+    /// The call is refused by this rule.
+    Refuse(Rule),
+    /// The call waits.
+    Wait,
+    /// The call is granted.
+    Go,
+}
+
+/// The right that a call asks which changes what is in an object.
+pub const TO_ALTER: Want = Want {
+    read: false,
+    alter: true,
+};
+
+/// The right that a call asks which tells what is in an object.
+pub const TO_READ: Want = Want {
+    read: true,
+    alter: false,
+};
+
+/// The decision on a call that can't go on now: it waits, or with IPC_NOWAIT it is refused.
+pub fn or_wait(flags: u32, rule: Rule) -> Decided
+    ensures { result ≡ decided (refuse_or_wait flags rule) }
+{
+    if flags & IPC_NOWAIT == 0 {
+        Decided::Wait
+    } else {
+        Decided::Refuse(rule)
+    }
+}
+
+/// The decision on a call that asks for nothing but this verdict.
+pub fn go_if(verdict: Verdict) -> Decided
+    ensures { result ≡ decided_by verdict }
+{
+    match verdict {
+        Verdict::Allowed(_) => Decided::Go,
+        Verdict::Denied(rule) => Decided::Refuse(rule),
+    }
+}
+
+/// Whether the call is of a kind that may wait.
+pub fn can_wait(call: &Call) -> bool
+    ensures { result ≡ may_wait call.now }
+{
+    match call {
+        Call::MsgSnd { .. } | Call::MsgRcv { .. } => true,
+        Call::MsgGet { .. }
+        | Call::IpcStat { .. }
+        | Call::IpcSet { .. }
+        | Call::IpcRmid { .. }
+        | Call::Interrupt { .. } => false,
+    }
+}

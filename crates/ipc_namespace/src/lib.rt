@@ -1,0 +1,12 @@
+//! The state of a namespace of System V IPC objects, and how one event changes it: a call is decided, then
+//! refused, granted or made to wait, and the waiting calls end that it lets go on or ends.
+#![tactic(auto)]
+
+mod control_calls;
+mod decisions;
+mod forcing;
+mod message_calls;
+mod namespace;
+mod reserving;
+
+pub use namespace::{Namespace, Served};
