@@ -32,10 +32,6 @@ module _ (t : Table Held) where
   room-absent : (id : ℕ) → map.get t.objects id ≡ None → room t id ≡ 0
   room-absent id absent = ap (λ o. unwrap_or (option_map (λ (h : Held). h.reserved) o) 0) absent
 
-  -- where there is room there is a queue
-  pub not-roomless : (id : ℕ) → map.get t.objects id ≡ None → 0 < room t id → ⊥
-  not-roomless id absent some = absurd (omega (arith, room-absent id absent, some))
-
   pub reserved-of : (id : ℕ) (held : Held) → map.get t.objects id ≡ Some held → 0 < room t id → 0 < held.reserved
   reserved-of id held there some = omega (arith, room-there id held there, some)
 

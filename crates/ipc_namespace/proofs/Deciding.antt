@@ -1,5 +1,5 @@
 -- Laws of the decision, by cases over the calls: one line for each call.
-use Rattle.std.proofs.Common.{◌≡◌, ℕ, Bool, true, false, List, [], ◌∷◌, map, length, refl, sym, ap, ◌∙◌, cond, Option, Some, None, Ok, Err}
+use Rattle.std.proofs.Common.{◌≡◌, ℕ, Bool, true, false, List, [], ◌∷◌, map, length, refl, sym, ap, ◌∙◌, cond, Option, Some, None, Ok}
 use Rattle.std.specs.FinMap as finite
 use Rattle.std.specs.Prelude.{not, ◌==◌, ◌&&◌, ◌||◌, ℤ, pos, int_le, nat_le, option_map, slice_get, unwrap_or}
 use Rattle.std.proofs.lemmas.Bool.{false≢true, true≢false}
@@ -177,19 +177,10 @@ refused (Serve answer new) rule is = cc
 
 -- the call at a place, once it has left the list: it is decided in what is left
 module _ (s rest : State) (place : ℕ) (w : Waiting) (here : slice_get s.parked place ≡ Some w) (left : rest ≡ without s place) where
-  pub is_ready-left : is_ready s place ≡ goes_on (decide rest w.client w.call)
-  is_ready-left =
-      ap (λ o. unwrap_or (option_map (λ (v : Waiting). goes_on (decide (without s place) v.client v.call)) o) false) here
-      ∙ ap (λ (t : State). goes_on (decide t w.client w.call)) (sym left)
-
   pub end_at-left : end_at s place ≡ ended_by rest w.client (decide rest w.client w.call)
   end_at-left = ap (λ o. end_waiting s place o) here ∙ ap (λ (t : State). ended_by t w.client (decide t w.client w.call)) (sym left)
 
--- a call that ended, by its refusal or its grant
-pub ended-refused : (s new : State) (client : ℕ) (d : Decision) (rule : Rule) (outcome : Outcome) → d ≡ Refuse rule → new ≡ s → outcome ≡ Err rule
-    → ended_by s client d ≡ record { state = new; ended = record { client = client; outcome = outcome } ∷ [] }
-ended-refused s new client d rule outcome is same told = ap (ended_by s client) is ∙ (λ i. record { state = sym same i; ended = record { client = client; outcome = sym told i } ∷ [] })
-
+-- a call that ended by its grant
 pub ended-served : (s new left : State) (client : ℕ) (d : Decision) (answer : Answer) (outcome : Outcome) → d ≡ Serve answer left → new ≡ left → outcome ≡ Ok answer
     → ended_by s client d ≡ record { state = new; ended = record { client = client; outcome = outcome } ∷ [] }
 ended-served s new left client d answer outcome is same told = ap (ended_by s client) is ∙ (λ i. record { state = sym same i; ended = record { client = client; outcome = sym told i } ∷ [] })

@@ -21,7 +21,7 @@ use Rattle.ipc_model.specs.Step.{Moved, force, forced_by, state_by}
 use Rattle.ipc_namespace.specs.declared.decisions.Decided.TheVariants as ways
 use Rattle.ipc_namespace.specs.declared.forcing.Forcing.TheVariants as forcings
 use Rattle.ipc_namespace.specs.Decisions.{decided}
-use Rattle.ipc_namespace.specs.Namespace.{ended_as, forced_as, left_by, moved_by, sends_on}
+use Rattle.ipc_namespace.specs.Namespace.{forced_as, left_by, moved_by, sends_on}
 use Rattle.ipc_namespace.proofs.Endings.{ended-none, left-none}
 use Rattle.ipc_namespace.proofs.Granting.{by_check-go}
 use Rattle.ipc_namespace.proofs.Reserved.{none_left}
@@ -67,11 +67,6 @@ pub removed-after : (s : State) (kind : Kind) (id : ℕ) → without (record s {
 removed-after s kinds.Queue id = refl
 removed-after s kinds.Sems id = refl
 removed-after s kinds.Segment id = refl
-
-pub removed-ended : (s : State) (kind : Kind) (id : ℕ) → ended_as (forced_as s (forcings.Removed kind id)) s.parked ≡ (force (without s kind id) (IpcRmid kind id)).ended
-removed-ended s kinds.Queue id = refl
-removed-ended s kinds.Sems id = refl
-removed-ended s kinds.Segment id = refl
 
 served-same : (answer other : Answer) (s t : State) → Serve answer s ≡ Serve other t → s ≡ t
 served-same answer other s t is = cc

@@ -1,13 +1,12 @@
 -- The waiting calls that can go on: the code ends the first until none is left, the definition counts its turns down.
-use Rattle.std.proofs.Common.{◌≡◌, ℕ, zero, suc, ◌+◌, ◌<◌, true, false, [], ◌∷◌, length, refl, sym, ap, ◌∙◌, arith, Option, Some, None}
+use Rattle.std.proofs.Common.{◌≡◌, ℕ, zero, suc, ◌<◌, true, false, [], length, refl, sym, ap, ◌∙◌, arith, Option, Some, None}
 use Rattle.std.specs.Prelude.{option_map, slice_get, unwrap_or, IfSome}
 use Rattle.std.specs.List.{find}
 use Rattle.std.proofs.lemmas.Option.{slice_get_within}
 use Rattle.ipc_call.specs.declared.replies.Waiting.{Waiting}
-use Rattle.ipc_call.specs.declared.replies.Ended.{Ended}
 use Rattle.ipc_model.specs.State.{State}
 use Rattle.ipc_model.specs.Decide.{decide, goes_on}
-use Rattle.ipc_model.specs.Step.{and_then, end_at, first_ready, is_ready, settle, settle_from, settled, without}
+use Rattle.ipc_model.specs.Step.{first_ready, is_ready, settle, settle_from, settled, without}
 use Rattle.ipc_ids.proofs.Least.{least_found, least_none, least_some}
 use Rattle.ipc_namespace.specs.Namespace.{AreParked, place_of}
 use Rattle.ipc_namespace.proofs.Deciding.{is_ready-at}
@@ -20,12 +19,6 @@ settle-none (suc n) s none = ap (λ o. settle_from (settle n) s o) none
 
 pub settled-none : (s : State) → first_ready s ≡ None → settled s ≡ record { state = s; ended = [] }
 settled-none s none = settle-none (length s.parked) s none
-
-pub settled-some : (s new : State) (place : ℕ) (e : Ended) → first_ready s ≡ Some place → end_at s place ≡ record { state = new; ended = e ∷ [] } → length new.parked + 1 ≡ length s.parked
-    → settled s ≡ record { state = (settled new).state; ended = e ∷ (settled new).ended }
-settled-some s new place e first ends shorter =
-    let one_more : length s.parked ≡ suc (length new.parked) = omega arith in
-    ap (λ n. settle n s) one_more ∙ ap (λ o. settle_from (settle (length new.parked)) s o) first ∙ ap (λ m. and_then m (settle (length new.parked))) ends
 
 pub ready_at : (s : State) (place : ℕ) → first_ready s ≡ Some place → (is_ready s place ≡ true) × (place < length s.parked)
 ready_at s place first = let found = least_found (λ k. is_ready s k) (length s.parked) 0 place first in (found.0, omega (arith, found.1))
