@@ -14,7 +14,7 @@ use Rattle.ipc_perm.specs.Access.{Need, Permission, Control, Resource, denial}
 use Rattle.ipc_ids.specs.Table.{Table, with_object, without_object}
 use Rattle.msg_queue.specs.Messages.{bytes_of}
 use Rattle.ipc_model.specs.State.{Queue, State}
-use Rattle.ipc_model.specs.Decision.{Decision, Refuse, Serve, check, by_checks}
+use Rattle.ipc_model.specs.Plan.{Needs, Passes, Plan, Refuse, Serve, found, in_order, ◌⨾◌}
 
 -- the permissions of the object of the identifier; there are no semaphore sets and no segments yet
 abbrev pub perm_of : State → Kind → ℕ → Option Perm
@@ -22,28 +22,14 @@ perm_of s kinds.Queue id = option_map (λ queue. queue.perm) (finite.get s.queue
 perm_of s kinds.Sems id = None
 perm_of s kinds.Segment id = None
 
--- what a control needs on the object
-abbrev pub needs_of_control : Option Perm → List Need
-needs_of_control None = []
-needs_of_control (Some perm) = Control perm ∷ []
-
--- what a look at the object needs
-abbrev pub needs_of_stat : Option Perm → List Need
-needs_of_stat None = []
-needs_of_stat (Some perm) = Permission perm (record { read = true; alter = false }) ∷ []
-
 -- the object leaves, and its key is free
 abbrev pub without : State → Kind → ℕ → State
 without s kinds.Queue id = record s { queues = without_object s.queues id }
 without s kinds.Sems id = s
 without s kinds.Segment id = s
 
-abbrev pub remove_found : State → Credentials → Kind → ℕ → Option Perm → Decision
-remove_found s c kind id None = Refuse BadId
-remove_found s c kind id (Some perm) = by_checks (map (denial c) (needs_of_control (Some perm))) (Serve Done (without s kind id))
-
-abbrev pub remove_object : State → Credentials → Kind → ℕ → Decision
-remove_object s c kind id = remove_found s c kind id (perm_of s kind id)
+abbrev pub remove_object : State → Kind → ℕ → Plan State
+remove_object s kind id = found (perm_of s kind id) BadId _ (λ perm. Needs (Control perm) ⨾ Serve Done (without s kind id))
 
 -- IPC_STAT: the state of the object; msg_cbytes and msg_qnum are counted anew
 abbrev pub status_of_queue : Queue → Status
@@ -72,23 +58,18 @@ with_settings queue now uid gid mode qbytes = record queue {
   change_time = now;
 }
 
-abbrev pub stat_queue : State → Credentials → Option Queue → Decision
-stat_queue s c None = Refuse BadId
-stat_queue s c (Some queue) = by_checks (map (denial c) (needs_of_stat (Some queue.perm))) (Serve (StatusAnswer (status_of_queue queue)) s)
+abbrev pub stat_queue : State → Option Queue → Plan State
+stat_queue s queue = found queue BadId _ (λ queue. Needs (Permission queue.perm (record { read = true; alter = false })) ⨾ Serve (StatusAnswer (status_of_queue queue)) s)
 
-abbrev pub stat_object : State → Credentials → Kind → ℕ → Decision
-stat_object s c kinds.Queue id = stat_queue s c (finite.get s.queues.objects id)
-stat_object s c kinds.Sems id = Refuse BadId
-stat_object s c kinds.Segment id = Refuse BadId
+abbrev pub stat_object : State → Kind → ℕ → Plan State
+stat_object s kinds.Queue id = stat_queue s (finite.get s.queues.objects id)
+stat_object s kinds.Sems id = Refuse BadId _
+stat_object s kinds.Segment id = Refuse BadId _
 
 -- a msg_qbytes above MSGMNB needs CAP_SYS_RESOURCE
 abbrev pub is_within : State → Option ℕ → Bool
 is_within s None = true
 is_within s (Some qbytes) = nat_le qbytes s.limits.msg_mnb
-
-abbrev pub needs_of_set : State → Option Perm → Option ℕ → List Need
-needs_of_set s None qbytes = []
-needs_of_set s (Some perm) qbytes = if is_within s qbytes then Control perm ∷ [] else Control perm ∷ Resource ∷ []
 
 -- the queue of the identifier changes
 abbrev pub with_change : Table Queue → ℕ → (Queue → Queue) → Option Queue → Table Queue
@@ -101,15 +82,15 @@ with_set s kinds.Queue id uid gid mode qbytes =
 with_set s kinds.Sems id uid gid mode qbytes = s
 with_set s kinds.Segment id uid gid mode qbytes = s
 
-abbrev pub set_found : State → Credentials → Kind → ℕ → ℕ → ℕ → ℕ → Option ℕ → Option Perm → Decision
-set_found s c kind id uid gid mode qbytes None = Refuse BadId
-set_found s c kind id uid gid mode qbytes (Some perm) = by_checks (map (denial c) (needs_of_set s (Some perm) qbytes)) (Serve Done (with_set s kind id uid gid mode qbytes))
-
 -- msg_qbytes is of queues alone
 abbrev pub takes_qbytes : Kind → Option ℕ → Bool
 takes_qbytes kinds.Queue qbytes = true
 takes_qbytes kinds.Sems qbytes = is_none qbytes
 takes_qbytes kinds.Segment qbytes = is_none qbytes
 
-abbrev pub set_object : State → Credentials → Kind → ℕ → ℕ → ℕ → ℕ → Option ℕ → Decision
-set_object s c kind id uid gid mode qbytes = by_checks (check (takes_qbytes kind qbytes) BadArgument ∷ []) (set_found s c kind id uid gid mode qbytes (perm_of s kind id))
+abbrev pub set_object : State → Kind → ℕ → ℕ → ℕ → ℕ → Option ℕ → Plan State
+set_object s kind id uid gid mode qbytes =
+    Passes (takes_qbytes kind qbytes) BadArgument _
+    ⨾ found (perm_of s kind id) BadId _ (λ perm.
+      Needs (Control perm)
+      ⨾ in_order (if is_within s qbytes then [] else Needs Resource ∷ []) (Serve Done (with_set s kind id uid gid mode qbytes)))

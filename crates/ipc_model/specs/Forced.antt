@@ -41,7 +41,7 @@ first_denial c (need ∷ others) = or_later (denial c need) (first_denial c othe
 
 -- the rule by which a waiting call ends, where the grant of this call ends it
 abbrev pub forced : State → Call → Waiting → Option Rule
-forced s (IpcSet kind id uid gid mode qbytes) w = if waits_on kind id w.call then first_denial (creds_at s w.client) (needs s w.call) else None
+forced s (IpcSet kind id uid gid mode qbytes) w = if waits_on kind id w.call then first_denial (creds_at s w.client) (needs s w.client w.call) else None
 forced s (IpcRmid kind id) w = if waits_on kind id w.call then Some Removed else None
 forced s (Interrupt pid) w = if pid == pid_of w.client then Some Interrupted else None
 forced s (MsgGet key flags) w = None

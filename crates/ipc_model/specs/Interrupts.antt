@@ -5,20 +5,12 @@ use Rattle.ipc_call.specs.declared.replies.Answer.TheVariants.{Done}
 use Rattle.ipc_creds.specs.Credentials.{Credentials}
 use Rattle.ipc_perm.specs.Access.{Need, SameUser, denial}
 use Rattle.ipc_model.specs.State.{State}
-use Rattle.ipc_model.specs.Decision.{Decision, Refuse, Serve, by_checks}
+use Rattle.ipc_model.specs.Plan.{Needs, Plan, Serve, found, ◌⨾◌}
 
 -- the credentials of the client of a process, which is its number plus 1
 abbrev pub process : State → ℕ → Option Credentials
 process s pid = if pid == 0 then None else slice_get s.clients (pid - 1)
 
-abbrev pub needs_of_interrupt : Option Credentials → List Need
-needs_of_interrupt None = []
-needs_of_interrupt (Some target) = SameUser target.euid ∷ []
-
 -- what waits of the target ends after the grant (Forced)
-abbrev pub interrupt_found : State → Credentials → Option Credentials → Decision
-interrupt_found s c None = Refuse NoProcess
-interrupt_found s c (Some target) = by_checks (map (denial c) (needs_of_interrupt (Some target))) (Serve Done s)
-
-abbrev pub interrupt : State → Credentials → ℕ → Decision
-interrupt s c pid = interrupt_found s c (process s pid)
+abbrev pub interrupt : State → ℕ → Plan State
+interrupt s pid = found (process s pid) NoProcess _ (λ target. Needs (SameUser target.euid) ⨾ Serve Done s)

@@ -1,6 +1,8 @@
+pub mod Access
 pub mod Controls
 pub mod Decide
 pub mod Decision
+pub mod Plan
 pub mod Forced
 pub mod History
 pub mod Interrupts

@@ -10,7 +10,7 @@ use Rattle.ipc_ids.specs.Table.{with_object}
 use Rattle.msg_queue.specs.declared.messages.Message.{Message}
 use Rattle.msg_queue.specs.Messages.{is_full, select}
 use Rattle.ipc_model.specs.State.{Queue, State, pid_of}
-use Rattle.ipc_model.specs.Decision.{Decision, Refuse, Serve, check, by_checks, or_wait}
+use Rattle.ipc_model.specs.Plan.{GoesOn, Needs, Passes, Plan, Serve, awaited, found, ◌⨾◌}
 
 abbrev pub queue_at : State → ℕ → Option Queue
 queue_at s id = finite.get s.queues.objects id
@@ -25,10 +25,6 @@ to_alter = record { read = false; alter = true }
 abbrev pub to_read : Want
 to_read = record { read = true; alter = false }
 
-abbrev pub needs_for : Want → Option Queue → List Need
-needs_for want None = []
-needs_for want (Some queue) = Permission queue.perm want ∷ []
-
 -- msgsnd: the message goes last, msg_lspid and msg_stime are set
 abbrev pub with_message : Queue → ℕ → ℕ → Message → Queue
 with_message queue client now message = record queue {
@@ -37,18 +33,18 @@ with_message queue client now message = record queue {
   send_time = now;
 }
 
-abbrev pub put_message : State → ℕ → ℕ → ℕ → Message → Queue → Decision
-put_message s client id flags message queue =
-    if is_full queue.messages queue.qbytes (length message.text) then or_wait flags QueueFull else Serve Done (with_changed s id (with_message queue client s.clock message))
-
-abbrev pub send_found : State → Credentials → ℕ → ℕ → ℕ → Message → Option Queue → Decision
-send_found s c client id flags message None = Refuse BadId
-send_found s c client id flags message (Some queue) = by_checks (denial c (Permission queue.perm to_alter) ∷ []) (put_message s client id flags message queue)
+abbrev pub send_found : State → ℕ → ℕ → ℕ → Message → Option Queue → Plan State
+send_found s client id flags message queue = found queue BadId _ (λ queue.
+    Needs (Permission queue.perm to_alter)
+    ⨾ GoesOn (not (is_full queue.messages queue.qbytes (length message.text))) flags QueueFull _
+    ⨾ Serve Done (with_changed s id (with_message queue client s.clock message)))
 
 -- the type is at least 1, and the text at most MSGMAX long, whatever the identifier
-abbrev pub send_message : State → Credentials → ℕ → ℕ → ℕ → Message → Decision
-send_message s c client id flags message =
-    by_checks (check (int_le (pos 1) message.mtype) BadType ∷ check (nat_le (length message.text) s.limits.msg_max) TextTooLong ∷ []) (send_found s c client id flags message (queue_at s id))
+abbrev pub send_message : State → ℕ → ℕ → ℕ → Message → Plan State
+send_message s client id flags message =
+    Passes (int_le (pos 1) message.mtype) BadType _
+    ⨾ Passes (nat_le (length message.text) s.limits.msg_max) TextTooLong _
+    ⨾ send_found s client id flags message (queue_at s id)
 
 -- MSG_NOERROR is 010000, MSG_EXCEPT is 020000
 abbrev pub cuts : ℕ → Bool
@@ -70,16 +66,15 @@ abbrev pub chosen : List Message → ℤ → Bool → Option (ℕ × Message)
 chosen messages msgtyp except = option_and_then (λ position. option_map (λ message. (position, message)) (slice_get messages position)) (select messages msgtyp except)
 
 -- a text longer than asked for stays in the queue, or with MSG_NOERROR it is cut, and the rest is lost
-abbrev pub take_chosen : State → ℕ → ℕ → ℕ → ℕ → Queue → Option (ℕ × Message) → Decision
-take_chosen s client id size flags queue None = or_wait flags NoMessage
-take_chosen s client id size flags queue (Some found) =
-    by_checks (check (nat_le (length found.1.text) size || cuts flags) MessageTooLong ∷ [])
-    (Serve (MessageAnswer found.1.mtype (take size found.1.text)) (with_changed s id (without_message queue client s.clock found.0)))
+abbrev pub take_chosen : State → ℕ → ℕ → ℕ → ℕ → Queue → Option (ℕ × Message) → Plan State
+take_chosen s client id size flags queue taken = awaited taken flags NoMessage _ (λ taken.
+    Passes (nat_le (length taken.1.text) size || cuts flags) MessageTooLong _
+    ⨾ Serve (MessageAnswer taken.1.mtype (take size taken.1.text)) (with_changed s id (without_message queue client s.clock taken.0)))
 
-abbrev pub receive_found : State → Credentials → ℕ → ℕ → ℕ → ℤ → ℕ → Option Queue → Decision
-receive_found s c client id size msgtyp flags None = Refuse BadId
-receive_found s c client id size msgtyp flags (Some queue) =
-    by_checks (denial c (Permission queue.perm to_read) ∷ []) (take_chosen s client id size flags queue (chosen queue.messages msgtyp (excepts flags)))
+abbrev pub receive_found : State → ℕ → ℕ → ℕ → ℤ → ℕ → Option Queue → Plan State
+receive_found s client id size msgtyp flags queue = found queue BadId _ (λ queue.
+    Needs (Permission queue.perm to_read)
+    ⨾ take_chosen s client id size flags queue (chosen queue.messages msgtyp (excepts flags)))
 
-abbrev pub receive_message : State → Credentials → ℕ → ℕ → ℕ → ℤ → ℕ → Decision
-receive_message s c client id size msgtyp flags = receive_found s c client id size msgtyp flags (queue_at s id)
+abbrev pub receive_message : State → ℕ → ℕ → ℕ → ℤ → ℕ → Plan State
+receive_message s client id size msgtyp flags = receive_found s client id size msgtyp flags (queue_at s id)

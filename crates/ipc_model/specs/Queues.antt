@@ -7,7 +7,7 @@ use Rattle.ipc_perm.specs.declared.perms.Perm.{Perm}
 use Rattle.ipc_perm.specs.Access.{Need, Permission, asked_of, denial}
 use Rattle.ipc_ids.specs.Table.{next_id, with_object}
 use Rattle.ipc_model.specs.State.{Queue, State, queue_with_key}
-use Rattle.ipc_model.specs.Decision.{Decision, Refuse, Serve, check, by_checks}
+use Rattle.ipc_model.specs.Plan.{Needs, Passes, Plan, Serve, found, ◌⨾◌}
 
 -- IPC_CREAT is 01000, IPC_EXCL is 02000
 abbrev pub asks_to_make : ℕ → Bool
@@ -30,27 +30,16 @@ new_queue s c key flags = record {
   change_time = s.clock;
 }
 
--- the grant of a new queue
-abbrev pub with_queue : State → Queue → Option ℕ → Decision
-with_queue s queue None = Refuse NoSlot
-with_queue s queue (Some id) = Serve (Id id) (record s { queues = with_object s.queues id queue })
+abbrev pub make_queue : State → Credentials → ℕ → ℕ → Plan State
+make_queue s c key flags = found (next_id s.queues) NoSlot _ (λ id. Serve (Id id) (record s { queues = with_object s.queues id (new_queue s c key flags) }))
 
-abbrev pub make_queue : State → Credentials → ℕ → ℕ → Decision
-make_queue s c key flags = with_queue s (new_queue s c key flags) (next_id s.queues)
-
--- what a get needs on the queue that it finds
-abbrev pub needs_of_get : Perm → ℕ → List Need
-needs_of_get perm flags = Permission perm (asked_of flags) ∷ []
-
-abbrev pub get_found : State → Credentials → ℕ → ℕ → Option (ℕ × Perm) → Decision
-get_found s c key flags None = by_checks (check (asks_to_make flags) NoKey ∷ []) (make_queue s c key flags)
-get_found s c key flags (Some found) =
-    by_checks (check (not (asks_to_make flags && asks_alone flags)) KeyExists ∷ map (denial c) (needs_of_get found.1 flags)) (Serve (Id found.0) s)
+abbrev pub get_found : State → Credentials → ℕ → ℕ → Option (ℕ × Perm) → Plan State
+get_found s c key flags None = Passes (asks_to_make flags) NoKey _ ⨾ make_queue s c key flags
+get_found s c key flags (Some there) =
+    Passes (not (asks_to_make flags && asks_alone flags)) KeyExists _
+    ⨾ Needs (Permission there.1 (asked_of flags))
+    ⨾ Serve (Id there.0) s
 
 -- key 0 is IPC_PRIVATE, and always makes a queue
-abbrev pub get_queue : State → Credentials → ℕ → ℕ → Decision
+abbrev pub get_queue : State → Credentials → ℕ → ℕ → Plan State
 get_queue s c key flags = if key == 0 then make_queue s c 0 flags else get_found s c key flags (queue_with_key s key)
-
-abbrev pub needs_on : Option (ℕ × Perm) → ℕ → List Need
-needs_on None flags = []
-needs_on (Some found) flags = needs_of_get found.1 flags

@@ -9,8 +9,8 @@ use Rattle.ipc_call.specs.declared.rules.Rule.{Rule}
 use Rattle.std.specs.Prelude.{Result}
 use Rattle.ipc_ids.specs.Table.{least_from}
 use Rattle.ipc_model.specs.State.{State}
-use Rattle.ipc_model.specs.Decision.{Decision, Refuse, Wait, Serve}
-use Rattle.ipc_model.specs.Decide.{decide, goes_on}
+use Rattle.ipc_model.specs.Decision.{Decision, Refuse, Wait, Serve, goes_on}
+use Rattle.ipc_model.specs.Decide.{decide}
 use Rattle.ipc_model.specs.Forced.{forced}
 
 -- how a call ended
@@ -40,7 +40,7 @@ abbrev pub without : State → ℕ → State
 without s place = record s { parked = remove s.parked place }
 
 -- the decision on the waiting call at this place, as if it came now
-abbrev pub decide_waiting : State → ℕ → Waiting → Decision
+abbrev pub decide_waiting : State → ℕ → Waiting → Decision State
 decide_waiting s place w = decide (without s place) w.client w.call
 
 -- ready: the call at this place would no longer wait
@@ -51,7 +51,7 @@ is_ready s place = unwrap_or (option_map (λ w. goes_on (decide_waiting s place 
 abbrev pub first_ready : State → Option ℕ
 first_ready s = least_from (λ place. is_ready s place) (length s.parked) 0
 
-abbrev pub ended_by : State → ℕ → Decision → Moved
+abbrev pub ended_by : State → ℕ → Decision State → Moved
 ended_by s client (Refuse rule) = record { state = s; ended = record { client = client; outcome = Err rule } ∷ [] }
 ended_by s client (Serve answer new) = record { state = new; ended = record { client = client; outcome = Ok answer } ∷ [] }
 ended_by s client Wait = record { state = s; ended = [] }
@@ -84,12 +84,12 @@ settled s = settle (length s.parked) s
 abbrev pub at_moment : State → ℕ → State
 at_moment s now = record s { clock = max s.clock now }
 
-abbrev pub state_by : State → ℕ → Call → Decision → State
+abbrev pub state_by : State → ℕ → Call → Decision State → State
 state_by s client call (Refuse rule) = s
 state_by s client call Wait = record s { parked = s.parked ++ record { client = client; call = call } ∷ [] }
 state_by s client call (Serve answer new) = new
 
-abbrev pub own_of : Decision → Option Outcome
+abbrev pub own_of : Decision State → Option Outcome
 own_of (Refuse rule) = Some (Err rule)
 own_of Wait = None
 own_of (Serve answer new) = Some (Ok answer)
@@ -105,7 +105,7 @@ force s call = record {
   ended = flat_map (λ w. told_forced w.client (forced s call w)) s.parked;
 }
 
-abbrev pub forced_by : State → Call → Decision → Moved
+abbrev pub forced_by : State → Call → Decision State → Moved
 forced_by s call (Refuse rule) = record { state = s; ended = [] }
 forced_by s call Wait = record { state = s; ended = [] }
 forced_by s call (Serve answer new) = force s call
@@ -113,7 +113,7 @@ forced_by s call (Serve answer new) = force s call
 abbrev pub stepped : Option Outcome → Moved → Stepped
 stepped own m = record { state = m.state; own = own; ended = m.ended }
 
-abbrev pub entered : State → ℕ → Call → Decision → Stepped
+abbrev pub entered : State → ℕ → Call → Decision State → Stepped
 entered s client call d = stepped (own_of d) (and_then (forced_by (state_by s client call d) call d) settled)
 
 -- refuse, grant or wait; after a grant the calls end that it ends; then settle

@@ -12,7 +12,7 @@ AreNotReady s = (place : ℕ) → is_ready s place ≡ false
 
 -- the client of each has the rights on the object that the call needs
 abbrev pub ArePermitted : State → Type 0
-ArePermitted s = (place : ℕ) → IfSome (slice_get s.parked place) (λ w. first_denial (creds_at s w.client) (needs s w.call) ≡ None)
+ArePermitted s = (place : ℕ) → IfSome (slice_get s.parked place) (λ w. first_denial (creds_at s w.client) (needs s w.client w.call) ≡ None)
 
 -- no client waits twice
 abbrev pub WaitOnce : State → Type 0

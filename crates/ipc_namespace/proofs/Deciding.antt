@@ -1,30 +1,32 @@
 -- Laws of the decision, by cases over the calls: one line for each call.
-use Rattle.std.proofs.Common.{◌≡◌, ℕ, Bool, true, false, List, [], ◌∷◌, map, length, refl, sym, ap, ◌∙◌, cond, Option, Some, None, Ok}
+use Rattle.std.proofs.Common.{◌≡◌, ℕ, Bool, true, false, List, [], ◌∷◌, length, refl, sym, ap, ◌∙◌, cond, Option, Some, None, Ok}
 use Rattle.std.specs.FinMap as finite
-use Rattle.std.specs.Prelude.{not, ◌==◌, ◌&&◌, ◌||◌, ℤ, pos, int_le, nat_le, option_map, slice_get, unwrap_or}
-use Rattle.std.proofs.lemmas.Bool.{false≢true, true≢false}
+use Rattle.std.specs.Prelude.{if◌then◌else◌, ◌==◌, pos, int_le, nat_le, option_map, slice_get, unwrap_or}
+use Rattle.std.proofs.lemmas.Bool.{true≢false}
 use Rattle.ipc_call.specs.declared.calls.Call.{Call}
 use Rattle.ipc_call.specs.declared.calls.Call.TheVariants.{MsgGet, MsgSnd, MsgRcv, IpcStat, IpcSet, IpcRmid, Interrupt}
 use Rattle.ipc_call.specs.declared.calls.Kind.{Kind}
 use Rattle.ipc_call.specs.declared.calls.Kind.TheVariants as kinds
 use Rattle.ipc_call.specs.declared.replies.Waiting.{Waiting}
 use Rattle.ipc_call.specs.declared.rules.Rule.{Rule}
-use Rattle.ipc_call.specs.declared.rules.Rule.TheVariants.{NoKey, KeyExists, BadArgument, BadType, TextTooLong, QueueFull, MessageTooLong}
+use Rattle.ipc_call.specs.declared.rules.Rule.TheVariants.{BadArgument, BadId, BadType, NoKey, NoProcess, NoSlot, TextTooLong}
 use Rattle.ipc_creds.specs.Credentials.{Credentials}
 use Rattle.ipc_perm.specs.declared.perms.Perm.{Perm}
-use Rattle.ipc_perm.specs.Access.{Control, Need, Permission, SameUser, asked_of, denial}
+use Rattle.ipc_perm.specs.Access.{Control, Permission, Resource}
 use Rattle.ipc_ids.specs.Table.{next_id}
 use Rattle.msg_queue.specs.declared.messages.Message.{Message}
-use Rattle.msg_queue.specs.Messages.{is_full}
 use Rattle.ipc_model.specs.State.{Queue, State, creds_at, queue_with_key}
-use Rattle.ipc_model.specs.Decision.{Decision, Refuse, Wait, Serve, by_check, by_checks, check, or_wait}
-use Rattle.ipc_model.specs.Queues.{get_queue, get_found, make_queue, with_queue, new_queue, asks_to_make, asks_alone}
-use Rattle.ipc_model.specs.Messages.{chosen, cuts, excepts, queue_at, receive_found, send_found, send_message, take_chosen, to_alter, to_read}
-use Rattle.ipc_model.specs.Interrupts.{interrupt, interrupt_found, process}
-use Rattle.ipc_call.specs.declared.limits.Limits.{Limits}
-use Rattle.ipc_model.specs.Controls.{needs_of_set, perm_of, remove_found, remove_object, set_found, set_object, stat_object, stat_queue, takes_qbytes}
-use Rattle.ipc_model.specs.Decide.{decide, can_wait, goes_on}
+use Rattle.ipc_model.specs.Decision.{Decision, Refuse, Wait, Serve, goes_on}
+use Rattle.ipc_model.specs.Plan.{Needs, Passes, decision, found, in_order, ◌⨾◌}
+use Rattle.ipc_model.specs.Plan as plans
+use Rattle.ipc_namespace.proofs.Plans.{blank, blank-alike, blank-found, goes_on-never, never-found, never-if, never_waits}
+use Rattle.ipc_model.specs.Queues.{asks_to_make, get_queue, get_found, make_queue}
+use Rattle.ipc_model.specs.Messages.{chosen, excepts, queue_at, take_chosen, to_read}
+use Rattle.ipc_model.specs.Interrupts.{interrupt, process}
+use Rattle.ipc_model.specs.Controls.{is_within, perm_of, remove_object, set_object, stat_object, takes_qbytes, with_set, without as without_object_of}
+use Rattle.ipc_model.specs.Decide.{can_wait, decide, plan}
 use Rattle.ipc_call.specs.declared.replies.Answer.{Answer}
+use Rattle.ipc_call.specs.declared.replies.Answer.TheVariants.{Done}
 use Rattle.ipc_model.specs.Step.{Outcome, at_moment, end_at, end_waiting, ended_by, is_ready, without}
 use Rattle.ipc_namespace.specs.declared.decisions.Decided.{Decided}
 use Rattle.ipc_namespace.specs.declared.decisions.Decided.TheVariants as ways
@@ -36,99 +38,90 @@ goes (ways.Refuse rule) = true
 goes ways.Wait = false
 goes ways.Go = true
 
-pub goes-decided : (d : Decision) → goes (decided d) ≡ goes_on d
+pub goes-decided : (d : Decision State) → goes (decided d) ≡ goes_on d
 goes-decided (Refuse rule) = refl
 goes-decided Wait = refl
 goes-decided (Serve answer new) = refl
 
-goes_on-if : (b : Bool) (x y : Decision) → goes_on x ≡ true → goes_on y ≡ true → goes_on (cond b x y) ≡ true
-goes_on-if true x y p q = p
-goes_on-if false x y p q = q
+never-get_found : (s : State) (c : Credentials) (key flags : ℕ) (there : Option (ℕ × Perm)) → never_waits (get_found s c key flags there) ≡ true
+never-get_found s c key flags None = never-found (next_id s.queues) NoSlot tt _ (λ id. refl)
+never-get_found s c key flags (Some there) = refl
 
-goes_on-check : (o : Option Rule) (d : Decision) → goes_on d ≡ true → goes_on (by_check o d) ≡ true
-goes_on-check None d p = p
-goes_on-check (Some rule) d p = refl
-
-goes_on-with_queue : (s : State) (queue : Queue) (id : Option ℕ) → goes_on (with_queue s queue id) ≡ true
-goes_on-with_queue s queue None = refl
-goes_on-with_queue s queue (Some id) = refl
-
-goes_on-get_found : (s : State) (c : Credentials) (key flags : ℕ) (found : Option (ℕ × Perm)) → goes_on (get_found s c key flags found) ≡ true
-goes_on-get_found s c key flags None =
-    goes_on-check (check (asks_to_make flags) NoKey) (make_queue s c key flags) (goes_on-with_queue s (new_queue s c key flags) (next_id s.queues))
-goes_on-get_found s c key flags (Some found) =
-    goes_on-check (check (not (asks_to_make flags && asks_alone flags)) KeyExists) _ (goes_on-check (denial c (Permission found.1 (asked_of flags))) _ refl)
-
-pub goes_on-get_queue : (s : State) (c : Credentials) (key flags : ℕ) → goes_on (get_queue s c key flags) ≡ true
+pub goes_on-get_queue : (s : State) (c : Credentials) (key flags : ℕ) → goes_on (decision c (get_queue s c key flags)) ≡ true
 goes_on-get_queue s c key flags =
-    goes_on-if (key == 0) (make_queue s c 0 flags) (get_found s c key flags (queue_with_key s key)) (goes_on-with_queue s (new_queue s c 0 flags) (next_id s.queues)) (goes_on-get_found s c key flags (queue_with_key s key))
+    goes_on-never c (get_queue s c key flags)
+    (never-if (key == 0) (make_queue s c 0 flags) (get_found s c key flags (queue_with_key s key)) (never-found (next_id s.queues) NoSlot tt _ (λ id. refl)) (never-get_found s c key flags (queue_with_key s key)))
 
-goes_on-remove_found : (s : State) (c : Credentials) (kind : Kind) (id : ℕ) (perm : Option Perm) → goes_on (remove_found s c kind id perm) ≡ true
-goes_on-remove_found s c kind id None = refl
-goes_on-remove_found s c kind id (Some perm) = goes_on-check (denial c (Control perm)) _ refl
+pub goes_on-remove_object : (s : State) (c : Credentials) (kind : Kind) (id : ℕ) → goes_on (decision c (remove_object s kind id)) ≡ true
+goes_on-remove_object s c kind id = goes_on-never c (remove_object s kind id) (never-found (perm_of s kind id) BadId tt _ (λ perm. refl))
 
-pub goes_on-remove_object : (s : State) (c : Credentials) (kind : Kind) (id : ℕ) → goes_on (remove_object s c kind id) ≡ true
-goes_on-remove_object s c kind id = goes_on-remove_found s c kind id (perm_of s kind id)
+never-stat_object : (s : State) (kind : Kind) (id : ℕ) → never_waits (stat_object s kind id) ≡ true
+never-stat_object s kinds.Queue id = never-found (finite.get s.queues.objects id) BadId tt _ (λ queue. refl)
+never-stat_object s kinds.Sems id = refl
+never-stat_object s kinds.Segment id = refl
 
-goes_on-stat_queue : (s : State) (c : Credentials) (queue : Option Queue) → goes_on (stat_queue s c queue) ≡ true
-goes_on-stat_queue s c None = refl
-goes_on-stat_queue s c (Some queue) = goes_on-check (denial c (Permission queue.perm (record { read = true; alter = false }))) _ refl
+goes_on-stat_object : (s : State) (c : Credentials) (kind : Kind) (id : ℕ) → goes_on (decision c (stat_object s kind id)) ≡ true
+goes_on-stat_object s c kind id = goes_on-never c (stat_object s kind id) (never-stat_object s kind id)
 
-goes_on-stat_object : (s : State) (c : Credentials) (kind : Kind) (id : ℕ) → goes_on (stat_object s c kind id) ≡ true
-goes_on-stat_object s c kinds.Queue id = goes_on-stat_queue s c (finite.get s.queues.objects id)
-goes_on-stat_object s c kinds.Sems id = refl
-goes_on-stat_object s c kinds.Segment id = refl
+goes_on-interrupt : (s : State) (c : Credentials) (pid : ℕ) → goes_on (decision c (interrupt s pid)) ≡ true
+goes_on-interrupt s c pid = goes_on-never c (interrupt s pid) (never-found (process s pid) NoProcess tt _ (λ target. refl))
 
--- calls that may wait: what is decided on them depends neither on the waiting list nor on the clock
-decided-both : (b : Bool) (x y u v : Decision) → decided x ≡ decided u → decided y ≡ decided v → decided (cond b x y) ≡ decided (cond b u v)
-decided-both true x y u v p q = p
-decided-both false x y u v p q = q
+never-set : (s : State) (within : Bool) → never_waits (in_order (if within then [] else Needs Resource ∷ []) (plans.Serve Done s)) ≡ true
+never-set s true = refl
+never-set s false = refl
 
-decided-alike : (o : Option Rule) (x y : Decision) → decided x ≡ decided y → decided (by_check o x) ≡ decided (by_check o y)
-decided-alike None x y p = p
-decided-alike (Some rule) x y p = refl
+goes_on-set_object : (s : State) (c : Credentials) (kind : Kind) (id uid gid mode : ℕ) (qbytes : Option ℕ) → goes_on (decision c (set_object s kind id uid gid mode qbytes)) ≡ true
+goes_on-set_object s c kind id uid gid mode qbytes =
+    goes_on-never c (set_object s kind id uid gid mode qbytes) (never-found (perm_of s kind id) BadId tt _ (λ perm. never-set (with_set s kind id uid gid mode qbytes) (is_within s qbytes)))
 
-send_found-alike : (s t : State) (c : Credentials) (client id flags : ℕ) (message : Message) (queue : Option Queue) → decided (send_found s c client id flags message queue) ≡ decided (send_found t c client id flags message queue)
-send_found-alike s t c client id flags message None = refl
-send_found-alike s t c client id flags message (Some queue) =
-    decided-alike (denial c (Permission queue.perm to_alter)) _ _ (decided-both (is_full queue.messages queue.qbytes (length message.text)) (or_wait flags QueueFull) _ (or_wait flags QueueFull) _ refl refl)
+-- what is decided depends neither on the waiting list nor on the clock, but for what is changed
+module _ (s : State) (parked : List Waiting) (clock : ℕ) where
+  abbrev later : State
+  later = record s { parked = parked; clock = clock }
 
-send_message-alike : (s t : State) (c : Credentials) (client id flags : ℕ) (message : Message) → s.limits ≡ t.limits → s.queues ≡ t.queues → decided (send_message s c client id flags message) ≡ decided (send_message t c client id flags message)
-send_message-alike s t c client id flags message limits queues =
-    decided-alike (check (int_le (pos 1) message.mtype) BadType) _ _
-    (ap (λ (l : Limits). decided (by_check (check (nat_le (length message.text) l.msg_max) TextTooLong) (send_found s c client id flags message (queue_at s id)))) limits
-    ∙ decided-alike (check (nat_le (length message.text) t.limits.msg_max) TextTooLong) _ _
-    (send_found-alike s t c client id flags message (queue_at s id) ∙ ap (λ q. decided (send_found t c client id flags message (finite.get q.objects id))) queues))
+  make-alike : (c : Credentials) (key flags : ℕ) → blank (make_queue later c key flags) ≡ blank (make_queue s c key flags)
+  make-alike c key flags = blank-found (next_id s.queues) NoSlot tt _ _ (λ id. refl)
 
-take_chosen-alike : (s t : State) (client id size flags : ℕ) (queue : Queue) (found : Option (ℕ × Message)) → decided (take_chosen s client id size flags queue found) ≡ decided (take_chosen t client id size flags queue found)
-take_chosen-alike s t client id size flags queue None = refl
-take_chosen-alike s t client id size flags queue (Some found) = decided-alike (check (nat_le (length found.1.text) size || cuts flags) MessageTooLong) _ _ refl
+  get-alike : (c : Credentials) (key flags : ℕ) (private : Bool) (there : Option (ℕ × Perm)) → blank (cond private (make_queue later c 0 flags) (get_found later c key flags there)) ≡ blank (cond private (make_queue s c 0 flags) (get_found s c key flags there))
+  get-alike c key flags true there = make-alike c 0 flags
+  get-alike c key flags false None = ap (λ p. Passes (asks_to_make flags) NoKey tt ⨾ p) (make-alike c key flags)
+  get-alike c key flags false (Some there) = refl
 
-receive_found-alike : (s t : State) (c : Credentials) (client id size : ℕ) (msgtyp : ℤ) (flags : ℕ) (queue : Option Queue) → decided (receive_found s c client id size msgtyp flags queue) ≡ decided (receive_found t c client id size msgtyp flags queue)
-receive_found-alike s t c client id size msgtyp flags None = refl
-receive_found-alike s t c client id size msgtyp flags (Some queue) = decided-alike (denial c (Permission queue.perm to_read)) _ _ (take_chosen-alike s t client id size flags queue (chosen queue.messages msgtyp (excepts flags)))
+  take-alike : (client id size flags : ℕ) (queue : Queue) (taken : Option (ℕ × Message)) → blank (take_chosen later client id size flags queue taken) ≡ blank (take_chosen s client id size flags queue taken)
+  take-alike client id size flags queue None = refl
+  take-alike client id size flags queue (Some taken) = refl
 
-goes_on-interrupt_found : (s : State) (c : Credentials) (target : Option Credentials) → goes_on (interrupt_found s c target) ≡ true
-goes_on-interrupt_found s c None = refl
-goes_on-interrupt_found s c (Some target) = goes_on-check (denial c (SameUser target.euid)) _ refl
+  perm-alike : (kind : Kind) (id : ℕ) → perm_of later kind id ≡ perm_of s kind id
+  perm-alike kinds.Queue id = refl
+  perm-alike kinds.Sems id = refl
+  perm-alike kinds.Segment id = refl
 
-goes_on-interrupt : (s : State) (c : Credentials) (pid : ℕ) → goes_on (interrupt s c pid) ≡ true
-goes_on-interrupt s c pid = goes_on-interrupt_found s c (process s pid)
+  resource-alike : (within : Bool) (new old : State) → blank (in_order (if within then [] else Needs Resource ∷ []) (plans.Serve Done new)) ≡ blank (in_order (if within then [] else Needs Resource ∷ []) (plans.Serve Done old))
+  resource-alike true new old = refl
+  resource-alike false new old = refl
 
-goes_on-denials : (c : Credentials) (needs : List Need) (d : Decision) → goes_on d ≡ true → goes_on (by_checks (map (denial c) needs) d) ≡ true
-goes_on-denials c [] d p = p
-goes_on-denials c (need ∷ needs) d p = goes_on-check (denial c need) _ (goes_on-denials c needs d p)
-
-goes_on-set_found : (s : State) (c : Credentials) (kind : Kind) (id uid gid mode : ℕ) (qbytes : Option ℕ) (perm : Option Perm) → goes_on (set_found s c kind id uid gid mode qbytes perm) ≡ true
-goes_on-set_found s c kind id uid gid mode qbytes None = refl
-goes_on-set_found s c kind id uid gid mode qbytes (Some perm) = goes_on-denials c (needs_of_set s (Some perm) qbytes) _ refl
-
-goes_on-set_object : (s : State) (c : Credentials) (kind : Kind) (id uid gid mode : ℕ) (qbytes : Option ℕ) → goes_on (set_object s c kind id uid gid mode qbytes) ≡ true
-goes_on-set_object s c kind id uid gid mode qbytes = goes_on-check (check (takes_qbytes kind qbytes) BadArgument) _ (goes_on-set_found s c kind id uid gid mode qbytes (perm_of s kind id))
+  pub plan-alike : (client : ℕ) (call : Call) → blank (plan later client call) ≡ blank (plan s client call)
+  unfolding plan
+  plan-alike client (MsgGet key flags) = get-alike (creds_at s client) key flags (key == 0) (queue_with_key s key)
+  plan-alike client (MsgSnd id mtype text flags) = ap (λ p. Passes (int_le (pos 1) mtype) BadType tt ⨾ Passes (nat_le (length text) s.limits.msg_max) TextTooLong tt ⨾ p) (blank-found (queue_at s id) BadId tt _ _ (λ queue. refl))
+  plan-alike client (MsgRcv id size msgtyp flags) =
+      blank-found (queue_at s id) BadId tt _ _ (λ (queue : Queue). ap (λ p. Needs (Permission queue.perm to_read) ⨾ p) (take-alike client id size flags queue (chosen queue.messages msgtyp (excepts flags))))
+  plan-alike client (IpcStat kinds.Queue id) = blank-found (queue_at s id) BadId tt _ _ (λ queue. refl)
+  plan-alike client (IpcStat kinds.Sems id) = refl
+  plan-alike client (IpcStat kinds.Segment id) = refl
+  plan-alike client (IpcSet kind id uid gid mode qbytes) =
+      let new = with_set later kind id uid gid mode qbytes in
+      ap (λ p. Passes (takes_qbytes kind qbytes) BadArgument tt ⨾ p)
+      (ap (λ o. blank (found o BadId tt (λ perm. Needs (Control perm) ⨾ in_order (if is_within s qbytes then [] else Needs Resource ∷ []) (plans.Serve Done new)))) (perm-alike kind id)
+      ∙ blank-found (perm_of s kind id) BadId tt _ _ (λ perm. ap (λ p. Needs (Control perm) ⨾ p) (resource-alike (is_within s qbytes) new (with_set s kind id uid gid mode qbytes))))
+  plan-alike client (IpcRmid kind id) =
+      ap (λ o. blank (found o BadId tt (λ perm. Needs (Control perm) ⨾ plans.Serve Done (without_object_of later kind id)))) (perm-alike kind id)
+      ∙ blank-found (perm_of s kind id) BadId tt _ _ (λ perm. refl)
+  plan-alike client (Interrupt pid) = blank-found (process s pid) NoProcess tt _ _ (λ target. refl)
 
 -- only a call of a kind that may wait is made to wait
 pub only_parkable : (s : State) (client : ℕ) (call : Call) → goes_on (decide s client call) ≡ false → can_wait call ≡ true
-unfolding decide
+unfolding plan
 only_parkable s client (MsgGet key flags) waits = absurd (true≢false (sym (goes_on-get_queue s (creds_at s client) key flags) ∙ waits))
 only_parkable s client (MsgSnd id mtype text flags) waits = refl
 only_parkable s client (MsgRcv id size msgtyp flags) waits = refl
@@ -137,40 +130,25 @@ only_parkable s client (IpcSet kind id uid gid mode qbytes) waits = absurd (true
 only_parkable s client (Interrupt pid) waits = absurd (true≢false (sym (goes_on-interrupt s (creds_at s client) pid) ∙ waits))
 only_parkable s client (IpcRmid kind id) waits = absurd (true≢false (sym (goes_on-remove_object s (creds_at s client) kind id) ∙ waits))
 
-goes_on-decided : (d e : Decision) → decided d ≡ decided e → goes_on d ≡ goes_on e
+goes_on-decided : (d e : Decision State) → decided d ≡ decided e → goes_on d ≡ goes_on e
 goes_on-decided d e same = sym (goes-decided d) ∙ ap goes same ∙ goes-decided e
 
--- a call that may wait is decided alike with and without its own place in the list
+-- a call is decided alike with and without its own place in the list
 pub decided_alike : (s : State) (place client : ℕ) (call : Call) → can_wait call ≡ true → decided (decide (without s place) client call) ≡ decided (decide s client call)
-unfolding decide
-decided_alike s place client (MsgGet key flags) can = absurd (false≢true can)
-decided_alike s place client (MsgSnd id mtype text flags) can = send_message-alike (without s place) s (creds_at s client) client id flags (record { mtype = mtype; text = text }) refl refl
-decided_alike s place client (MsgRcv id size msgtyp flags) can = receive_found-alike (without s place) s (creds_at s client) client id size msgtyp flags (queue_at s id)
-decided_alike s place client (IpcStat kind id) can = absurd (false≢true can)
-decided_alike s place client (IpcSet kind id uid gid mode qbytes) can = absurd (false≢true can)
-decided_alike s place client (IpcRmid kind id) can = absurd (false≢true can)
-decided_alike s place client (Interrupt pid) can = absurd (false≢true can)
+decided_alike s place client call can = blank-alike (creds_at s client) (plan (without s place) client call) (plan s client call) (plan-alike s (without s place).parked s.clock client call)
 
 ready_alike : (s : State) (place client : ℕ) (call : Call) → can_wait call ≡ true → goes_on (decide (without s place) client call) ≡ goes_on (decide s client call)
 ready_alike s place client call can = goes_on-decided (decide (without s place) client call) (decide s client call) (decided_alike s place client call can)
 
 -- a call is decided alike at each moment, but for what it is granted
 pub clock_alike : (s : State) (now client : ℕ) (call : Call) → goes_on (decide (at_moment s now) client call) ≡ goes_on (decide s client call)
-unfolding decide
-clock_alike s now client (MsgGet key flags) = goes_on-get_queue (at_moment s now) (creds_at s client) key flags ∙ sym (goes_on-get_queue s (creds_at s client) key flags)
-clock_alike s now client (MsgSnd id mtype text flags) = goes_on-decided _ _ (send_message-alike (at_moment s now) s (creds_at s client) client id flags (record { mtype = mtype; text = text }) refl refl)
-clock_alike s now client (MsgRcv id size msgtyp flags) = goes_on-decided _ _ (receive_found-alike (at_moment s now) s (creds_at s client) client id size msgtyp flags (queue_at s id))
-clock_alike s now client (IpcStat kind id) = goes_on-stat_object (at_moment s now) (creds_at s client) kind id ∙ sym (goes_on-stat_object s (creds_at s client) kind id)
-clock_alike s now client (IpcSet kind id uid gid mode qbytes) =
-    goes_on-set_object (at_moment s now) (creds_at s client) kind id uid gid mode qbytes ∙ sym (goes_on-set_object s (creds_at s client) kind id uid gid mode qbytes)
-clock_alike s now client (Interrupt pid) = goes_on-interrupt (at_moment s now) (creds_at s client) pid ∙ sym (goes_on-interrupt s (creds_at s client) pid)
-clock_alike s now client (IpcRmid kind id) = goes_on-remove_object (at_moment s now) (creds_at s client) kind id ∙ sym (goes_on-remove_object s (creds_at s client) kind id)
+clock_alike s now client call = goes_on-decided _ _ (blank-alike (creds_at s client) (plan (at_moment s now) client call) (plan s client call) (plan-alike s s.parked (at_moment s now).clock client call))
 
 pub is_ready-at : (s : State) (place : ℕ) (w : Waiting) → slice_get s.parked place ≡ Some w → can_wait w.call ≡ true → is_ready s place ≡ goes_on (decide s w.client w.call)
 is_ready-at s place w here can =
     ap (λ o. unwrap_or (option_map (λ (v : Waiting). goes_on (decide (without s place) v.client v.call)) o) false) here ∙ ready_alike s place w.client w.call can
 
-pub refused : (d : Decision) (rule : Rule) → ways.Refuse rule ≡ decided d → d ≡ Refuse rule
+pub refused : (d : Decision State) (rule : Rule) → ways.Refuse rule ≡ decided d → d ≡ Refuse rule
 refused (Refuse other) rule is = let same : rule ≡ other = cc in ap Refuse (sym same)
 refused Wait rule is = cc
 refused (Serve answer new) rule is = cc
@@ -181,6 +159,6 @@ module _ (s rest : State) (place : ℕ) (w : Waiting) (here : slice_get s.parked
   end_at-left = ap (λ o. end_waiting s place o) here ∙ ap (λ (t : State). ended_by t w.client (decide t w.client w.call)) (sym left)
 
 -- a call that ended by its grant
-pub ended-served : (s new left : State) (client : ℕ) (d : Decision) (answer : Answer) (outcome : Outcome) → d ≡ Serve answer left → new ≡ left → outcome ≡ Ok answer
+pub ended-served : (s new left : State) (client : ℕ) (d : Decision State) (answer : Answer) (outcome : Outcome) → d ≡ Serve answer left → new ≡ left → outcome ≡ Ok answer
     → ended_by s client d ≡ record { state = new; ended = record { client = client; outcome = outcome } ∷ [] }
 ended-served s new left client d answer outcome is same told = ap (ended_by s client) is ∙ (λ i. record { state = sym same i; ended = record { client = client; outcome = sym told i } ∷ [] })

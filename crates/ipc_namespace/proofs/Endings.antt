@@ -1,23 +1,25 @@
 -- The waiting calls that a granted call ends: the code ends the first until none is left, the definition filters the list.
-use Rattle.std.proofs.Common.{◌≡◌, ℕ, zero, suc, ◌+◌, ◌<◌, true, List, [], ◌∷◌, ◌++◌, cond, length, refl, sym, ap, subst, ◌∙◌, arith, Option, Some, None, Err}
+use Rattle.std.proofs.Common.{◌≡◌, ℕ, ℤ, zero, suc, ◌+◌, ◌<◌, true, List, [], ◌∷◌, ◌++◌, cond, length, refl, sym, ap, subst, ◌∙◌, arith, Option, Some, None, Err}
 use Rattle.std.specs.Prelude.{remove, slice_get, is_none, IfSome}
 use Rattle.std.proofs.lemmas.Option.{none-some, same_Some, slice_get_within}
 use Rattle.std.proofs.lemmas.List.Edits.{length-remove}
 use Rattle.ipc_call.specs.declared.calls.Call.{Call}
-use Rattle.ipc_call.specs.declared.calls.Call.TheVariants.{MsgGet, MsgSnd, MsgRcv, IpcStat, IpcSet, IpcRmid, Interrupt}
-use Rattle.ipc_call.specs.declared.calls.Kind.{Kind}
-use Rattle.ipc_call.specs.declared.calls.Kind.TheVariants as kinds
 use Rattle.ipc_call.specs.declared.replies.Waiting.{Waiting}
 use Rattle.ipc_call.specs.declared.replies.Ended.{Ended}
 use Rattle.ipc_call.specs.declared.rules.Rule.{Rule}
-use Rattle.ipc_model.specs.State.{State, creds_at, is_waiting}
-use Rattle.ipc_model.specs.Controls.{needs_of_control, needs_of_set, needs_of_stat, perm_of}
-use Rattle.ipc_model.specs.Decide.{needs}
+use Rattle.ipc_perm.specs.Access.{Permission}
+use Rattle.msg_queue.specs.declared.messages.Message.{Message}
+use Rattle.ipc_model.specs.State.{Queue, State, creds_at, is_waiting}
+use Rattle.ipc_model.specs.Plan.{needs_in}
+use Rattle.ipc_model.specs.Messages.{chosen, excepts, receive_found, take_chosen, to_read}
+use Rattle.ipc_model.specs.Decide.{needs, plan}
+use Rattle.ipc_namespace.proofs.Plans.{needs-blank}
+use Rattle.ipc_namespace.proofs.Deciding.{plan-alike}
 use Rattle.ipc_model.specs.Forced.{first_denial, waits_on}
 use Rattle.ipc_model.specs.Step.{told_forced, without}
 use Rattle.ipc_namespace.specs.declared.forcing.Forcing.{Forcing}
 use Rattle.ipc_namespace.specs.declared.forcing.Forcing.TheVariants as forcings
-use Rattle.ipc_namespace.specs.Namespace.{ended_as, forced_as, left_by, place_of}
+use Rattle.ipc_namespace.specs.Namespace.{ended_as, forced_as, left_by, needs_for, place_of}
 use Rattle.ipc_namespace.proofs.Places.{own-at}
 
 -- none of the calls before this place ends
@@ -53,28 +55,25 @@ module _ (s : State) (parked : List Waiting) where
   abbrev other : State
   other = record s { parked = parked }
 
-  perm-alike : (kind : Kind) (id : ℕ) → perm_of other kind id ≡ perm_of s kind id
-  perm-alike kinds.Queue id = refl
-  perm-alike kinds.Sems id = refl
-  perm-alike kinds.Segment id = refl
-
-  pub needs-alike : (call : Call) → needs other call ≡ needs s call
-  unfolding needs
-  needs-alike (MsgGet key flags) = refl
-  needs-alike (MsgSnd id mtype text flags) = refl
-  needs-alike (MsgRcv id size msgtyp flags) = refl
-  needs-alike (IpcStat kind id) = ap needs_of_stat (perm-alike kind id)
-  needs-alike (IpcSet kind id uid gid mode qbytes) = ap (λ perm. needs_of_set s perm qbytes) (perm-alike kind id)
-  needs-alike (IpcRmid kind id) = ap needs_of_control (perm-alike kind id)
-  needs-alike (Interrupt pid) = refl
+  pub needs-alike : (client : ℕ) (call : Call) → needs other client call ≡ needs s client call
+  needs-alike client call = needs-blank (plan other client call) (plan s client call) (plan-alike s parked s.clock client call)
 
   forced_as-alike : (forcing : Forcing) (w : Waiting) → forced_as other forcing w ≡ forced_as s forcing w
-  forced_as-alike (forcings.Denied kind id) w = ap (λ ns. cond (waits_on kind id w.call) (first_denial (creds_at s w.client) ns) None) (needs-alike w.call)
+  forced_as-alike (forcings.Denied kind id) w = ap (λ ns. cond (waits_on kind id w.call) (first_denial (creds_at s w.client) ns) None) (needs-alike w.client w.call)
   forced_as-alike (forcings.Removed kind id) w = refl
   forced_as-alike (forcings.Interrupted pid) w = refl
 
   pub same_rule : (forcing : Forcing) → forced_as other forcing ≡ forced_as s forcing
   same_rule forcing = λ i w. forced_as-alike forcing w i
+
+-- a receiver needs to read, whatever it finds
+taken-needs : (s : State) (client id size flags : ℕ) (queue : Queue) (taken : Option (ℕ × Message)) → needs_in (take_chosen s client id size flags queue taken) ≡ []
+taken-needs s client id size flags queue None = refl
+taken-needs s client id size flags queue (Some taken) = refl
+
+pub received-needs : (s : State) (client id size : ℕ) (msgtyp : ℤ) (flags : ℕ) (queue : Option Queue) → needs_in (receive_found s client id size msgtyp flags queue) ≡ needs_for to_read queue
+received-needs s client id size msgtyp flags None = refl
+received-needs s client id size msgtyp flags (Some queue) = ap (λ ns. Permission queue.perm to_read ∷ ns) (taken-needs s client id size flags queue (chosen queue.messages msgtyp (excepts flags)))
 
 IfSome-at : {A : Type 0} (o : Option A) (x : A) (P : A → Type 0) → o ≡ Some x → IfSome o P → P x
 IfSome-at o x P is p = subst (λ v. IfSome v P) is p

@@ -1,3 +1,4 @@
+pub mod Plans
 pub mod Deciding
 pub mod Endings
 pub mod Granting

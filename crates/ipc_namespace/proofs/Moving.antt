@@ -10,12 +10,15 @@ use Rattle.ipc_call.specs.declared.replies.Answer.TheVariants.{Done}
 use Rattle.ipc_call.specs.declared.replies.Waiting.{Waiting}
 use Rattle.ipc_creds.specs.Credentials.{Credentials}
 use Rattle.ipc_perm.specs.declared.perms.Perm.{Perm}
-use Rattle.ipc_perm.specs.Access.{Control, SameUser, denial}
+use Rattle.ipc_perm.specs.Access.{Control, Need, SameUser}
 use Rattle.ipc_model.specs.State.{State}
 use Rattle.ipc_model.specs.Decision.{Serve}
+use Rattle.ipc_model.specs.Plan.{Needs, decision, found, ◌⨾◌}
+use Rattle.ipc_model.specs.Plan as plans
+use Rattle.ipc_call.specs.declared.rules.Rule.TheVariants.{BadId, NoProcess}
 use Rattle.ipc_model.specs.Decide.{decide}
-use Rattle.ipc_model.specs.Controls.{perm_of, remove_found, remove_object, without}
-use Rattle.ipc_model.specs.Interrupts.{interrupt, interrupt_found, process}
+use Rattle.ipc_model.specs.Controls.{perm_of, remove_object, without}
+use Rattle.ipc_model.specs.Interrupts.{interrupt, process}
 use Rattle.ipc_model.specs.Forced.{forced}
 use Rattle.ipc_model.specs.Step.{Moved, force, forced_by, state_by}
 use Rattle.ipc_namespace.specs.declared.decisions.Decided.TheVariants as ways
@@ -23,7 +26,7 @@ use Rattle.ipc_namespace.specs.declared.forcing.Forcing.TheVariants as forcings
 use Rattle.ipc_namespace.specs.Decisions.{decided}
 use Rattle.ipc_namespace.specs.Namespace.{forced_as, left_by, moved_by, sends_on}
 use Rattle.ipc_namespace.proofs.Endings.{ended-none, left-none}
-use Rattle.ipc_namespace.proofs.Granting.{by_check-go}
+use Rattle.ipc_namespace.proofs.Plans.{end-go}
 use Rattle.ipc_namespace.proofs.Reserved.{none_left}
 
 -- a call that was granted: what it ends follows
@@ -49,15 +52,15 @@ moved-ok (Ok answer) s new client call same is none served =
     let moved = moved-at s new client call same answer is served ∙ unforced new same none in
     (sym (ap (λ (m : Moved). m.state) moved), sym (ap (λ (m : Moved). m.ended) moved))
 
-removed-found : (s : State) (c : Credentials) (kind : Kind) (id : ℕ) (perm : Option Perm) → decided (remove_found s c kind id perm) ≡ ways.Go → remove_found s c kind id perm ≡ Serve Done (without s kind id)
-removed-found s c kind id None go = cc
-removed-found s c kind id (Some perm) go = by_check-go (denial c (Control perm)) (Serve Done (without s kind id)) go
+removed-found : (s new : State) (need : Perm → Need) (perm : Option Perm) (c : Credentials) → decided (decision c (found perm BadId tt (λ p. Needs (need p) ⨾ plans.Serve Done new))) ≡ ways.Go → decision c (found perm BadId tt (λ p. Needs (need p) ⨾ plans.Serve Done new)) ≡ Serve Done new
+removed-found s new need None c go = cc
+removed-found s new need (Some perm) c go = end-go c (Needs (need perm) ⨾ plans.Serve Done new) go
 
-pub removed : (s : State) (c : Credentials) (kind : Kind) (id : ℕ) → decided (remove_object s c kind id) ≡ ways.Go → remove_object s c kind id ≡ Serve Done (without s kind id)
-removed s c kind id go = removed-found s c kind id (perm_of s kind id) go
+pub removed : (s : State) (c : Credentials) (kind : Kind) (id : ℕ) → decided (decision c (remove_object s kind id)) ≡ ways.Go → decision c (remove_object s kind id) ≡ Serve Done (without s kind id)
+removed s c kind id go = removed-found s (without s kind id) (λ perm. Control perm) (perm_of s kind id) c go
 
 -- before a queue is removed, none sends to it
-pub removed-left : (s : State) (c : Credentials) (kind : Kind) (id : ℕ) → decided (remove_object s c kind id) ≡ ways.Go → sends_on id (left_by (forced_as s (forcings.Removed kind id)) s.parked) ≡ 0
+pub removed-left : (s : State) (c : Credentials) (kind : Kind) (id : ℕ) → decided (decision c (remove_object s kind id)) ≡ ways.Go → sends_on id (left_by (forced_as s (forcings.Removed kind id)) s.parked) ≡ 0
 removed-left s c kinds.Queue id go = none_left id s.parked
 removed-left s c kinds.Sems id go = cc
 removed-left s c kinds.Segment id go = cc
@@ -71,12 +74,12 @@ removed-after s kinds.Segment id = refl
 served-same : (answer other : Answer) (s t : State) → Serve answer s ≡ Serve other t → s ≡ t
 served-same answer other s t is = cc
 
-pub left-removed : (s new : State) (c : Credentials) (kind : Kind) (id : ℕ) (answer : Answer) → decided (remove_object s c kind id) ≡ ways.Go → remove_object s c kind id ≡ Serve answer new → new ≡ without s kind id
+pub left-removed : (s new : State) (c : Credentials) (kind : Kind) (id : ℕ) (answer : Answer) → decided (decision c (remove_object s kind id)) ≡ ways.Go → decision c (remove_object s kind id) ≡ Serve answer new → new ≡ without s kind id
 left-removed s new c kind id answer go served = served-same answer Done new (without s kind id) (sym served ∙ removed s c kind id go)
 
-interrupted-found : (s : State) (c : Credentials) (target : Option Credentials) → decided (interrupt_found s c target) ≡ ways.Go → interrupt_found s c target ≡ Serve Done s
+interrupted-found : (s : State) (c : Credentials) (target : Option Credentials) → decided (decision c (found target NoProcess tt (λ t. Needs (SameUser t.euid) ⨾ plans.Serve Done s))) ≡ ways.Go → decision c (found target NoProcess tt (λ t. Needs (SameUser t.euid) ⨾ plans.Serve Done s)) ≡ Serve Done s
 interrupted-found s c None go = cc
-interrupted-found s c (Some target) go = by_check-go (denial c (SameUser target.euid)) (Serve Done s) go
+interrupted-found s c (Some target) go = end-go c (Needs (SameUser target.euid) ⨾ plans.Serve Done s) go
 
-pub interrupted : (s : State) (c : Credentials) (pid : ℕ) → decided (interrupt s c pid) ≡ ways.Go → interrupt s c pid ≡ Serve Done s
+pub interrupted : (s : State) (c : Credentials) (pid : ℕ) → decided (decision c (interrupt s pid)) ≡ ways.Go → decision c (interrupt s pid) ≡ Serve Done s
 interrupted s c pid go = interrupted-found s c (process s pid) go

@@ -5,7 +5,8 @@ use Rattle.std.specs.List.{find}
 use Rattle.std.proofs.lemmas.Option.{slice_get_within}
 use Rattle.ipc_call.specs.declared.replies.Waiting.{Waiting}
 use Rattle.ipc_model.specs.State.{State}
-use Rattle.ipc_model.specs.Decide.{decide, goes_on}
+use Rattle.ipc_model.specs.Decide.{decide}
+use Rattle.ipc_model.specs.Decision.{goes_on}
 use Rattle.ipc_model.specs.Step.{first_ready, is_ready, settle, settle_from, settled, without}
 use Rattle.ipc_ids.proofs.Least.{least_found, least_none, least_some}
 use Rattle.ipc_namespace.specs.Namespace.{AreParked, place_of}

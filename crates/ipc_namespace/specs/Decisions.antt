@@ -5,7 +5,7 @@ use Rattle.ipc_perm.specs.declared.access.Verdict.TheVariants.{Allowed, Denied}
 use Rattle.ipc_namespace.specs.declared.decisions.Decided.{Decided}
 use Rattle.ipc_namespace.specs.declared.decisions.Decided.TheVariants as ways
 
-abbrev pub decided : Decision → Decided
+abbrev pub decided : {X : Type 0} → Decision X → Decided
 decided (Refuse rule) = ways.Refuse rule
 decided Wait = ways.Wait
 decided (Serve answer new) = ways.Go

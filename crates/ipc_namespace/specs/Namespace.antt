@@ -9,7 +9,9 @@ use Rattle.ipc_call.specs.declared.rules.Rule.{Rule}
 use Rattle.ipc_call.specs.declared.rules.Rule.TheVariants.{Removed, Interrupted}
 use Rattle.ipc_ids.specs.Table.{Table}
 use Rattle.ipc_control.specs.Held.{Held, one_if, room}
-use Rattle.ipc_model.specs.State.{State, creds_at, pid_of}
+use Rattle.ipc_perm.specs.Access.{Need, Permission}
+use Rattle.ipc_perm.specs.declared.access.Want.{Want}
+use Rattle.ipc_model.specs.State.{Queue, State, creds_at, pid_of}
 use Rattle.ipc_model.specs.Decide.{can_wait, decide, needs}
 use Rattle.ipc_model.specs.Forced.{first_denial, waits_on}
 use Rattle.ipc_model.specs.Step.{Moved, forced_by, state_by, told_forced}
@@ -56,9 +58,14 @@ place_of client (w ∷ ws) = if w.client == client then 0 else suc (place_of cli
 
 -- the rule by which a waiting call ends
 abbrev pub forced_as : State → Forcing → Waiting → Option Rule
-forced_as s (forcings.Denied kind id) w = if waits_on kind id w.call then first_denial (creds_at s w.client) (needs s w.call) else None
+forced_as s (forcings.Denied kind id) w = if waits_on kind id w.call then first_denial (creds_at s w.client) (needs s w.client w.call) else None
 forced_as s (forcings.Removed kind id) w = if waits_on kind id w.call then Some Removed else None
 forced_as s (forcings.Interrupted pid) w = if pid == pid_of w.client then Some Interrupted else None
+
+-- what a call that waits needs on its queue
+abbrev pub needs_for : Want → Option Queue → List Need
+needs_for want None = []
+needs_for want (Some queue) = Permission queue.perm want ∷ []
 
 -- what is left of a list of waiting calls, and those that end
 abbrev pub left_by : (Waiting → Option Rule) → List Waiting → List Waiting

@@ -4,6 +4,7 @@
 ghost use Rattle.std.specs.Prelude.{◌≡◌, ℕ, ◌<◌, length, option_copied};
 ghost use Rattle.ipc_model.specs.State.{creds_at};
 ghost use Rattle.ipc_model.specs.Decision.{Serve};
+ghost use Rattle.ipc_model.specs.Plan.{decision};
 ghost use Rattle.ipc_model.specs.Controls.{is_within as is_within_limit, perm_of as perm_in, remove_object, set_object, stat_object};
 ghost use Rattle.ipc_model.specs.Interrupts.{interrupt, process as process_of};
 ghost use Rattle.ipc_namespace.specs.Decisions.{decided};
@@ -19,7 +20,7 @@ use ipc_perm::{Perm, Verdict, decide, may_control, may_interrupt};
 impl Namespace {
     /// The decision on IPC_STAT.
     pub(super) fn decide_stat(&self, creds: &Creds, kind: Kind, id: u32) -> Decided
-        ensures { result ≡ decided (stat_object self.now.state creds.now kind id) }
+        ensures { result ≡ decided (decision creds.now (stat_object self.now.state kind id)) }
     {
         match kind {
             Kind::Queue => match self.queues.get(id) {
@@ -33,8 +34,8 @@ impl Namespace {
     /// Grants IPC_STAT. It takes no memory.
     pub(super) fn grant_stat(&self, client: u32, kind: Kind, id: u32) -> Answer
         requires known { client < length self.now.state.clients }
-        requires go { decided (stat_object self.now.state (creds_at self.now.state client) kind id) ≡ Decided.Go }
-        ensures { stat_object self.now.state (creds_at self.now.state client) kind id ≡ Serve result self.now.state }
+        requires go { decided (decision (creds_at self.now.state client) (stat_object self.now.state kind id)) ≡ Decided.Go }
+        ensures { decision (creds_at self.now.state client) (stat_object self.now.state kind id) ≡ Serve result self.now.state }
     {
         match kind {
             Kind::Queue => match self.queues.get(id) {
@@ -53,7 +54,7 @@ impl Namespace {
         id: u32,
         qbytes: Option<u64>,
     ) -> Decided
-        ensures { (uid gid mode : ℕ) → result ≡ decided (set_object self.now.state creds.now kind id uid gid mode qbytes) }
+        ensures { (uid gid mode : ℕ) → result ≡ decided (decision creds.now (set_object self.now.state kind id uid gid mode qbytes)) }
     {
         if kind != Kind::Queue && qbytes.is_some() {
             return Decided::Refuse(Rule::BadArgument);
@@ -83,8 +84,8 @@ impl Namespace {
         qbytes: Option<u64>,
     ) -> Answer
         requires known { client < length self.old.state.clients }
-        requires go { decided (set_object self.old.state (creds_at self.old.state client) kind id uid gid mode qbytes) ≡ Decided.Go }
-        ensures served { set_object self.old.state (creds_at self.old.state client) kind id uid gid mode qbytes ≡ Serve result self.new.state }
+        requires go { decided (decision (creds_at self.old.state client) (set_object self.old.state kind id uid gid mode qbytes)) ≡ Decided.Go }
+        ensures served { decision (creds_at self.old.state client) (set_object self.old.state kind id uid gid mode qbytes) ≡ Serve result self.new.state }
         ensures parked { self.new.state.parked ≡ self.old.state.parked }
         ensures limits { self.new.state.limits ≡ self.old.state.limits }
         ensures clients { self.new.state.clients ≡ self.old.state.clients }
@@ -109,7 +110,7 @@ impl Namespace {
 
     /// The decision on IPC_RMID.
     pub(super) fn decide_remove(&self, creds: &Creds, kind: Kind, id: u32) -> Decided
-        ensures { result ≡ decided (remove_object self.now.state creds.now kind id) }
+        ensures { result ≡ decided (decision creds.now (remove_object self.now.state kind id)) }
     {
         let Some(perm) = self.perm_of(kind, id) else {
             return Decided::Refuse(Rule::BadId);
@@ -120,9 +121,9 @@ impl Namespace {
     /// Grants IPC_RMID: the object leaves, and its key is free. It takes no memory.
     pub(super) fn grant_remove(&mut self, client: u32, kind: Kind, id: u32) -> Answer
         requires known { client < length self.old.state.clients }
-        requires go { decided (remove_object self.old.state (creds_at self.old.state client) kind id) ≡ Decided.Go }
+        requires go { decided (decision (creds_at self.old.state client) (remove_object self.old.state kind id)) ≡ Decided.Go }
         requires left { sends_on id self.old.state.parked ≡ 0 }
-        ensures served { remove_object self.old.state (creds_at self.old.state client) kind id ≡ Serve result self.new.state }
+        ensures served { decision (creds_at self.old.state client) (remove_object self.old.state kind id) ≡ Serve result self.new.state }
         ensures parked { self.new.state.parked ≡ self.old.state.parked }
         ensures limits { self.new.state.limits ≡ self.old.state.limits }
         ensures clients { self.new.state.clients ≡ self.old.state.clients }
@@ -137,7 +138,7 @@ impl Namespace {
 
     /// The decision on an interrupt of the client of a process.
     pub(super) fn decide_interrupt(&self, creds: &Creds, pid: u32) -> Decided
-        ensures { result ≡ decided (interrupt self.now.state creds.now pid) }
+        ensures { result ≡ decided (decision creds.now (interrupt self.now.state pid)) }
     {
         match self.process(pid) {
             None => Decided::Refuse(Rule::NoProcess),

@@ -2,7 +2,8 @@
 
 ghost use Rattle.std.specs.Prelude.{◌≡◌};
 ghost use Rattle.ipc_model.specs.Decide.{can_wait as may_wait};
-ghost use Rattle.ipc_model.specs.Decision.{or_wait as refuse_or_wait};
+ghost use Rattle.ipc_model.specs.Plan.{or_wait as refuse_or_wait};
+ghost use Rattle.ipc_model.specs.State.{State};
 ghost use Rattle.ipc_namespace.specs.Decisions.{decided, decided_by};
 
 use ipc_call::{Call, IPC_NOWAIT, Rule};
@@ -33,7 +34,7 @@ pub const TO_READ: Want = Want {
 
 /// The decision on a call that can't go on now: it waits, or with IPC_NOWAIT it is refused.
 pub fn or_wait(flags: u32, rule: Rule) -> Decided
-    ensures { result ≡ decided (refuse_or_wait flags rule) }
+    ensures { result ≡ decided {X = State} (refuse_or_wait flags rule) }
 {
     if flags & IPC_NOWAIT == 0 {
         Decided::Wait

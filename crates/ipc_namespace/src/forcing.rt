@@ -22,8 +22,8 @@ ghost use Rattle.std.specs.List.{find};
 ghost use Rattle.ipc_model.specs.State.{creds_at, is_waiting as waits};
 ghost use Rattle.ipc_model.specs.Decide.{needs, can_wait as may_wait};
 ghost use Rattle.ipc_model.specs.Forced.{first_denial, waits_on as call_waits_on};
-ghost use Rattle.ipc_model.specs.Messages.{needs_for, queue_at};
-ghost use Rattle.ipc_namespace.specs.Namespace.{ended_as, forced_as, left_by, place_of};
+ghost use Rattle.ipc_model.specs.Messages.{queue_at};
+ghost use Rattle.ipc_namespace.specs.Namespace.{ended_as, forced_as, left_by, needs_for, place_of};
 
 use crate::decisions::{TO_ALTER, TO_READ};
 use crate::namespace::Namespace;
@@ -104,11 +104,11 @@ impl Namespace {
     }
 
     /// The rule of the right that the call needs on its object, where its client lacks it.
-    #[tactic(auto, unfolding(ipc_model::specs::Decide::needs))]
+    #[tactic(auto, unfolding(ipc_model::specs::Decide::plan))]
     fn denial(&self, client: u32, call: &Call) -> Option<Rule>
         requires client { client < length self.now.state.clients }
         requires waits { may_wait call.now ≡ true }
-        ensures { result ≡ first_denial (creds_at self.now.state client) (needs self.now.state call.now) }
+        ensures { result ≡ first_denial (creds_at self.now.state client) (needs self.now.state client call.now) }
     {
         match call {
             Call::MsgSnd { id, .. } => self.denial_on(client, *id, TO_ALTER),

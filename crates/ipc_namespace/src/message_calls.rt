@@ -4,6 +4,7 @@ ghost use Rattle.std.specs.Prelude.{◌≡◌, ◌||◌, nat_le, ℕ, ◌<◌, L
 ghost use Rattle.ipc_creds.specs.Credentials.{Credentials};
 ghost use Rattle.ipc_model.specs.State.{State, creds_at, queue_with_key as queue_of_key};
 ghost use Rattle.ipc_model.specs.Decision.{Serve};
+ghost use Rattle.ipc_model.specs.Plan.{decision};
 ghost use Rattle.ipc_model.specs.Messages.{cuts, receive_message, send_message};
 ghost use Rattle.ipc_model.specs.Queues.{get_queue, get_found, make_queue as make_queue_by, new_queue as new_queue_by};
 ghost use Rattle.ipc_namespace.specs.Decisions.{decided};
@@ -25,7 +26,7 @@ impl Namespace {
         len: usize,
         flags: u32,
     ) -> Decided
-        ensures { (client : ℕ) (text : List ℕ) → length text ≡ len → result ≡ decided (send_message self.now.state creds.now client id flags (record { mtype = mtype; text = text })) }
+        ensures { (client : ℕ) (text : List ℕ) → length text ≡ len → result ≡ decided (decision creds.now (send_message self.now.state client id flags (record { mtype = mtype; text = text }))) }
     {
         if mtype < 1 {
             return Decided::Refuse(Rule::BadType);
@@ -56,8 +57,8 @@ impl Namespace {
         flags: u32,
     ) -> Result<Answer, Memory>
         requires known { client < length self.old.state.clients }
-        requires go { decided (send_message self.old.state (creds_at self.old.state client) client id flags (record { mtype = mtype; text = text })) ≡ Decided.Go }
-        ensures served { IfOk result (λ answer. send_message self.old.state (creds_at self.old.state client) client id flags (record { mtype = mtype; text = text }) ≡ Serve answer self.new.state) }
+        requires go { decided (decision (creds_at self.old.state client) (send_message self.old.state client id flags (record { mtype = mtype; text = text }))) ≡ Decided.Go }
+        ensures served { IfOk result (λ answer. decision (creds_at self.old.state client) (send_message self.old.state client id flags (record { mtype = mtype; text = text })) ≡ Serve answer self.new.state) }
         ensures parked { self.new.state.parked ≡ self.old.state.parked }
         ensures limits { self.new.state.limits ≡ self.old.state.limits }
         ensures clients { self.new.state.clients ≡ self.old.state.clients }
@@ -78,7 +79,7 @@ impl Namespace {
         msgtyp: i64,
         flags: u32,
     ) -> Decided
-        ensures { (client : ℕ) → result ≡ decided (receive_message self.now.state creds.now client id size msgtyp flags) }
+        ensures { (client : ℕ) → result ≡ decided (decision creds.now (receive_message self.now.state client id size msgtyp flags)) }
     {
         let Some(queue) = self.queues.get(id) else {
             return Decided::Refuse(Rule::BadId);
@@ -103,8 +104,8 @@ impl Namespace {
         flags: u32,
     ) -> Answer
         requires known { client < length self.old.state.clients }
-        requires go { decided (receive_message self.old.state (creds_at self.old.state client) client id size msgtyp flags) ≡ Decided.Go }
-        ensures served { receive_message self.old.state (creds_at self.old.state client) client id size msgtyp flags ≡ Serve result self.new.state }
+        requires go { decided (decision (creds_at self.old.state client) (receive_message self.old.state client id size msgtyp flags)) ≡ Decided.Go }
+        ensures served { decision (creds_at self.old.state client) (receive_message self.old.state client id size msgtyp flags) ≡ Serve result self.new.state }
         ensures parked { self.new.state.parked ≡ self.old.state.parked }
         ensures limits { self.new.state.limits ≡ self.old.state.limits }
         ensures clients { self.new.state.clients ≡ self.old.state.clients }
@@ -119,7 +120,7 @@ impl Namespace {
 
     /// The decision on msgget. Key 0 is IPC_PRIVATE, and has no queue.
     pub(super) fn decide_get_queue(&self, creds: &Creds, key: u32, flags: u32) -> Decided
-        ensures { result ≡ decided (get_queue self.now.state creds.now key flags) }
+        ensures { result ≡ decided (decision creds.now (get_queue self.now.state creds.now key flags)) }
     {
         if key == 0 {
             return self.decide_make_queue();
@@ -132,7 +133,7 @@ impl Namespace {
 
     /// The decision on a get whose key has no queue.
     fn decide_absent_queue(&self, flags: u32) -> Decided
-        ensures { (creds : Credentials) (key : ℕ) → result ≡ decided (get_found self.now.state creds key flags None) }
+        ensures { (creds : Credentials) (key : ℕ) → result ≡ decided (decision creds (get_found self.now.state creds key flags None)) }
     {
         if flags & IPC_CREAT == 0 {
             return Decided::Refuse(Rule::NoKey);
@@ -142,7 +143,7 @@ impl Namespace {
 
     /// The decision on a new queue, whoever makes it.
     fn decide_make_queue(&self) -> Decided
-        ensures { (creds : Credentials) (key flags : ℕ) → result ≡ decided (make_queue_by self.now.state creds key flags) }
+        ensures { (creds : Credentials) (key flags : ℕ) → result ≡ decided (decision creds (make_queue_by self.now.state creds key flags)) }
     {
         match self.queues.next_id() {
             None => Decided::Refuse(Rule::NoSlot),
@@ -158,8 +159,8 @@ impl Namespace {
         flags: u32,
     ) -> Result<Answer, Memory>
         requires known { client < length self.old.state.clients }
-        requires go { decided (get_queue self.old.state (creds_at self.old.state client) key flags) ≡ Decided.Go }
-        ensures served { IfOk result (λ answer. get_queue self.old.state (creds_at self.old.state client) key flags ≡ Serve answer self.new.state) }
+        requires go { decided (decision (creds_at self.old.state client) (get_queue self.old.state (creds_at self.old.state client) key flags)) ≡ Decided.Go }
+        ensures served { IfOk result (λ answer. decision (creds_at self.old.state client) (get_queue self.old.state (creds_at self.old.state client) key flags) ≡ Serve answer self.new.state) }
         ensures parked { self.new.state.parked ≡ self.old.state.parked }
         ensures limits { self.new.state.limits ≡ self.old.state.limits }
         ensures clients { self.new.state.clients ≡ self.old.state.clients }
@@ -178,9 +179,9 @@ impl Namespace {
     /// Makes the queue on which that was decided.
     fn make_queue(&mut self, client: u32, key: u32, flags: u32) -> Result<Answer, Memory>
         requires known { client < length self.old.state.clients }
-        requires go { decided (make_queue_by self.old.state (creds_at self.old.state client) key flags) ≡ Decided.Go }
+        requires go { decided (decision (creds_at self.old.state client) (make_queue_by self.old.state (creds_at self.old.state client) key flags)) ≡ Decided.Go }
         requires free { queue_of_key self.old.state key ≡ None }
-        ensures served { IfOk result (λ answer. make_queue_by self.old.state (creds_at self.old.state client) key flags ≡ Serve answer self.new.state) }
+        ensures served { IfOk result (λ answer. decision (creds_at self.old.state client) (make_queue_by self.old.state (creds_at self.old.state client) key flags) ≡ Serve answer self.new.state) }
         ensures parked { self.new.state.parked ≡ self.old.state.parked }
         ensures limits { self.new.state.limits ≡ self.old.state.limits }
         ensures clients { self.new.state.clients ≡ self.old.state.clients }
@@ -224,7 +225,7 @@ impl Namespace {
 /// The decision on a get whose key has a queue. Permission is asked last (the order is the project's
 /// own).
 fn decide_found_queue(creds: &Creds, perm: &Perm, flags: u32) -> Decided
-    ensures { (s : State) (key id : ℕ) → result ≡ decided (get_found s creds.now key flags (Some (id, perm.now))) }
+    ensures { (s : State) (key id : ℕ) → result ≡ decided (decision creds.now (get_found s creds.now key flags (Some (id, perm.now)))) }
 {
     if flags & IPC_CREAT != 0 && flags & IPC_EXCL != 0 {
         return Decided::Refuse(Rule::KeyExists);

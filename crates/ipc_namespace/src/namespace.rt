@@ -29,7 +29,8 @@ ghost use Rattle.std.specs.Prelude.{
 ghost use Rattle.ipc_call.specs.Limits.{are_in_range};
 ghost use Rattle.ipc_model.specs.State.{opening, is_waiting as waits};
 ghost use Rattle.ipc_model.specs.Decision.{Serve};
-ghost use Rattle.ipc_model.specs.Decide.{decide as decision_on, can_wait as may_wait, goes_on as does_go_on};
+ghost use Rattle.ipc_model.specs.Decide.{decide as decision_on, can_wait as may_wait};
+ghost use Rattle.ipc_model.specs.Decision.{goes_on as does_go_on};
 ghost use Rattle.ipc_model.specs.Step.{
   is_ready,
   first_ready as first_that_is_ready,
@@ -220,7 +221,7 @@ impl Namespace {
 
     /// Makes the call wait, as the last, on which that was decided. What its completion needs is made here. Memory
     /// comes where a growth was refused, and then nothing has changed.
-    #[tactic(auto, unfolding(ipc_model::specs::Decide::decide))]
+    #[tactic(auto, unfolding(ipc_model::specs::Decide::plan))]
     fn park(&mut self, client: u32, place: u64, call: Call) -> Result<(), Memory>
         requires known { client < length self.old.state.clients }
         requires free { waits self.old.state client ≡ false }
@@ -311,7 +312,7 @@ impl Namespace {
 
     /// Completes the client's waiting call, on which that was decided: it leaves the list and is carried out.
     /// It takes no memory: what it needs was made when it began to wait.
-    #[tactic(auto, unfolding(ipc_model::specs::Decide::decide))]
+    #[tactic(auto, unfolding(ipc_model::specs::Decide::plan))]
     fn complete(&mut self, client: u32) -> Ended
         requires waits { waits self.old.state client ≡ true }
         requires go { IfSome (slice_get self.old.state.parked (place_of client self.old.state.parked)) (λ w. decided (decision_on (without self.old.state (place_of client self.old.state.parked)) w.client w.call) ≡ Decided.Go) }
@@ -347,7 +348,7 @@ impl Namespace {
     }
 
     /// The decision on a call, with the credentials of its client. It takes no memory.
-    #[tactic(auto, unfolding(ipc_model::specs::Decide::decide))]
+    #[tactic(auto, unfolding(ipc_model::specs::Decide::plan))]
     fn decide(&self, client: u32, call: &Call) -> Decided
         requires { client < length self.now.state.clients }
         ensures { result ≡ decided (decision_on self.now.state client call.now) }
@@ -381,7 +382,7 @@ impl Namespace {
 
     /// Carries out a call on which that was decided, and ends the waiting calls that it ends. Memory comes where a
     /// growth was refused, and then nothing has changed.
-    #[tactic(auto, unfolding(ipc_model::specs::Decide::decide))]
+    #[tactic(auto, unfolding(ipc_model::specs::Decide::plan))]
     fn carry_out(
         &mut self,
         client: u32,

@@ -1,6 +1,6 @@
 -- An identifier that an event gives to a new object was never used before, so none is given twice.
 use Rattle.std.proofs.Common.{◌≡◌, ℕ, ◌≤◌, Bool, true, false, eqb, not, cond, List, [], ◌∷◌, ◌++◌, refl, sym, ap, ◌∙◌, subst, Option, Some, None, Ok, Err}
-use Rattle.std.specs.Prelude.{◌==◌, ◌&&◌, option_map, if◌then◌else◌, is_some}
+use Rattle.std.specs.Prelude.{bit_and, ◌==◌, ◌&&◌, option_map, if◌then◌else◌, is_some}
 use Rattle.std.specs.List.{AllByRecursion, IsDistinct}
 use Rattle.std.proofs.lemmas.Bool.{true≢false, ne_eqb}
 use Rattle.std.proofs.lemmas.Option.{none-some}
@@ -10,7 +10,7 @@ use Rattle.ipc_call.specs.declared.calls.Kind.{Kind}
 use Rattle.ipc_call.specs.declared.calls.Kind.TheVariants as kinds
 use Rattle.ipc_call.specs.declared.replies.Answer.TheVariants.{Id, Done, Message, Status}
 use Rattle.ipc_call.specs.declared.rules.Rule.{Rule}
-use Rattle.ipc_call.specs.declared.rules.Rule.TheVariants.{NoKey, KeyExists}
+use Rattle.ipc_call.specs.declared.rules.Rule.TheVariants.{NoSlot}
 use Rattle.ipc_creds.specs.Credentials.{Credentials}
 use Rattle.ipc_perm.specs.declared.perms.Perm.{Perm}
 use Rattle.ipc_perm.specs.Access.{Permission, asked_of, denial}
@@ -18,9 +18,13 @@ use Rattle.ipc_ids.specs.Table.{IsSound, WasUsed, find_object, next_id, with_obj
 use Rattle.ipc_ids.proofs.Searches.{find_object-found}
 use Rattle.ipc_ids.proofs.Sound.{IsFresh, IsSound-empty, WasUsed-there, fresh-unused, get-insert-same, next_id-fresh}
 use Rattle.ipc_model.specs.State.{Queue, State, creds_at, has_key, opening, queue_with_key}
-use Rattle.ipc_model.specs.Decision.{Decision, Refuse, Wait, Serve, by_check, check}
-use Rattle.ipc_model.specs.Queues.{get_queue, get_found, make_queue, with_queue, new_queue, asks_to_make, asks_alone}
-use Rattle.ipc_model.specs.Decide.{decide}
+use Rattle.ipc_model.specs.Decision.{Decision, Refuse, Wait, Serve}
+use Rattle.ipc_model.specs.Plan.{Plan, decision, found}
+use Rattle.ipc_namespace.proofs.Plans.{end_of}
+use Rattle.ipc_space.proofs.Ends.{by-end}
+use Rattle.ipc_model.specs.Plan as plans
+use Rattle.ipc_model.specs.Queues.{get_found, get_queue, make_queue, new_queue}
+use Rattle.ipc_model.specs.Decide.{plan}
 use Rattle.ipc_model.specs.Step.{Event, Outcome, at_moment, force, forced_by, own_of, settled, state_by, step}
 use Rattle.ipc_model.specs.History.{History}
 use Rattle.ipc_model.specs.Made.{has_object, is_get_of, made, made_by, made_from, new_in}
@@ -33,7 +37,7 @@ IsUsed s kinds.Sems id = ⊥
 IsUsed s kinds.Segment id = ⊥
 
 -- a grant that answers an identifier without an object makes that object, and the identifier is fresh
-unfoldable pub NamesFresh : State → Decision → Type 0
+abbrev pub NamesFresh : State → Decision State → Type 0
 NamesFresh s (Refuse rule) = Unit {0}
 NamesFresh s Wait = Unit {0}
 NamesFresh s (Serve Done new) = Unit {0}
@@ -41,23 +45,14 @@ NamesFresh s (Serve (Message mtype text) new) = Unit {0}
 NamesFresh s (Serve (Status status) new) = Unit {0}
 NamesFresh s (Serve (Id id) new) = has_object s kinds.Queue id ≡ false → IsFresh s.queues id × WasUsed new.queues id
 
-NamesFresh-if : (s : State) (b : Bool) (x y : Decision) → NamesFresh s x → NamesFresh s y → NamesFresh s (cond b x y)
-NamesFresh-if s true x y p q = p
-NamesFresh-if s false x y p q = q
+-- the same of what a plan serves
+abbrev Names : State → Plan State → Type 0
+Names s p = NamesFresh s (end_of p)
 
-NamesFresh-check : (s : State) (o : Option Rule) (d : Decision) → NamesFresh s d → NamesFresh s (by_check o d)
-unfolding NamesFresh
-NamesFresh-check s None d p = p
-NamesFresh-check s (Some rule) d p = tt
-
-NamesFresh-with_queue : (s : State) (queue : Queue) (id : Option ℕ) → s.queues.slots ≤ 32768 → id ≡ next_id s.queues → NamesFresh s (with_queue s queue id)
-unfolding NamesFresh
-NamesFresh-with_queue s queue None few is = tt
-NamesFresh-with_queue s queue (Some id) few is = λ absent.
-    (next_id-fresh s.queues few id (sym is), WasUsed-there (with_object s.queues id queue) id queue (get-insert-same s.queues.objects id queue))
-
-NamesFresh-make_queue : (s : State) (c : Credentials) (key flags : ℕ) → s.queues.slots ≤ 32768 → NamesFresh s (make_queue s c key flags)
-NamesFresh-make_queue s c key flags few = NamesFresh-with_queue s (new_queue s c key flags) (next_id s.queues) few refl
+Names-made : (s : State) (queue : Queue) (id : Option ℕ) → s.queues.slots ≤ 32768 → next_id s.queues ≡ id → Names s (found id NoSlot tt (λ id. plans.Serve (Id id) (record s { queues = with_object s.queues id queue })))
+Names-made s queue None few is = tt
+Names-made s queue (Some id) few is = λ absent.
+    (next_id-fresh s.queues few id is, WasUsed-there (with_object s.queues id queue) id queue (get-insert-same s.queues.objects id queue))
 
 -- a queue that is found is there
 there_found : (s : State) (key : ℕ) (o : Option (ℕ × Queue)) (found : ℕ × Perm) → o ≡ find_object (has_key key) s.queues → Some found ≡ option_map {U = ℕ × Perm} (λ (x : ℕ × Queue). (x.0, x.1.perm)) o
@@ -69,17 +64,15 @@ there_found s key (Some x) found same is =
     ap (λ n. has_object s kinds.Queue n) id ∙ ap (λ o. is_some (option_map (λ (queue : Queue). queue.perm) o)) there.0
 
 NamesFresh-there : (s : State) (id : ℕ) → has_object s kinds.Queue id ≡ true → NamesFresh s (Serve (Id id) s)
-unfolding NamesFresh
 NamesFresh-there s id there = λ absent. absurd (true≢false (sym there ∙ absent))
 
-NamesFresh-get_found : (s : State) (c : Credentials) (key flags : ℕ) (found : Option (ℕ × Perm)) → s.queues.slots ≤ 32768 → found ≡ queue_with_key s key → NamesFresh s (get_found s c key flags found)
-NamesFresh-get_found s c key flags None few is = NamesFresh-check s (check (asks_to_make flags) NoKey) _ (NamesFresh-make_queue s c key flags few)
-NamesFresh-get_found s c key flags (Some found) few is =
-    NamesFresh-check s (check (not (asks_to_make flags && asks_alone flags)) KeyExists) _ (NamesFresh-check s (denial c (Permission found.1 (asked_of flags))) _ (NamesFresh-there s found.0 (there_found s key (find_object (has_key key) s.queues) found refl is)))
+Names-get : (s : State) (c : Credentials) (key flags : ℕ) (private : Bool) (there : Option (ℕ × Perm)) → s.queues.slots ≤ 32768 → there ≡ queue_with_key s key → Names s (cond private (make_queue s c 0 flags) (get_found s c key flags there))
+Names-get s c key flags true there few is = Names-made s (new_queue s c 0 flags) (next_id s.queues) few refl
+Names-get s c key flags false None few is = Names-made s (new_queue s c key flags) (next_id s.queues) few refl
+Names-get s c key flags false (Some there) few is = NamesFresh-there s there.0 (there_found s key (find_object (has_key key) s.queues) there refl is)
 
-NamesFresh-get_queue : (s : State) (c : Credentials) (key flags : ℕ) → s.queues.slots ≤ 32768 → NamesFresh s (get_queue s c key flags)
-NamesFresh-get_queue s c key flags few =
-    NamesFresh-if s (key == 0) _ _ (NamesFresh-make_queue s c 0 flags few) (NamesFresh-get_found s c key flags (queue_with_key s key) few refl)
+NamesFresh-get_queue : (s : State) (c : Credentials) (key flags : ℕ) → s.queues.slots ≤ 32768 → NamesFresh s (decision c (get_queue s c key flags))
+NamesFresh-get_queue s c key flags few = by-end c (NamesFresh s) (λ rule. tt) tt (get_queue s c key flags) (Names-get s c key flags (key == 0) (queue_with_key s key) few refl)
 
 -- what holds of an identifier that an event made: it was never used before the event, and is used after it
 abbrev IsNamed : State → Kind → State → ℕ → Type 0
@@ -89,9 +82,8 @@ all-unless : (P : ℕ → Type 0) (b : Bool) (id : ℕ) → (b ≡ false → P i
 all-unless P true id named = tt
 all-unless P false id named = (named refl, tt)
 
-named-in : (s : State) (d : Decision) (client : ℕ) (call : Call) → NamesFresh s d → Keeps s d → IsSound s.queues
+named-in : (s : State) (d : Decision State) (client : ℕ) (call : Call) → NamesFresh s d → Keeps s d → IsSound s.queues
     → AllByRecursion (IsNamed s kinds.Queue (settled (forced_by (state_by s client call d) call d).state).state) (new_in s kinds.Queue (own_of d))
-unfolding NamesFresh Keeps
 named-in s (Refuse rule) client call names keeps sound = tt
 named-in s Wait client call names keeps sound = tt
 named-in s (Serve Done new) client call names keeps sound = tt
@@ -104,10 +96,10 @@ named-in s (Serve (Id id) new) client call names keeps sound = all-unless _ (has
 
 named-by : (kind : Kind) (s : State) (client now : ℕ) (call : Call) → IsSound s.queues
     → AllByRecursion (IsNamed s kind (step s (record { client = client; now = now; call = call })).state) (made_by kind s (record { client = client; now = now; call = call }))
-unfolding decide
+unfolding plan
 named-by kinds.Queue s client now (MsgGet key flags) sound =
     let here = at_moment s now in
-    let d = get_queue here (creds_at s client) key flags in
+    let d = decision (creds_at s client) (get_queue here (creds_at s client) key flags) in
     named-in here d client (MsgGet key flags) (NamesFresh-get_queue here (creds_at s client) key flags sound.few) (Keeps-decide here client (MsgGet key flags)) sound
 named-by kinds.Queue s client now (MsgSnd id mtype text flags) sound = tt
 named-by kinds.Queue s client now (MsgRcv id size msgtyp flags) sound = tt

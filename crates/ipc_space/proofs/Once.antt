@@ -33,8 +33,7 @@ unfolding AreApart
 apart-filter p [] apart = tt
 apart-filter p (w ∷ ws) apart = apart-filter-if (p w) p w ws (any-filter (λ v. v.client == w.client) p ws apart.0) (apart-filter p ws apart.1)
 
-apart-ended_by : (s : State) (client : ℕ) (d : Decision) → Keeps s d → AreApart s.parked → AreApart (ended_by s client d).state.parked
-unfolding Keeps
+apart-ended_by : (s : State) (client : ℕ) (d : Decision State) → Keeps s d → AreApart s.parked → AreApart (ended_by s client d).state.parked
 apart-ended_by s client (Refuse rule) keeps apart = apart
 apart-ended_by s client Wait keeps apart = apart
 apart-ended_by s client (Serve answer new) keeps apart = subst AreApart (sym keeps.0) apart
@@ -53,13 +52,12 @@ apart-settle : (n : ℕ) (s : State) → AreApart s.parked → AreApart (settle 
 apart-settle zero s apart = apart
 apart-settle (suc n) s apart = apart-settle_from n (apart-settle n) s (first_ready s) apart
 
-apart-state_by : (s : State) (client : ℕ) (call : Call) (d : Decision) → Keeps s d → is_waiting s client ≡ false → AreApart s.parked → AreApart (state_by s client call d).parked
-unfolding Keeps
+apart-state_by : (s : State) (client : ℕ) (call : Call) (d : Decision State) → Keeps s d → is_waiting s client ≡ false → AreApart s.parked → AreApart (state_by s client call d).parked
 apart-state_by s client call (Refuse rule) keeps free apart = apart
 apart-state_by s client call Wait keeps free apart = apart-push s.parked (record { client = client; call = call }) apart free
 apart-state_by s client call (Serve answer new) keeps free apart = subst AreApart (sym keeps.0) apart
 
-apart-forced_by : (s : State) (call : Call) (d : Decision) → AreApart s.parked → AreApart (forced_by s call d).state.parked
+apart-forced_by : (s : State) (call : Call) (d : Decision State) → AreApart s.parked → AreApart (forced_by s call d).state.parked
 apart-forced_by s call (Refuse rule) apart = apart
 apart-forced_by s call Wait apart = apart
 apart-forced_by s call (Serve answer new) apart = apart-filter (λ w. is_none (forced s call w)) s.parked apart

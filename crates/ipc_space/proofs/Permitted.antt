@@ -13,15 +13,17 @@ use Rattle.ipc_perm.specs.Access.{Permission, denial}
 use Rattle.msg_queue.specs.declared.messages.Message.{Message}
 use Rattle.ipc_ids.specs.Table.{least_from}
 use Rattle.ipc_model.specs.State.{Queue, State, creds_at}
-use Rattle.ipc_model.specs.Decision.{Decision, by_check, check}
-use Rattle.ipc_model.specs.Messages.{needs_for, queue_at, receive_found, send_found, to_alter, to_read}
-use Rattle.ipc_model.specs.Decide.{can_wait, decide, goes_on, needs}
+use Rattle.ipc_model.specs.Decision.{Decision, Refuse, goes_on}
+use Rattle.ipc_model.specs.Plan.{decision, needs_in, unless}
+use Rattle.ipc_model.specs.Messages.{queue_at, receive_found, send_found, to_alter, to_read}
+use Rattle.ipc_namespace.specs.Namespace.{needs_for}
+use Rattle.ipc_model.specs.Decide.{can_wait, decide, needs, plan}
 use Rattle.ipc_model.specs.Forced.{first_denial, or_later}
 use Rattle.ipc_model.specs.History.{History, run}
 use Rattle.ipc_model.specs.Step.{is_ready, without}
 use Rattle.ipc_model.specs.Waits.{AreNotReady, ArePermitted}
 use Rattle.ipc_namespace.proofs.Deciding.{only_parkable}
-use Rattle.ipc_namespace.proofs.Endings.{needs-alike}
+use Rattle.ipc_namespace.proofs.Endings.{needs-alike, received-needs}
 use Rattle.ipc_space.proofs.Quiet.{IsQuiet, quiet-run}
 
 none-if : (b : Bool) (n : ℕ) (rest : Option ℕ) → cond b (Some n) rest ≡ None → (b ≡ false) × (rest ≡ None)
@@ -41,27 +43,34 @@ none_passes test (suc n) start k none low high =
     (λ (ne : k ≡ start → ⊥). none_passes test n (start + 1) k parts.1 (above start k low ne) (omega (arith, high)))
     (cases_eq k start)
 
-check-waits : (o : Option Rule) (d : Decision) → goes_on (by_check o d) ≡ false → (o ≡ None) × (goes_on d ≡ false)
-check-waits None d waits = (refl, waits)
-check-waits (Some rule) d waits = absurd (true≢false waits)
+passes-waits : (b : Bool) (rule : Rule) (d : Decision State) → goes_on (cond b d (Refuse rule)) ≡ false → goes_on d ≡ false
+passes-waits true rule d waits = waits
+passes-waits false rule d waits = absurd (true≢false waits)
 
-sender-permitted : (s : State) (c : Credentials) (client id flags : ℕ) (message : Message) (queue : Option Queue) → goes_on (send_found s c client id flags message queue) ≡ false → first_denial c (needs_for to_alter queue) ≡ None
+need-waits : (o : Option Rule) (d : Decision State) → goes_on (unless o d) ≡ false → o ≡ None
+need-waits None d waits = refl
+need-waits (Some rule) d waits = absurd (true≢false waits)
+
+sender-permitted : (s : State) (c : Credentials) (client id flags : ℕ) (message : Message) (queue : Option Queue) → goes_on (decision c (send_found s client id flags message queue)) ≡ false → first_denial c (needs_in (send_found s client id flags message queue)) ≡ None
 sender-permitted s c client id flags message None waits = refl
-sender-permitted s c client id flags message (Some queue) waits = ap (λ o. or_later o None) (check-waits (denial c (Permission queue.perm to_alter)) _ waits).0
+sender-permitted s c client id flags message (Some queue) waits = ap (λ o. or_later o None) (need-waits (denial c (Permission queue.perm to_alter)) _ waits)
 
-receiver-permitted : (s : State) (c : Credentials) (client id size : ℕ) (msgtyp : ℤ) (flags : ℕ) (queue : Option Queue) → goes_on (receive_found s c client id size msgtyp flags queue) ≡ false → first_denial c (needs_for to_read queue) ≡ None
+receiver-permitted : (s : State) (c : Credentials) (client id size : ℕ) (msgtyp : ℤ) (flags : ℕ) (queue : Option Queue) → goes_on (decision c (receive_found s client id size msgtyp flags queue)) ≡ false → first_denial c (needs_for to_read queue) ≡ None
 receiver-permitted s c client id size msgtyp flags None waits = refl
-receiver-permitted s c client id size msgtyp flags (Some queue) waits = ap (λ o. or_later o None) (check-waits (denial c (Permission queue.perm to_read)) _ waits).0
+receiver-permitted s c client id size msgtyp flags (Some queue) waits = ap (λ o. or_later o None) (need-waits (denial c (Permission queue.perm to_read)) _ waits)
 
 -- a call that waits has the rights that it needs
-permitted : (s : State) (client : ℕ) (call : Call) → can_wait call ≡ true → goes_on (decide s client call) ≡ false → first_denial (creds_at s client) (needs s call) ≡ None
-unfolding decide needs
+permitted : (s : State) (client : ℕ) (call : Call) → can_wait call ≡ true → goes_on (decide s client call) ≡ false → first_denial (creds_at s client) (needs s client call) ≡ None
+unfolding plan
 permitted s client (MsgGet key flags) can waits = absurd (true≢false (sym can))
 permitted s client (MsgSnd id mtype text flags) can waits =
     let message : Message = record { mtype = mtype; text = text } in
-    let typed = check-waits (check (int_le (pos 1) mtype) BadType) _ waits in
-    sender-permitted s (creds_at s client) client id flags message (queue_at s id) (check-waits (check (nat_le (length text) s.limits.msg_max) TextTooLong) _ typed.1).1
-permitted s client (MsgRcv id size msgtyp flags) can waits = receiver-permitted s (creds_at s client) client id size msgtyp flags (queue_at s id) waits
+    let c = creds_at s client in
+    let rest = decision c (send_found s client id flags message (queue_at s id)) in
+    sender-permitted s c client id flags message (queue_at s id)
+    (passes-waits (nat_le (length text) s.limits.msg_max) TextTooLong rest (passes-waits (int_le (pos 1) mtype) BadType (cond (nat_le (length text) s.limits.msg_max) rest (Refuse TextTooLong)) waits))
+permitted s client (MsgRcv id size msgtyp flags) can waits =
+    ap (λ ns. first_denial (creds_at s client) ns) (received-needs s client id size msgtyp flags (queue_at s id)) ∙ receiver-permitted s (creds_at s client) client id size msgtyp flags (queue_at s id) waits
 permitted s client (IpcStat kind id) can waits = absurd (true≢false (sym can))
 permitted s client (IpcSet kind id uid gid mode qbytes) can waits = absurd (true≢false (sym can))
 permitted s client (IpcRmid kind id) can waits = absurd (true≢false (sym can))
@@ -76,13 +85,13 @@ not_ready-at s place (Some w) is quiet =
 not_ready : (s : State) → IsQuiet s → AreNotReady s
 not_ready s quiet = λ place. not_ready-at s place (slice_get s.parked place) refl quiet
 
-permitted-at : (s : State) (place : ℕ) (o : Option Waiting) → o ≡ slice_get s.parked place → IsQuiet s → IfSome o (λ w. first_denial (creds_at s w.client) (needs s w.call) ≡ None)
+permitted-at : (s : State) (place : ℕ) (o : Option Waiting) → o ≡ slice_get s.parked place → IsQuiet s → IfSome o (λ w. first_denial (creds_at s w.client) (needs s w.client w.call) ≡ None)
 permitted-at s place None is quiet = tt
 permitted-at s place (Some w) is quiet =
     let rest = without s place in
     let waits : goes_on (decide rest w.client w.call) ≡ false = ap (λ o. unwrap_or (option_map (λ (v : Waiting). goes_on (decide rest v.client v.call)) o) false) is ∙ not_ready s quiet place in
     let met = permitted rest w.client w.call (only_parkable rest w.client w.call waits) waits in
-    ap (λ needed. first_denial (creds_at s w.client) needed) (sym (needs-alike s rest.parked w.call)) ∙ met
+    ap (λ needed. first_denial (creds_at s w.client) needed) (sym (needs-alike s rest.parked w.client w.call)) ∙ met
 
 -- after every history
 pub run_not_ready : (h : History) → AreNotReady (run h)

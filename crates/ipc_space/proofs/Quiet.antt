@@ -10,7 +10,8 @@ use Rattle.ipc_call.specs.declared.rules.Rule.{Rule}
 use Rattle.ipc_ids.specs.Table.{least_from}
 use Rattle.ipc_model.specs.State.{State, opening}
 use Rattle.ipc_model.specs.Decision.{Decision, Refuse, Wait, Serve}
-use Rattle.ipc_model.specs.Decide.{decide, goes_on}
+use Rattle.ipc_model.specs.Decide.{decide}
+use Rattle.ipc_model.specs.Decision.{goes_on}
 use Rattle.ipc_model.specs.Step.{Event, at_moment, end_at, end_waiting, ended_by, entered, first_ready, is_ready, own_of, settle, settle_from, settled, step, without}
 use Rattle.ipc_model.specs.History.{History, run, run_from, next_step}
 use Rattle.ipc_namespace.specs.Namespace.{moved_by}
@@ -22,8 +23,7 @@ use Rattle.ipc_namespace.proofs.Settling.{ready_at, settled-none}
 abbrev pub IsQuiet : State → Type 0
 IsQuiet s = first_ready s ≡ None
 
-shorter-ended_by : (s : State) (client : ℕ) (d : Decision) → goes_on d ≡ true → Keeps s d → (ended_by s client d).state.parked ≡ s.parked
-unfolding Keeps
+shorter-ended_by : (s : State) (client : ℕ) (d : Decision State) → goes_on d ≡ true → Keeps s d → (ended_by s client d).state.parked ≡ s.parked
 shorter-ended_by s client (Refuse rule) goes keeps = refl
 shorter-ended_by s client Wait goes keeps = absurd (true≢false (sym goes))
 shorter-ended_by s client (Serve answer new) goes keeps = keeps.0
@@ -71,7 +71,7 @@ quiet-at_moment : (s : State) (now : ℕ) → IsQuiet s → IsQuiet (at_moment s
 quiet-at_moment s now quiet = ap (λ test. least_from test (length s.parked) 0) (λ i place. ready_alike-at s now place (slice_get s.parked place) i) ∙ quiet
 
 -- a call that is refused, in a quiet state: nothing else changes
-refused-entered : (s : State) (client : ℕ) (call : Call) (d : Decision) (rule : Rule) → IsQuiet s → own_of d ≡ Some (Err rule)
+refused-entered : (s : State) (client : ℕ) (call : Call) (d : Decision State) (rule : Rule) → IsQuiet s → own_of d ≡ Some (Err rule)
     → entered s client call d ≡ record { state = s; own = Some (Err rule); ended = [] }
 refused-entered s client call (Refuse other) rule quiet own = λ i. record { state = (settled-none s quiet i).state; own = own i; ended = (settled-none s quiet i).ended }
 refused-entered s client call Wait rule quiet own = absurd (none-some _ own)

@@ -1,11 +1,14 @@
 //! What is true of every history of a namespace, whoever calls what in which order. Each law is a function
 //! that does nothing: what it ensures is the law.
 
-ghost use Rattle.std.specs.Prelude.{◌≡◌, ◌==◌, true, [], Some, Err};
+ghost use Rattle.std.specs.Prelude.{◌≡◌, ◌==◌, ◌↔◌, true, [], Some, Ok, Err};
 ghost use Rattle.std.specs.List.{IsDistinct};
 ghost use Rattle.ipc_call.specs.Limits.{are_in_range};
 ghost use Rattle.ipc_call.specs.declared.calls.Kind.{Kind as KindOf};
 ghost use Rattle.ipc_call.specs.declared.rules.Rule.{Rule as RuleOf};
+ghost use Rattle.ipc_call.specs.declared.replies.Answer.{Answer as AnswerOf};
+ghost use Rattle.ipc_model.specs.Access.{AreMet, IsDenied, caller_of, checks_of, needs_of};
+ghost use Rattle.ipc_model.specs.Plan.{is_denial};
 ghost use Rattle.ipc_model.specs.Step.{Event, Stepped, at_moment};
 ghost use Rattle.ipc_model.specs.History.{History, IsLegal, run, next_step};
 ghost use Rattle.ipc_model.specs.Made.{made};
@@ -34,4 +37,11 @@ pub fn waiting_calls_are_permitted_and_not_ready()
 /// No client waits twice, after every legal history.
 pub fn no_client_waits_twice()
     ensures { (h : History) → IsLegal h → WaitOnce (run h) }
+{}
+
+/// A granted call's needs were met, and a denial is answered exactly where every check before it passed and its need
+/// failed.
+pub fn access()
+    ensures granted { (h : History) (e : Event) (answer : AnswerOf) → IsLegal h → (next_step h e).own ≡ Some (Ok answer) → AreMet (caller_of h e) (needs_of h e) }
+    ensures denied { (h : History) (e : Event) (rule : RuleOf) → IsLegal h → is_denial rule ≡ true → ((next_step h e).own ≡ Some (Err rule)) ↔ IsDenied (caller_of h e) (checks_of h e) rule }
 {}

@@ -8,9 +8,10 @@ use Rattle.ipc_model.specs.Decision.{Serve}
 use Rattle.ipc_model.specs.Messages.{receive_message, send_message}
 use Rattle.ipc_call.specs.declared.calls.Call.{Call}
 use Rattle.ipc_call.specs.declared.calls.Call.TheVariants.{MsgGet, MsgSnd, MsgRcv, IpcStat, IpcSet, IpcRmid, Interrupt}
+use Rattle.ipc_model.specs.Plan.{decision}
 use Rattle.ipc_model.specs.State.{State, creds_at}
 use Rattle.ipc_model.specs.Controls.{without}
-use Rattle.ipc_model.specs.Decide.{decide}
+use Rattle.ipc_model.specs.Decide.{decide, plan}
 use Rattle.ipc_model.specs.Step.{Moved}
 use Rattle.ipc_namespace.specs.Decisions.{decided}
 use Rattle.ipc_namespace.specs.Namespace.{sends_on}
@@ -18,63 +19,63 @@ use Rattle.ipc_namespace.proofs.Moving.{interrupted, left-removed, moved-at, mov
 use Rattle.ipc_namespace.proofs.namespace.Namespace.carry_out.Goals as goal
 
 pub returns-in-MsgGet-clause-state : goal.returns-in-MsgGet-clause-state
-unfolding decide
+unfolding plan
 returns-in-MsgGet-clause-state c =
     let n = c.in-MsgGet in
     (moved-ok c.grant_get_queue.result c.args.self.now.state c.grant_get_queue.new.self.state c.args.client c.args.call (MsgGet n.key n.flags) n.is (λ w. refl) c.grant_get_queue.ensures.served).0
 
 pub returns-in-MsgGet-clause-ended : goal.returns-in-MsgGet-clause-ended
-unfolding decide
+unfolding plan
 returns-in-MsgGet-clause-ended c =
     let n = c.in-MsgGet in
     let none = (moved-ok c.grant_get_queue.result c.args.self.now.state c.grant_get_queue.new.self.state c.args.client c.args.call (MsgGet n.key n.flags) n.is (λ w. refl) c.grant_get_queue.ensures.served).1 in
     on_ok_weaker c.grant_get_queue.result (λ is. c.requires.empty ∙ is) none
 
 pub returns-in-MsgSnd-clause-state : goal.returns-in-MsgSnd-clause-state
-unfolding decide
+unfolding plan
 returns-in-MsgSnd-clause-state c =
     let n = c.in-MsgSnd in
     let fits : SFits w64 n.mtype = search rules in
     let s = c.args.self.now.state in
     let client = c.args.client in
-    let served = subst (λ z. IfOk c.grant_send.result (λ answer. send_message s (creds_at s client) client n.id n.flags (record { mtype = z; text = n.text }) ≡ Serve answer c.grant_send.new.self.state)) (to_z-of_z w64 n.mtype fits) c.grant_send.ensures.served in
+    let served = subst (λ z. IfOk c.grant_send.result (λ answer. decision (creds_at s client) (send_message s client n.id n.flags (record { mtype = z; text = n.text })) ≡ Serve answer c.grant_send.new.self.state)) (to_z-of_z w64 n.mtype fits) c.grant_send.ensures.served in
     (moved-ok c.grant_send.result s c.grant_send.new.self.state client c.args.call (MsgSnd n.id n.mtype n.text n.flags) n.is (λ w. refl) served).0
 
 pub returns-in-MsgSnd-clause-ended : goal.returns-in-MsgSnd-clause-ended
-unfolding decide
+unfolding plan
 returns-in-MsgSnd-clause-ended c =
     let n = c.in-MsgSnd in
     let fits : SFits w64 n.mtype = search rules in
     let s = c.args.self.now.state in
     let client = c.args.client in
-    let served = subst (λ z. IfOk c.grant_send.result (λ answer. send_message s (creds_at s client) client n.id n.flags (record { mtype = z; text = n.text }) ≡ Serve answer c.grant_send.new.self.state)) (to_z-of_z w64 n.mtype fits) c.grant_send.ensures.served in
+    let served = subst (λ z. IfOk c.grant_send.result (λ answer. decision (creds_at s client) (send_message s client n.id n.flags (record { mtype = z; text = n.text })) ≡ Serve answer c.grant_send.new.self.state)) (to_z-of_z w64 n.mtype fits) c.grant_send.ensures.served in
     let none = (moved-ok c.grant_send.result s c.grant_send.new.self.state client c.args.call (MsgSnd n.id n.mtype n.text n.flags) n.is (λ w. refl) served).1 in
     on_ok_weaker c.grant_send.result (λ is. c.requires.empty ∙ is) none
 
 pub returns-in-MsgRcv-clause-state : goal.returns-in-MsgRcv-clause-state
-unfolding decide
+unfolding plan
 returns-in-MsgRcv-clause-state c =
     let n = c.in-MsgRcv in
     let fits : SFits w64 n.msgtyp = search rules in
     let s = c.args.self.now.state in
     let client = c.args.client in
-    let served = subst (λ z. receive_message s (creds_at s client) client n.id n.size z n.flags ≡ Serve c.grant_receive.result c.grant_receive.new.self.state) (to_z-of_z w64 n.msgtyp fits) c.grant_receive.ensures.served in
+    let served = subst (λ z. decision (creds_at s client) (receive_message s client n.id n.size z n.flags) ≡ Serve c.grant_receive.result c.grant_receive.new.self.state) (to_z-of_z w64 n.msgtyp fits) c.grant_receive.ensures.served in
     let moved = moved-at s c.grant_receive.new.self.state client c.args.call (MsgRcv n.id n.size n.msgtyp n.flags) c.grant_receive.result n.is served ∙ unforced c.grant_receive.new.self.state (MsgRcv n.id n.size n.msgtyp n.flags) (λ w. refl) in
     sym (ap (λ (m : Moved). m.state) moved)
 
 pub returns-in-MsgRcv-clause-ended : goal.returns-in-MsgRcv-clause-ended
-unfolding decide
+unfolding plan
 returns-in-MsgRcv-clause-ended c =
     let n = c.in-MsgRcv in
     let fits : SFits w64 n.msgtyp = search rules in
     let s = c.args.self.now.state in
     let client = c.args.client in
-    let served = subst (λ z. receive_message s (creds_at s client) client n.id n.size z n.flags ≡ Serve c.grant_receive.result c.grant_receive.new.self.state) (to_z-of_z w64 n.msgtyp fits) c.grant_receive.ensures.served in
+    let served = subst (λ z. decision (creds_at s client) (receive_message s client n.id n.size z n.flags) ≡ Serve c.grant_receive.result c.grant_receive.new.self.state) (to_z-of_z w64 n.msgtyp fits) c.grant_receive.ensures.served in
     let moved = moved-at s c.grant_receive.new.self.state client c.args.call (MsgRcv n.id n.size n.msgtyp n.flags) c.grant_receive.result n.is served ∙ unforced c.grant_receive.new.self.state (MsgRcv n.id n.size n.msgtyp n.flags) (λ w. refl) in
     c.requires.empty ∙ sym (ap (λ (m : Moved). m.ended) moved)
 
 pub returns-in-IpcStat-clause-state : goal.returns-in-IpcStat-clause-state
-unfolding decide
+unfolding plan
 returns-in-IpcStat-clause-state c =
     let n = c.in-IpcStat in
     let s = c.args.self.now.state in
@@ -82,7 +83,7 @@ returns-in-IpcStat-clause-state c =
     sym (ap (λ (m : Moved). m.state) moved)
 
 pub returns-in-IpcStat-clause-ended : goal.returns-in-IpcStat-clause-ended
-unfolding decide
+unfolding plan
 returns-in-IpcStat-clause-ended c =
     let n = c.in-IpcStat in
     let s = c.args.self.now.state in
@@ -90,7 +91,7 @@ returns-in-IpcStat-clause-ended c =
     c.requires.empty ∙ sym (ap (λ (m : Moved). m.ended) moved)
 
 pub grant_remove-requires-clause-left : goal.grant_remove-requires-clause-left
-unfolding decide
+unfolding plan
 grant_remove-requires-clause-left c =
     let n = c.in-IpcRmid in
     let s = c.args.self.now.state in
@@ -98,7 +99,7 @@ grant_remove-requires-clause-left c =
     ap (λ (t : State). sends_on n.id t.parked) c.force-in-IpcRmid.ensures.state ∙ removed-left s (creds_at s c.args.client) n.kind n.id go
 
 pub returns-in-IpcSet-clause-state : goal.returns-in-IpcSet-clause-state
-unfolding decide
+unfolding plan
 returns-in-IpcSet-clause-state c =
     let n = c.in-IpcSet in
     let s = c.args.self.now.state in
@@ -106,7 +107,7 @@ returns-in-IpcSet-clause-state c =
     c.force.ensures.state ∙ sym (ap (λ (m : Moved). m.state) (moved-at s c.grant_set-answer.new.self.state c.args.client c.args.call call c.grant_set-answer.result n.is c.grant_set-answer.ensures.served))
 
 pub returns-in-IpcRmid-clause-state : goal.returns-in-IpcRmid-clause-state
-unfolding decide
+unfolding plan
 returns-in-IpcRmid-clause-state c =
     let n = c.in-IpcRmid in
     let s = c.args.self.now.state in
@@ -118,7 +119,7 @@ returns-in-IpcRmid-clause-state c =
     ∙ sym (ap (λ (m : Moved). m.state) (moved-at s (without s n.kind n.id) c.args.client c.args.call (IpcRmid n.kind n.id) Done n.is (removed s creds n.kind n.id go)))
 
 pub returns-in-Interrupt-clause-state : goal.returns-in-Interrupt-clause-state
-unfolding decide
+unfolding plan
 returns-in-Interrupt-clause-state c =
     let n = c.in-Interrupt in
     let s = c.args.self.now.state in

@@ -11,11 +11,12 @@ use Rattle.ipc_call.specs.declared.replies.Answer.TheVariants.{Done}
 use Rattle.ipc_call.specs.declared.replies.Answer.{Answer}
 use Rattle.ipc_call.specs.declared.replies.Waiting.{Waiting}
 use Rattle.ipc_control.specs.Held.{one_if, queues_of, room}
+use Rattle.ipc_model.specs.Plan.{decision}
 use Rattle.ipc_model.specs.State.{Queue, State, creds_at, is_waiting}
 use Rattle.ipc_ids.specs.Table.{Table, with_object}
 use Rattle.msg_queue.specs.declared.messages.Message.{Message}
 use Rattle.ipc_model.specs.Decision.{Serve}
-use Rattle.ipc_model.specs.Decide.{can_wait, decide}
+use Rattle.ipc_model.specs.Decide.{can_wait, decide, plan}
 use Rattle.ipc_model.specs.Messages.{queue_at, receive_message, with_message}
 use Rattle.ipc_model.specs.Step.{without}
 use Rattle.ipc_namespace.specs.declared.decisions.Decided.TheVariants as ways
@@ -90,7 +91,7 @@ send-requires-clause-reserved c =
     sent-roomy id (waiting c.self.inside.parked) (place b) (ended b) _ (inside_at b) sends (c.self.invariant.2 id)
 
 pub send-requires-clause-room : goal.send-requires-clause-room
-unfolding decide rest
+unfolding plan rest
 send-requires-clause-room c =
     let b = (goal.at.send-requires-clause-room c).After-finish-call in
     let n = c.in-MsgSnd in
@@ -119,13 +120,13 @@ pub grant_receive-answer-requires-clause-known : goal.grant_receive-answer-requi
 grant_receive-answer-requires-clause-known c = (of_client (goal.at.grant_receive-answer-requires-clause-known c).After-finish-call).0
 
 pub grant_receive-answer-requires-clause-go : goal.grant_receive-answer-requires-clause-go
-unfolding decide rest
+unfolding plan rest
 grant_receive-answer-requires-clause-go c =
     let b = (goal.at.grant_receive-answer-requires-clause-go c).After-finish-call in
     let n = c.in-MsgRcv in
     let client = c.args.client in
     let fits : SFits w64 n.msgtyp = search rules in
-    ap (λ z. decided (receive_message (rest b) (creds_at (rest b) client) client n.id n.size z n.flags)) (to_z-of_z w64 n.msgtyp fits) ∙ sym (ap (λ (call : Call). decided (decide (rest b) client call)) n.is) ∙ go b
+    ap (λ z. decided (decision (creds_at (rest b) client) (receive_message (rest b) client n.id n.size z n.flags))) (to_z-of_z w64 n.msgtyp fits) ∙ sym (ap (λ (call : Call). decided (decide (rest b) client call)) n.is) ∙ go b
 
 pub unreachable-requires : goal.unreachable-requires
 unreachable-requires c =
@@ -136,7 +137,7 @@ unreachable-requires c =
 sent : (c : After-finish-call) (id flags : ℕ) (mtype read : ℤ) (text : List ℕ) (queues : Table Queue) → c.finish-call.result ≡ MsgSnd id mtype text flags → read ≡ mtype
     → IfSome (queue_at (rest c) id) (λ q. queues ≡ with_object (rest c).queues id (with_message q c.args.client (rest c).clock (record { mtype = read; text = text })))
     → decide (rest c) c.args.client c.finish-call.result ≡ Serve Done (record (rest c) { queues = queues })
-unfolding decide rest
+unfolding plan rest
 sent c id flags mtype read text queues is back left_it =
     let client = c.args.client in
     let message : Message = record { mtype = mtype; text = text } in
@@ -145,7 +146,7 @@ sent c id flags mtype read text queues is back left_it =
     (IfSome-map (queue_at (rest c) id) _ _ (λ q same. ap (λ (t : Table Queue). record (rest c) { queues = t }) (same ∙ ap (λ z. with_object (rest c).queues id (with_message q client (rest c).clock (record { mtype = z; text = text }))) back)) left_it)
 
 pub returns-clause-ended : goal.returns-clause-ended
-unfolding decide rest
+unfolding plan rest
 returns-clause-ended c =
     let b = (goal.at.returns-clause-ended c).After-finish-call in
     let w = (ended b) in
@@ -153,7 +154,7 @@ returns-clause-ended c =
     end_at-left c.args.self.now.state (rest b) (place_of c.args.client c.args.self.now.state.parked) w (at_place b) (left b)
     ∙ elim c.match-call.branch [
       | in-MsgSnd p ↦ ended-served (rest b) c.match-call.self.state _ w.client d Done (Ok c.match-call.answer) (sent b p.in-MsgSnd.id p.in-MsgSnd.flags p.in-MsgSnd.mtype _ p.in-MsgSnd.text (queues_of p.send.new.self) p.in-MsgSnd.is (to_z-of_z w64 p.in-MsgSnd.mtype (let fits : SFits w64 p.in-MsgSnd.mtype = search rules in fits)) p.send.ensures.queues) (state_of p.self-is) (ap (λ (a : Answer). Ok a) p.answer-is)
-      | in-MsgRcv p ↦ ended-served (rest b) c.match-call.self.state _ w.client d p.grant_receive-answer.result (Ok c.match-call.answer) (ap (λ (call : Call). decide (rest b) w.client call) p.in-MsgRcv.is ∙ ap (λ z. receive_message (rest b) (creds_at (rest b) w.client) w.client p.in-MsgRcv.id p.in-MsgRcv.size z p.in-MsgRcv.flags) (sym (to_z-of_z w64 p.in-MsgRcv.msgtyp (let fits : SFits w64 p.in-MsgRcv.msgtyp = search rules in fits))) ∙ p.grant_receive-answer.ensures.served) (state_of p.self-is) (ap (λ (a : Answer). Ok a) p.answer-is)
+      | in-MsgRcv p ↦ ended-served (rest b) c.match-call.self.state _ w.client d p.grant_receive-answer.result (Ok c.match-call.answer) (ap (λ (call : Call). decide (rest b) w.client call) p.in-MsgRcv.is ∙ ap (λ z. decision (creds_at (rest b) w.client) (receive_message (rest b) w.client p.in-MsgRcv.id p.in-MsgRcv.size z p.in-MsgRcv.flags)) (sym (to_z-of_z w64 p.in-MsgRcv.msgtyp (let fits : SFits w64 p.in-MsgRcv.msgtyp = search rules in fits))) ∙ p.grant_receive-answer.ensures.served) (state_of p.self-is) (ap (λ (a : Answer). Ok a) p.answer-is)
     ]
 
 shorter : (c : After-finish-call) → length (waiting c.finish-call.new.self) + 1 ≡ length c.args.self.now.state.parked

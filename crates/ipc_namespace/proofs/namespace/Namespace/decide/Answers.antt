@@ -4,12 +4,13 @@ use Rattle.std.proofs.lemmas.Int.{to_z-of_z}
 use Rattle.std.proofs.lemmas.List.{get_or_default}
 use Rattle.ipc_call.specs.declared.calls.Call.{Call}
 use Rattle.ipc_creds.specs.Credentials.{Credentials}
+use Rattle.ipc_model.specs.Plan.{decision}
 use Rattle.ipc_model.specs.State.{State, creds_at, nobody}
 use Rattle.ipc_model.specs.Messages.{receive_message, send_message}
 use Rattle.ipc_model.specs.Queues.{get_queue}
 use Rattle.ipc_model.specs.Controls.{remove_object, set_object}
 use Rattle.ipc_model.specs.Interrupts.{interrupt}
-use Rattle.ipc_model.specs.Decide.{decide}
+use Rattle.ipc_model.specs.Decide.{decide, plan}
 use Rattle.ipc_namespace.specs.Decisions.{decided}
 use Rattle.ipc_namespace.proofs.Kept.{state_of}
 use Rattle.ipc_namespace.proofs.namespace.Namespace.decide.Goals as goal
@@ -22,52 +23,52 @@ caller c =
     ∙ ap (λ (s : State). creds_at s c.args.client) (state_of c.self.view_is)
 
 pub returns-in-MsgGet : goal.returns-in-MsgGet
-unfolding decide
+unfolding plan
 returns-in-MsgGet c =
     let s = c.args.self.now.state in
-    c.decide_get_queue.ensures ∙ ap (λ (creds : Credentials). decided (get_queue s creds c.in-MsgGet.key c.in-MsgGet.flags)) (caller (goal.at.returns-in-MsgGet c).After-index-creds)
+    c.decide_get_queue.ensures ∙ ap (λ (creds : Credentials). decided (decision creds (get_queue s creds c.in-MsgGet.key c.in-MsgGet.flags))) (caller (goal.at.returns-in-MsgGet c).After-index-creds)
     ∙ ap (λ (call : Call). decided (decide s c.args.client call)) (sym c.in-MsgGet.is)
 
 pub returns-in-IpcSet : goal.returns-in-IpcSet
-unfolding decide
+unfolding plan
 returns-in-IpcSet c =
     let s = c.args.self.now.state in
     c.decide_set.ensures c.in-IpcSet.uid c.in-IpcSet.gid c.in-IpcSet.mode
-    ∙ ap (λ (creds : Credentials). decided (set_object s creds c.in-IpcSet.kind c.in-IpcSet.id c.in-IpcSet.uid c.in-IpcSet.gid c.in-IpcSet.mode c.in-IpcSet.qbytes)) (caller (goal.at.returns-in-IpcSet c).After-index-creds)
+    ∙ ap (λ (creds : Credentials). decided (decision creds (set_object s c.in-IpcSet.kind c.in-IpcSet.id c.in-IpcSet.uid c.in-IpcSet.gid c.in-IpcSet.mode c.in-IpcSet.qbytes))) (caller (goal.at.returns-in-IpcSet c).After-index-creds)
     ∙ ap (λ (call : Call). decided (decide s c.args.client call)) (sym c.in-IpcSet.is)
 
 pub returns-in-MsgSnd : goal.returns-in-MsgSnd
-unfolding decide
+unfolding plan
 returns-in-MsgSnd c =
     let s = c.args.self.now.state in
     let n = c.in-MsgSnd in
     let client = c.args.client in
     let fits : SFits w64 n.mtype = search rules in
-    c.decide_send.ensures client n.text (sym c.len.ensures) ∙ ap (λ z. decided (send_message s c.index-creds.result.now client n.id n.flags (record { mtype = z; text = n.text }))) (to_z-of_z w64 n.mtype fits)
-    ∙ ap (λ (creds : Credentials). decided (send_message s creds client n.id n.flags (record { mtype = n.mtype; text = n.text }))) (caller (goal.at.returns-in-MsgSnd c).After-index-creds)
+    c.decide_send.ensures client n.text (sym c.len.ensures) ∙ ap (λ z. decided (decision c.index-creds.result.now (send_message s client n.id n.flags (record { mtype = z; text = n.text })))) (to_z-of_z w64 n.mtype fits)
+    ∙ ap (λ (creds : Credentials). decided (decision creds (send_message s client n.id n.flags (record { mtype = n.mtype; text = n.text })))) (caller (goal.at.returns-in-MsgSnd c).After-index-creds)
     ∙ ap (λ (call : Call). decided (decide s client call)) (sym n.is)
 
 pub returns-in-MsgRcv : goal.returns-in-MsgRcv
-unfolding decide
+unfolding plan
 returns-in-MsgRcv c =
     let s = c.args.self.now.state in
     let n = c.in-MsgRcv in
     let client = c.args.client in
     let fits : SFits w64 n.msgtyp = search rules in
-    c.decide_receive.ensures client ∙ ap (λ z. decided (receive_message s c.index-creds.result.now client n.id n.size z n.flags)) (to_z-of_z w64 n.msgtyp fits)
-    ∙ ap (λ (creds : Credentials). decided (receive_message s creds client n.id n.size n.msgtyp n.flags)) (caller (goal.at.returns-in-MsgRcv c).After-index-creds)
+    c.decide_receive.ensures client ∙ ap (λ z. decided (decision c.index-creds.result.now (receive_message s client n.id n.size z n.flags))) (to_z-of_z w64 n.msgtyp fits)
+    ∙ ap (λ (creds : Credentials). decided (decision creds (receive_message s client n.id n.size n.msgtyp n.flags))) (caller (goal.at.returns-in-MsgRcv c).After-index-creds)
     ∙ ap (λ (call : Call). decided (decide s client call)) (sym n.is)
 
 pub returns-in-IpcRmid : goal.returns-in-IpcRmid
-unfolding decide
+unfolding plan
 returns-in-IpcRmid c =
     let s = c.args.self.now.state in
     let n = c.in-IpcRmid in
-    c.decide_remove.ensures ∙ ap (λ (creds : Credentials). decided (remove_object s creds n.kind n.id)) (caller (goal.at.returns-in-IpcRmid c).After-index-creds) ∙ ap (λ (call : Call). decided (decide s c.args.client call)) (sym n.is)
+    c.decide_remove.ensures ∙ ap (λ (creds : Credentials). decided (decision creds (remove_object s n.kind n.id))) (caller (goal.at.returns-in-IpcRmid c).After-index-creds) ∙ ap (λ (call : Call). decided (decide s c.args.client call)) (sym n.is)
 
 pub returns-in-Interrupt : goal.returns-in-Interrupt
-unfolding decide
+unfolding plan
 returns-in-Interrupt c =
     let s = c.args.self.now.state in
     let n = c.in-Interrupt in
-    c.decide_interrupt.ensures ∙ ap (λ (creds : Credentials). decided (interrupt s creds n.pid)) (caller (goal.at.returns-in-Interrupt c).After-index-creds) ∙ ap (λ (call : Call). decided (decide s c.args.client call)) (sym n.is)
+    c.decide_interrupt.ensures ∙ ap (λ (creds : Credentials). decided (decision creds (interrupt s n.pid))) (caller (goal.at.returns-in-Interrupt c).After-index-creds) ∙ ap (λ (call : Call). decided (decide s c.args.client call)) (sym n.is)

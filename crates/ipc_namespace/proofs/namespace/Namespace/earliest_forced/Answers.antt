@@ -46,7 +46,7 @@ ends_on : (s : State) (forcing : Forcing) (kind : Kind) (id : ℕ) (w : Waiting)
     → (waits_on kind id w.call && is_some (forced_as s forcing w)) ≡ is_some (forced_as s forcing w)
 ends_on s forcing kind id w is =
     ⊎_elim
-    (λ (denied : forcing ≡ forcings.Denied kind id). rw denied (only_on (waits_on kind id w.call) (first_denial (creds_at s w.client) (needs s w.call))))
+    (λ (denied : forcing ≡ forcings.Denied kind id). rw denied (only_on (waits_on kind id w.call) (first_denial (creds_at s w.client) (needs s w.client w.call))))
     (λ (removed : forcing ≡ forcings.Removed kind id). rw removed (only_on (waits_on kind id w.call) (Some Removed)))
     is
 

@@ -1,7 +1,8 @@
 use Rattle.std.proofs.Common.{◌≡◌, ◌<◌, true, length, refl, sym, ap, ◌∙◌, subst, rules}
 use Rattle.std.specs.Prelude.{option_map, IfSome}
 use Rattle.std.specs.List.{find, AllByRecursion}
-use Rattle.ipc_model.specs.Decide.{can_wait, decide, goes_on}
+use Rattle.ipc_model.specs.Decide.{can_wait, decide}
+use Rattle.ipc_model.specs.Decision.{goes_on}
 use Rattle.ipc_model.specs.State.{State, is_waiting}
 use Rattle.ipc_parked.specs.Parked.{waiting}
 use Rattle.ipc_parked.proofs.Picking.{may_ask, picks_waiting}

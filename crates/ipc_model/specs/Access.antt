@@ -1,0 +1,34 @@
+-- Who is granted, and who is denied.
+use Rattle.std.specs.Prelude.{◌≡◌, ℕ, Bool, true, List, [], ◌∷◌, ◌++◌, Option, Some, None}
+use Rattle.std.specs.List.{AllByRecursion}
+use Rattle.ipc_call.specs.declared.rules.Rule.{Rule}
+use Rattle.ipc_creds.specs.Credentials.{Credentials}
+use Rattle.ipc_perm.specs.Access.{Need, denial}
+use Rattle.ipc_model.specs.Plan.{Check, Needs, checks_in, does_pass}
+use Rattle.ipc_model.specs.State.{creds_at}
+use Rattle.ipc_model.specs.Decide.{needs, plan}
+use Rattle.ipc_model.specs.Step.{Event, at_moment}
+use Rattle.ipc_model.specs.History.{History, run}
+
+-- every need is met
+abbrev pub AreMet : Credentials → List Need → Type 0
+AreMet c needs = AllByRecursion (λ need. denial c need ≡ None) needs
+
+-- some need fails by the rule, and every check before it passes
+pub record IsDenied (c : Credentials) (checks : List Check) (rule : Rule) : Type 0 where
+  pub before : List Check
+  pub need : Need
+  pub after : List Check
+  pub split : checks ≡ before ++ Needs need ∷ after
+  pub passed : AllByRecursion (λ check. does_pass c check ≡ true) before
+  pub fails : denial c need ≡ Some rule
+
+-- the caller of an event after a history, what its call needs there, and its checks
+abbrev pub caller_of : History → Event → Credentials
+caller_of h e = creds_at (run h) e.client
+
+abbrev pub needs_of : History → Event → List Need
+needs_of h e = needs (at_moment (run h) e.now) e.client e.call
+
+abbrev pub checks_of : History → Event → List Check
+checks_of h e = checks_in (plan (at_moment (run h) e.now) e.client e.call)
