@@ -1,12 +1,12 @@
 // Measurements of a publication list that serves a counter.
 ghost use Rattle.std.specs.Prelude.{◌≡◌, ◌≤◌, false, All, IfOk, IfSome};
-ghost use Rattle.pub_list.specs.Joined.{work};
+ghost use Rattle.pub_list.specs.Clients.{view, BelongsTo, IsFreshOf};
 ghost use Rattle.pub_counter.specs.Service.{IsResting};
 
 use crate::measuring::Run;
 use pub_counter::Counter;
-use pub_counter::service::{answer_call, ask, pass, reply_of};
-use pub_list::{Fresh, Joined, List, Took, WordState};
+use pub_counter::service::{ask, reply_of};
+use pub_list::{Fresh, Joined, List, Serves, Took, WordState};
 use std::alloc::AllocError;
 use std::thread::Threads;
 use std::time::Instant;
@@ -25,9 +25,9 @@ fn unserved() -> io::Error {
 
 /// So many clients join, and one of them is there.
 fn joined_one(list: &List<Counter>, mut clients: Vec<Fresh<Counter>>) -> Option<Joined<Counter>>
-    requires { All (λ f. f.seat.table_id ≡ list.now.table.shared.table_id) clients.items }
-    ensures list { IfSome result (λ j. j.seat.table_id ≡ list.now.table.shared.table_id) }
-    ensures idle { IfSome result (λ j. IsResting j.client j.seat.me.0) }
+    requires { All (λ f. IsFreshOf list.now f) clients.items }
+    ensures list { IfSome result (λ j. BelongsTo list.now j) }
+    ensures idle { IfSome result (λ j. IsResting j.client (view j)) }
 {
     let first = clients.pop()?.join(list);
     for fresh in clients {
@@ -43,10 +43,10 @@ fn steps(
     joined: &mut Joined<Counter>,
     list: &List<Counter>,
 ) -> io::Result<[Instant; 7]>
-    requires list { joined.old.seat.table_id ≡ list.now.table.shared.table_id }
-    requires idle { IsResting joined.old.client joined.old.seat.me.0 }
-    ensures list { joined.new.seat.table_id ≡ joined.old.seat.table_id }
-    ensures idle { IfOk result (λ _. IsResting joined.new.client joined.new.seat.me.0) }
+    requires list { BelongsTo list.now joined.old }
+    requires idle { IsResting joined.old.client (view joined.old) }
+    ensures list { BelongsTo list.now joined.new }
+    ensures idle { IfOk result (λ _. IsResting joined.new.client (view joined.new)) }
 {
     let own = joined.client();
     let start = Instant::now(rt)?;
@@ -60,7 +60,7 @@ fn steps(
         return Err(unserved());
     };
     let taken = Instant::now(rt)?;
-    let state = answer_call(joined, list, own, amount, state);
+    let state = Counter::serve(joined, list, own, amount, state);
     let answered = Instant::now(rt)?;
     joined.release(list, state);
     let released = Instant::now(rt)?;
@@ -80,10 +80,10 @@ fn steps(
 
 /// The same with no moment.
 fn ask_alone(joined: &mut Joined<Counter>, list: &List<Counter>) -> io::Result<u64>
-    requires list { joined.old.seat.table_id ≡ list.now.table.shared.table_id }
-    requires idle { IsResting joined.old.client joined.old.seat.me.0 }
-    ensures list { joined.new.seat.table_id ≡ joined.old.seat.table_id }
-    ensures idle { IfOk result (λ _. IsResting joined.new.client joined.new.seat.me.0) }
+    requires list { BelongsTo list.now joined.old }
+    requires idle { IsResting joined.old.client (view joined.old) }
+    ensures list { BelongsTo list.now joined.new }
+    ensures idle { IfOk result (λ _. IsResting joined.new.client (view joined.new)) }
 {
     let own = joined.client();
     joined.post(list, 1);
@@ -93,20 +93,20 @@ fn ask_alone(joined: &mut Joined<Counter>, list: &List<Counter>) -> io::Result<u
     let Took::FromPosted(amount) = joined.take(list, own, WordState::Posted) else {
         return Err(unserved());
     };
-    let state = answer_call(joined, list, own, amount, state);
+    let state = Counter::serve(joined, list, own, amount, state);
     joined.release(list, state);
     reply_of(joined, list).ok_or(unserved())
 }
 
 /// The same, and the client serves whoever has joined.
 fn ask_by_pass(joined: &mut Joined<Counter>, list: &List<Counter>) -> io::Result<u64>
-    requires list { joined.old.seat.table_id ≡ list.now.table.shared.table_id }
-    requires idle { IsResting joined.old.client joined.old.seat.me.0 }
-    ensures list { joined.new.seat.table_id ≡ joined.old.seat.table_id }
-    ensures idle { IfOk result (λ _. IsResting joined.new.client joined.new.seat.me.0) }
+    requires list { BelongsTo list.now joined.old }
+    requires idle { IsResting joined.old.client (view joined.old) }
+    ensures list { BelongsTo list.now joined.new }
+    ensures idle { IfOk result (λ _. IsResting joined.new.client (view joined.new)) }
 {
     joined.post(list, 1);
-    if pass(joined, list).is_err() {
+    if joined.combine(list).is_err() {
         return Err(unserved());
     }
     reply_of(joined, list).ok_or(unserved())
@@ -115,8 +115,8 @@ fn ask_by_pass(joined: &mut Joined<Counter>, list: &List<Counter>) -> io::Result
 /// A list of so many clients, all joined, and one of them.
 fn opened(rt: &HostRuntime, clients: u32) -> io::Result<(List<Counter>, Joined<Counter>)>
     requires { (1 ≤ clients) × (clients ≤ 64) }
-    ensures list { IfOk result (λ m. m.1.seat.table_id ≡ m.0.table.shared.table_id) }
-    ensures idle { IfOk result (λ m. IsResting m.1.client m.1.seat.me.0) }
+    ensures list { IfOk result (λ m. BelongsTo m.0 m.1) }
+    ensures idle { IfOk result (λ m. IsResting m.1.client (view m.1)) }
 {
     let (list, fresh) = List::new(rt.alloc(), clients, Counter::new(rt.alloc()))?;
     match joined_one(&list, fresh) {
@@ -178,8 +178,8 @@ pub fn one_of(rt: &HostRuntime, clients: u32, calls: u32) -> io::Result<Run> {
 
 /// So many calls of one client of many: how many were answered.
 fn ask_often(mut joined: Joined<Counter>, list: &List<Counter>, calls: u32) -> u32
-    requires list { joined.seat.table_id ≡ list.now.table.shared.table_id }
-    requires idle { IsResting joined.client joined.seat.me.0 }
+    requires list { BelongsTo list.now joined }
+    requires idle { IsResting joined.client (view joined) }
 {
     for call in 0..calls {
         let mut turns = TURNS;
@@ -197,13 +197,13 @@ fn asked<R: Threads + Sync>(
     clients: Vec<Fresh<Counter>>,
     calls: u32,
 ) -> Result<Vec<u32>, AllocError>
-    requires { All (λ f. f.seat.table_id ≡ list.now.table.shared.table_id) clients.items }
+    requires { All (λ f. IsFreshOf list.now f) clients.items }
 {
     thread::map_vec(
         rt,
         clients,
         &|fresh: Fresh<Counter>| -> u32
-            requires { fresh.seat.table_id ≡ list.now.table.shared.table_id }
+            requires { IsFreshOf list.now fresh }
         { ask_often(fresh.join(list), list, calls) },
     )
 }

@@ -1,4 +1,3 @@
 mod Asking
 mod Meeting
-mod Passing
 mod Serving

@@ -13,14 +13,15 @@ use Rattle.pub_counter.specs.declared.counter.Turn.{Turn}
 use Rattle.pub_counter.specs.declared.swap.Swap.{Swap}
 use Rattle.pub_counter.specs.Counter.{own, own_call}
 use Rattle.pub_counter.specs.Swap.{legal, alone, replies, swapped, waits, meets}
-use Rattle.pub_counter.specs.Service.{Knowledge, IsAsFar, IsDealt}
-use Rattle.pub_counter.specs.Swapping.{IsServing, HasTaken, HasPartner}
+use Rattle.pub_counter.specs.Service.{Knowledge, admits_all}
+use Rattle.pub_counter.specs.Swapping.{HasPartner, turns_of}
+use Rattle.pub_list.specs.Passing.{IsServing, HasTaken}
 
 nil_behind : (l : List ℕ) → l ++ [] ≡ l
 nil_behind [] = refl
 nil_behind (y ∷ l) = ap (λ (k : List ℕ). y ∷ k) (nil_behind l)
 
-module _ (n client amount : ℕ) (v : Knowledge) (old : Swap) (taken : HasTaken n client amount v old) where
+module _ (n client amount : ℕ) (v : Knowledge) (old : Swap) (taken : HasTaken turns_of legal replies own admits_all n client amount v old) where
   abbrev turn : Turn
   turn = record { client = client; amount = amount }
 
@@ -38,8 +39,8 @@ module _ (n client amount : ℕ) (v : Knowledge) (old : Swap) (taken : HasTaken 
         (let same = ap length (waiting client) in let calls = ap length (ap (λ (h : List Turn). own h client) one_more ∙ own_call v.work.seen turn) in let sum = length-append (own v.work.seen client) (amount ∷ []) in let even = taken.4 in omega arith),
       )
 
-      pub parks_on : (w : Knowledge) → w ≡ with_work (leaving client new.turns.items v.work) v → IsServing n w new
-      parks_on w e = subst (λ (z : Knowledge). IsServing n z new) (sym e) ((taken.0, refl), refl, λ i _. inl (waiting i))
+      pub parks_on : (w : Knowledge) → w ≡ with_work (leaving client new.turns.items v.work) v → IsServing turns_of legal replies n w new
+      parks_on w e = subst (λ (z : Knowledge). IsServing turns_of legal replies n z new) (sym e) ((taken.0, refl), refl, (λ i _. inl (waiting i)), tt)
 
     module _ (partner other : ℕ) (has : HasPartner n client partner other old) where
       swaps : (i : ℕ) → replies new.turns.items i ≡ replies v.work.seen i ++ swapped partner other turn i
@@ -89,23 +90,18 @@ module _ (n client amount : ℕ) (v : Knowledge) (old : Swap) (taken : HasTaken 
           pub holds : u.work.holds ≡ true
           holds = ap (λ (z : Knowledge). z.work.holds) is_then ∙ taken.0
 
-          pub serves_on : (z : Knowledge) → z ≡ with_work (replying u.work.serving partner state.turns.items u.work) u → IsServing n z state
-          serves_on z e = subst (λ (k : Knowledge). IsServing n k state) (sym (e ∙ ap (λ (k : Knowledge). with_work (replying k.work.serving partner state.turns.items k.work) k) is_then)) (
+          pub serves_on : (z : Knowledge) → z ≡ with_work (replying u.work.serving partner state.turns.items u.work) u → IsServing turns_of legal replies n z state
+          serves_on z e = subst (λ (k : Knowledge). IsServing turns_of legal replies n k state) (sym (e ∙ ap (λ (k : Knowledge). with_work (replying k.work.serving partner state.turns.items k.work) k) is_then)) (
             (taken.0, refl),
             same,
-            λ i _. dite (ℕ_discrete i partner) (λ a. inr (inl a)) (λ a. dite (ℕ_discrete i client) (λ b. inr (inr (inl b))) (λ b. inl (swaps i ∙ (ap (λ (l : List ℕ). replies v.work.seen i ++ l) (to_others i a b) ∙ nil_behind (replies v.work.seen i))))),
+            (λ i _. dite (ℕ_discrete i partner) (λ a. inr (inl a)) (λ a. dite (ℕ_discrete i client) (λ b. inr (inr (inl b))) (λ b. inl (swaps i ∙ (ap (λ (l : List ℕ). replies v.work.seen i ++ l) (to_others i a b) ∙ nil_behind (replies v.work.seen i)))))),
+            tt,
           )
 
-  pub serves_still : (w : Knowledge) (new : Swap) → w ≡ with_work (refusing client v.work) v → new.turns.items ≡ old.turns.items → IsServing n w new
-  serves_still w new e same = subst (λ (z : Knowledge). IsServing n z new) (sym e) ((taken.0, refl), same ∙ taken.2, taken.3)
+  pub serves_still : (w : Knowledge) (new : Swap) → w ≡ with_work (refusing client v.work) v → new.turns.items ≡ old.turns.items → IsServing turns_of legal replies n w new
+  serves_still w new e same = subst (λ (z : Knowledge). IsServing turns_of legal replies n z new) (sym e) ((taken.0, refl), same ∙ taken.2, taken.3, taken.7)
 
 pub took_parked : (r : ℕ) (v w : Knowledge) (t : Took ℕ) → IsTook own replies r v w states.Parked t → (c : ℕ) × (w ≡ with_work (resuming r c v.work) v)
 took_parked r v w (took.FromPosted c) h = absurd h
 took_parked r v w took.FromParked h = h
 took_parked r v w took.Not h = absurd h
-
--- a record that wasn't posted
-pub passes_by : (n r : ℕ) (v w : Knowledge) (state : Swap) (t : Took ℕ) → IsTook own replies r v w states.Posted t → ((x : ℕ) → t ≡ took.FromPosted x → ⊥) → IsServing n v state → IsServing n w state × IsAsFar v w × IsDealt r v w
-passes_by n r v w state (took.FromPosted c) h not s = absurd (not c refl)
-passes_by n r v w state took.FromParked h not s = absurd h
-passes_by n r v w state took.Not e not s = (subst (λ (z : Knowledge). IsServing n z state) (sym e) s, (ap (λ (z : Knowledge). z.work.stage) e, ap (λ (z : Knowledge). z.work.posts) e, ap (λ (z : Knowledge). z.work.entered) e, ap (λ (z : Knowledge). z.work.got) e), (ap (λ (z : Knowledge). z.work.passed) e, ap (λ (z : Knowledge). z.work.past) e, ap (λ (z : Knowledge). z.work.begun) e))

@@ -30,9 +30,6 @@ replies = replies_from 0
 by_equal : (F : Bool → Type 0) (x y : ℕ) → (x ≡ y → F true) → (x ≢ y → F false) → F (eqb x y)
 by_equal F x y hit miss = dite (ℕ_discrete x y) (λ e. subst F (sym (eq-eqb x y e)) (hit e)) (λ other. subst F (sym (ne_eqb x y other)) (miss other))
 
-pub starts_empty : (total [] < 2 ^ 64) × ((r : ℕ) → own [] r ≡ [])
-starts_empty = (omega arith, λ r. refl)
-
 pub own_call : (h : List Turn) (e : Turn) → own (h ++ e ∷ []) e.client ≡ own h e.client ++ e.amount ∷ []
 own_call [] e = by_equal (λ b. (if b then e.amount ∷ [] else []) ≡ e.amount ∷ []) e.client e.client (λ _. refl) (λ other. absurd (other refl))
 own_call (d ∷ h) e = by_equal (λ b. (if b then d.amount ∷ own (h ++ e ∷ []) e.client else own (h ++ e ∷ []) e.client) ≡ (if b then d.amount ∷ own h e.client else own h e.client) ++ e.amount ∷ []) d.client e.client

@@ -1,38 +1,22 @@
--- How a client serves a counter.
-use Rattle.std.specs.Prelude.{◌≡◌, ℕ, true, false, ◌<◌, ◌^◌, [], ◌∷◌, ◌++◌, Option, Some, None, Result, Ok, if◌then◌else◌}
+-- How a client asks a counter.
+use Rattle.std.specs.Prelude.{◌≡◌, ℕ, false, ◌<◌, ◌^◌, List, [], ◌∷◌, ◌++◌, Option, Some, None, Result, Ok}
 use Rattle.pub_rule.specs.declared.walk.View.{View}
 use Rattle.pub_rule.specs.declared.work.Work.{Work}
-use Rattle.pub_rule.specs.declared.work.Serving.TheVariants.{Posted}
 use Rattle.pub_rule.specs.declared.work.Stage.TheVariants.{Free}
-use Rattle.pub_rule.specs.WorkSteps.{marks_of, is_own}
 use Rattle.pub_list.specs.declared.asking.Answer.{Answer}
 use Rattle.pub_list.specs.declared.asking.Answer.TheVariants.{Reply}
 use Rattle.pub_list.specs.declared.records.WordState.{WordState}
 use Rattle.pub_list.specs.Asking.{IsCollected}
-use Rattle.pub_list.specs.Combining.{IsCombining, OwesNothing}
 use Rattle.pub_counter.specs.declared.counter.Turn.{Turn}
-use Rattle.pub_counter.specs.declared.counter.Counter.{Counter}
 use Rattle.pub_counter.specs.Counter.{total, own, replies}
 
 -- what a client of a counter knows
 abbrev pub Knowledge : Type 0
 Knowledge = View (Work Turn ℕ ℕ)
 
--- it combines over this state, has taken no record, and owes nobody a reply
-abbrev pub IsServing : ℕ → Knowledge → Counter → Type 0
-IsServing n v state = IsCombining v × (state.turns.items ≡ v.work.seen) × OwesNothing replies n v
-
--- it has taken the record of a client that posted this amount
-abbrev pub HasTaken : ℕ → ℕ → ℕ → Knowledge → Counter → Type 0
-HasTaken n client amount v state = (v.work.holds ≡ true) × (v.work.serving ≡ Posted client amount) × (state.turns.items ≡ v.work.seen) × OwesNothing replies n v
-
--- the client is as far as it was with its own call, and has the calls and replies that it had
-abbrev pub IsAsFar : Knowledge → Knowledge → Type 0
-IsAsFar v w = (w.work.stage ≡ v.work.stage) × (w.work.posts ≡ v.work.posts) × (w.work.entered ≡ v.work.entered) × (w.work.got ≡ v.work.got)
-
--- it dealt with the last post of this client, be it one that it heard of, or its own, and began to combine as often as before
-abbrev pub IsDealt : ℕ → Knowledge → Knowledge → Type 0
-IsDealt client v w = (w.work.passed ≡ marks_of client v.work.heard ++ v.work.passed) × (w.work.past ≡ (if is_own client v.work.stage then true else v.work.past)) × (w.work.begun ≡ v.work.begun)
+-- each of its histories may go on with any client
+abbrev pub admits_all : ℕ → List Turn → Type 0
+admits_all n h = Unit {0}
 
 -- the reply that an answer has: Memory has none
 abbrev pub reply_in : Result (Answer ℕ) WordState → Option ℕ

@@ -9,9 +9,6 @@ use Rattle.pub_counter.specs.Counter.{own}
 abbrev pub legal : List Turn → Type 0
 legal h = ⊤
 
-pub starts_empty : legal [] × ((r : ℕ) → own [] r ≡ [])
-starts_empty = (tt, λ r. refl)
-
 -- who waits for another, and its amount: the first, third, and so on of all clients
 abbrev pub alone : List Turn → Option (ℕ × ℕ)
 alone [] = None

@@ -1,19 +1,12 @@
 -- How a client serves swaps.
-use Rattle.std.specs.Prelude.{◌≡◌, ◌≢◌, ℕ, true, ◌<◌, length, Some}
-use Rattle.pub_rule.specs.declared.work.Serving.TheVariants.{Posted}
-use Rattle.pub_list.specs.Combining.{IsCombining, OwesNothing}
+use Rattle.std.specs.Prelude.{◌≡◌, ◌≢◌, ℕ, ◌<◌, List, Some}
+use Rattle.pub_counter.specs.declared.counter.Turn.{Turn}
 use Rattle.pub_counter.specs.declared.swap.Swap.{Swap}
-use Rattle.pub_counter.specs.Counter.{own}
-use Rattle.pub_counter.specs.Swap.{alone, replies}
-use Rattle.pub_counter.specs.Service.{Knowledge}
+use Rattle.pub_counter.specs.Swap.{alone}
 
--- it combines over this state, has taken no record, and owes nobody a reply
-abbrev pub IsServing : ℕ → Knowledge → Swap → Type 0
-IsServing n v state = IsCombining v × (state.turns.items ≡ v.work.seen) × OwesNothing replies n v
-
--- it has taken the record of a client that posted this amount, and of which each call has its reply
-abbrev pub HasTaken : ℕ → ℕ → ℕ → Knowledge → Swap → Type 0
-HasTaken n client amount v state = (v.work.holds ≡ true) × (v.work.serving ≡ Posted client amount) × (state.turns.items ≡ v.work.seen) × OwesNothing replies n v × (length (own v.work.seen client) ≡ length (replies v.work.seen client))
+-- the turns so far
+abbrev pub turns_of : Swap → List Turn
+turns_of state = state.turns.items
 
 -- another client waits, with this amount
 abbrev pub HasPartner : ℕ → ℕ → ℕ → ℕ → Swap → Type 0

@@ -1,9 +1,9 @@
 // Clients post, combine and collect, alone and in threads.
 ghost use Rattle.std.specs.Prelude.{◌≡◌, ◌≤◌, false, All};
-ghost use Rattle.pub_list.specs.Joined.{work};
+ghost use Rattle.pub_list.specs.Clients.{view, work, BelongsTo, IsFreshOf};
 ghost use Rattle.pub_counter.specs.Service.{IsResting};
 
-use super::service::{ask, pass, reply_of};
+use super::service::{ask, reply_of};
 use super::{Counter, Turn};
 use pub_list::{Fresh, Joined, List};
 use std::alloc::{AllocError, Global};
@@ -27,14 +27,14 @@ struct Told {
 
 /// Two clients post, and the first serves both.
 fn ask_both(list: &List<Counter>, first: &mut Joined<Counter>, second: &mut Joined<Counter>) -> bool
-    requires list { (first.old.seat.table_id ≡ list.now.table.shared.table_id) × (second.old.seat.table_id ≡ list.now.table.shared.table_id) }
-    requires idle { IsResting first.old.client first.old.seat.me.0 × IsResting second.old.client second.old.seat.me.0 }
-    ensures list { (first.new.seat.table_id ≡ first.old.seat.table_id) × (second.new.seat.table_id ≡ second.old.seat.table_id) }
-    ensures unheld { ((work first.new.seat).holds ≡ false) × ((work second.new.seat).holds ≡ false) }
+    requires list { BelongsTo list.now first.old × BelongsTo list.now second.old }
+    requires idle { IsResting first.old.client (view first.old) × IsResting second.old.client (view second.old) }
+    ensures list { BelongsTo list.now first.new × BelongsTo list.now second.new }
+    ensures unheld { ((work first.new).holds ≡ false) × ((work second.new).holds ≡ false) }
 {
     first.post(list, 5);
     second.post(list, 7);
-    pass(first, list).is_ok()
+    first.combine(list).is_ok()
 }
 
 #[test]
@@ -50,10 +50,10 @@ fn one_client_serves_two(rt: HostRuntime) -> Result<(), Fail> {
 
 /// A thousand calls of one client.
 fn ask_all(mut joined: Joined<Counter>, list: &List<Counter>) -> Told
-    requires list { joined.seat.table_id ≡ list.now.table.shared.table_id }
-    requires idle { IsResting joined.client joined.seat.me.0 }
-    ensures list { result.joined.seat.table_id ≡ list.now.table.shared.table_id }
-    ensures unheld { (work result.joined.seat).holds ≡ false }
+    requires list { BelongsTo list.now joined }
+    requires idle { IsResting joined.client (view joined) }
+    ensures list { BelongsTo list.now result.joined }
+    ensures unheld { (work result.joined).holds ≡ false }
 {
     let mut replies = [0; ROUNDS];
     let mut turns = TURNS;
@@ -75,8 +75,8 @@ fn ask_all(mut joined: Joined<Counter>, list: &List<Counter>) -> Told
 
 /// The first client takes the counter out of the list.
 fn with_state(told: Told, list: &List<Counter>) -> Told
-    requires list { told.joined.seat.table_id ≡ list.now.table.shared.table_id }
-    requires unheld { (work told.joined.seat).holds ≡ false }
+    requires list { BelongsTo list.now told.joined }
+    requires unheld { (work told.joined).holds ≡ false }
 {
     let Told {
         mut joined,
@@ -102,21 +102,21 @@ fn asked<R: Threads + Sync>(
     list: &List<Counter>,
     clients: Vec<Fresh<Counter>>,
 ) -> Result<Vec<Told>, AllocError>
-    requires { All (λ f. f.seat.table_id ≡ list.now.table.shared.table_id) clients.items }
+    requires { All (λ f. IsFreshOf list.now f) clients.items }
 {
     let told = thread::map_vec(
         rt,
         clients,
         &|fresh: Fresh<Counter>| -> Told
-            requires { fresh.seat.table_id ≡ list.now.table.shared.table_id }
-            ensures { (result.joined.seat.table_id ≡ list.entry.now.table.shared.table_id) × ((work result.joined.seat).holds ≡ false) }
+            requires { IsFreshOf list.now fresh }
+            ensures { BelongsTo list.entry.now result.joined × ((work result.joined).holds ≡ false) }
         { ask_all(fresh.join(list), list) },
     )?;
     thread::map_vec(
         rt,
         told,
         &|told: Told| -> Told
-            requires { (told.joined.seat.table_id ≡ list.now.table.shared.table_id) × ((work told.joined.seat).holds ≡ false) }
+            requires { (BelongsTo list.now told.joined) × ((work told.joined).holds ≡ false) }
         { with_state(told, list) },
     )
 }

@@ -60,7 +60,7 @@ impl Counter {
 
 /// A call is an amount, and its reply the sum of all amounts up to it.
 impl Served for Counter {
-    ghost use Rattle.pub_counter.specs.Counter.{own, replies, starts_empty, own_call, own_other, one_more, no_more};
+    ghost use Rattle.pub_counter.specs.Counter.{own, replies, own_call, own_other, one_more, no_more};
 
     type Event = Turn;
 
@@ -80,17 +80,11 @@ impl Served for Counter {
 
     ghost replies = { replies };
 
-    fn events(&self) -> u64 {
-        self.turns.len() as u64
-    }
+    ghost own_call = { λ h e _ _. own_call h e };
 
-    ghost starts_empty = { starts_empty };
+    ghost own_other = { λ h e r _ _. own_other h e r };
 
-    ghost own_call = { own_call };
-
-    ghost own_other = { own_other };
-
-    ghost one_more = { λ h e r _. one_more h e r };
+    ghost one_more = { λ h e r _ _. one_more h e r };
 
     ghost no_more = { λ h r _. no_more h r };
 }

@@ -27,6 +27,13 @@ impl Swap {
         }
     }
 
+    /// All turns so far, in their order. It is the project's own.
+    pub fn turns(&self) -> &[Turn]
+        ensures { result.now ≡ self.now.turns.items }
+    {
+        self.turns.as_slice()
+    }
+
     /// Who waits for another, and its amount. It is the project's own.
     pub fn waits(&self) -> Option<(u64, u64)>
         ensures { result ≡ alone self.now.turns.items }
@@ -61,7 +68,7 @@ impl Swap {
 /// A call is an amount, and its reply that of the client that it met.
 impl Served for Swap {
     ghost use Rattle.pub_counter.specs.Counter.{own, own_call, own_other};
-    ghost use Rattle.pub_counter.specs.Swap.{legal, replies, starts_empty, one_more, no_more};
+    ghost use Rattle.pub_counter.specs.Swap.{legal, replies, one_more, no_more};
 
     type Event = Turn;
 
@@ -81,17 +88,11 @@ impl Served for Swap {
 
     ghost replies = { replies };
 
-    fn events(&self) -> u64 {
-        self.turns.len() as u64
-    }
+    ghost own_call = { λ h e _ _. own_call h e };
 
-    ghost starts_empty = { starts_empty };
+    ghost own_other = { λ h e r _ _. own_other h e r };
 
-    ghost own_call = { own_call };
-
-    ghost own_other = { own_other };
-
-    ghost one_more = { λ h e r _. one_more h e r };
+    ghost one_more = { λ h e r _ _. one_more h e r };
 
     ghost no_more = { λ h r _. no_more h r };
 }

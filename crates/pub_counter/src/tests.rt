@@ -1,9 +1,9 @@
 // Clients join and walk, alone and in 64 threads.
-ghost use Rattle.std.specs.Prelude.{◌≡◌, ◌≤◌};
+ghost use Rattle.std.specs.Prelude.{◌≤◌};
+ghost use Rattle.pub_list.specs.Clients.{BelongsTo, IsFreshOf};
 
 use super::Counter;
 use pub_list::{Fresh, Joined, List};
-use pub_rule::Served;
 use std::process::Abort;
 use std::test::Fail;
 use std::thread;
@@ -12,7 +12,7 @@ const ALL: usize = 64;
 
 /// The clients that a walk meets, and how many they are.
 fn met_by(mut joined: Joined<Counter>, list: &List<Counter>) -> ([u32; ALL], usize)
-    requires { joined.seat.table_id ≡ list.now.table.shared.table_id }
+    requires { BelongsTo list.now joined }
     ensures { result.1 ≤ 64 }
 {
     let mut met = [0; ALL];
@@ -35,7 +35,7 @@ fn bits_of(rt: &impl Abort, met: &[u32]) -> u64 {
 #[test]
 fn a_client_alone_joins_and_walks(rt: HostRuntime) -> Result<(), Fail> {
     let counter = Counter::new(rt.alloc());
-    assert_eq!(rt; counter.events(), 0);
+    assert_eq!(rt; counter.turns().len(), 0);
     let (list, mut clients) = List::new(rt.alloc(), 1, counter)?;
     assert_eq!(rt; list.clients(), 1);
     let fresh = clients.pop().expect(&rt, "a client");
@@ -71,15 +71,15 @@ fn the_walks_of_sixty_four_threads_meet_each_client(rt: HostRuntime) -> Result<(
         &rt,
         clients,
         &|fresh: Fresh<Counter>| -> Joined<Counter>
-            requires { fresh.seat.table_id ≡ shared.now.table.shared.table_id }
-            ensures { result.seat.table_id ≡ shared.entry.now.table.shared.table_id }
+            requires { IsFreshOf shared.now fresh }
+            ensures { BelongsTo shared.entry.now result }
         { fresh.join(shared) },
     )?;
     let walks = thread::map_vec(
         &rt,
         joined,
         &|joined: Joined<Counter>| -> ([u32; ALL], usize)
-            requires { joined.seat.table_id ≡ shared.now.table.shared.table_id }
+            requires { BelongsTo shared.now joined }
         { met_by(joined, shared) },
     )?;
     assert_eq!(rt; walks.len(), ALL);

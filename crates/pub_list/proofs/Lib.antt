@@ -1,11 +1,12 @@
-mod Joining
+mod Tries
 mod Looking
+mod Marking
 mod Posting
 mod Replying
 mod Seats
 mod Seizing
 mod Taking
-mod Walking
+mod Walks
 mod Working
 mod Handing
 mod Ended

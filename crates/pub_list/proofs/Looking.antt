@@ -1,5 +1,5 @@
 -- A client's seat while it looks at its own record.
-use Rattle.std.proofs.Common.{◌≡◌, ℕ, zero, suc, eqb, ◌-◌, ◌<◌, List, sym, refl, ap, ◌∙◌, subst, inl, inr, ⊎_elim, arith}
+use Rattle.std.proofs.Common.{◌≡◌, ℕ, zero, suc, ◌-◌, ◌<◌, List, sym, refl, ap, ◌∙◌, subst, inl, inr, ⊎_elim, arith}
 use mathlib.Core.Option.{none}
 use Rattle.atomic_table.specs.Table.{Me, step, Allows}
 use Rattle.atomic_table.specs.declared.shared.Seat.{Seat}
@@ -15,34 +15,18 @@ use Rattle.pub_rule.specs.WorkSplits.{owner_of}
 use Rattle.pub_rule.specs.WorkSteps.{with_work, seeing, IsIdle, IsWaiting, own_looked, word_seen}
 use Rattle.pub_rule.proofs.Clientwork.{look, watch}
 use Rattle.pub_list.specs.Joined.{IsJoined, IsWorking}
-use Rattle.pub_list.specs.Records.{state_at, is_answered, Shows, IsLooked}
+use Rattle.pub_list.specs.Records.{state_at, number_of, Shows, IsLooked}
 use Rattle.pub_list.specs.declared.records.WordState.{WordState}
 use Rattle.pub_list.specs.declared.records.WordState.TheVariants as states
 use Rattle.pub_list.proofs.Working.{rejoined}
 
--- the number of a state
-abbrev pub code : WordState → ℕ
-code states.Free = 0
-code states.Posted = 1
-code states.Taken = 2
-code states.Parked = 3
-code states.Answered = 4
-
-pub code_at : (k : ℕ) → k < 5 → code (state_at k) ≡ k
-code_at zero h = refl
-code_at (suc zero) h = refl
-code_at (suc (suc zero)) h = refl
-code_at (suc (suc (suc zero))) h = refl
-code_at (suc (suc (suc (suc zero)))) h = refl
-code_at (suc (suc (suc (suc (suc k))))) h = absurd (omega arith)
-
-four_at : (k : ℕ) → k < 5 → eqb k 4 ≡ is_answered (state_at k)
-four_at zero h = refl
-four_at (suc zero) h = refl
-four_at (suc (suc zero)) h = refl
-four_at (suc (suc (suc zero))) h = refl
-four_at (suc (suc (suc (suc zero)))) h = refl
-four_at (suc (suc (suc (suc (suc k))))) h = absurd (omega arith)
+pub number_at : (k : ℕ) → k < 5 → number_of (state_at k) ≡ k
+number_at zero h = refl
+number_at (suc zero) h = refl
+number_at (suc (suc zero)) h = refl
+number_at (suc (suc (suc zero))) h = refl
+number_at (suc (suc (suc (suc zero)))) h = refl
+number_at (suc (suc (suc (suc (suc k))))) h = absurd (omega arith)
 
 pub owner_is : {C : Type 0} (q : ℕ) (st : Stage C) → IsClient q st → owner_of st ≡ q
 owner_is q Spent h = absurd h
@@ -64,7 +48,7 @@ module _ {E C R : Type 0} where
 module _ {E C R S : Type 0} where
   module _ (legal : List E → Type 0) (owns : List E → ℕ → List C) (replies : List E → ℕ → List R) (client k : ℕ) (old mid : Seat (Slot C R S) (View (Work E C R))) (own : IsJoined client old) (did : own_looked (step 0 0 0 0 none) old.me k mid.me legal owns replies) where
     abbrev Then : Type 0
-    Then = (h : List E) × (mid.me ≡ (with_work (seeing h (eqb k 4) old.me.0.work) old.me.0, old.me.1)) × GoesOn old.me.0.work.seen h × GoesOn old.me.0.work.hearsay h × legal h × (k < 5) × Shows owns replies client h old.me.0.work (state_at k) old.me.0.work.stage
+    Then = (h : List E) × (mid.me ≡ (with_work (seeing h k old.me.0.work) old.me.0, old.me.1)) × GoesOn old.me.0.work.seen h × GoesOn old.me.0.work.hearsay h × legal h × (k < 5) × Shows owns replies client h old.me.0.work (state_at k) old.me.0.work.stage
 
     sees : Then
     sees = ⊎_elim
@@ -76,10 +60,10 @@ module _ {E C R S : Type 0} where
           t.6,
           t.8,
           subst (Shows owns replies client t.2 old.me.0.work (state_at k)) (sym t.3) (
-            (λ e. let z : k ≡ 0 = sym (code_at k t.8) ∙ ap code e in let l = t.7 in absurd (omega arith)),
-            (λ past e. t.9 past (sym (code_at k t.8) ∙ ap code e)),
-            (λ ready. ap state_at (t.10 ready)),
-            (λ h. subst (λ (z : ℕ). IsWaiting owns replies z t.1 t.2 old.me.0.work) same (t.11 (⊎_elim (λ e. inl (sym (code_at k t.8) ∙ ap code e)) (λ p. inr (p.0, λ e. p.1 (ap state_at e))) h))),
+            (λ e. let z : k ≡ 0 = sym (number_at k t.8) ∙ ap number_of e in let l = t.7 in absurd (omega arith)),
+            (λ past e. t.9 past (sym (number_at k t.8) ∙ ap number_of e)),
+            (λ found. ap state_at (t.10 found)),
+            (λ h. subst (λ (z : ℕ). IsWaiting owns replies z t.1 t.2 old.me.0.work) same (t.11 (⊎_elim (λ e. inl (sym (number_at k t.8) ∙ ap number_of e)) (λ p. inr (p.0, λ e. p.1 (ap state_at e))) h))),
           ),
         ))
         (λ t. let same : t.0 ≡ client = sym (owner_is t.0 old.me.0.work.stage t.2) ∙ own.working.own in let zero_now = t.7 in (
@@ -98,13 +82,13 @@ module _ {E C R S : Type 0} where
         did
 
     pub looks : IsLooked legal owns replies client old.me.0 mid.me.0 (state_at k)
-    looks = let t = sees in (t.0, t.2, t.3, t.4, ap (λ (m : Me (Slot C R S) (View (Work E C R))). m.0) t.1 ∙ ap (λ b. with_work (seeing t.0 b old.me.0.work) old.me.0) (four_at k t.5), t.6)
+    looks = let t = sees in (t.0, t.2, t.3, t.4, ap (λ (m : Me (Slot C R S) (View (Work E C R))). m.0) t.1 ∙ ap (λ (b : ℕ). with_work (seeing t.0 b old.me.0.work) old.me.0) (sym (number_at k t.5)), t.6)
 
     pub below_five : k < 5
     below_five = sees.5
 
     pub looked_joined : mid.table_id ≡ old.table_id → IsJoined client mid
-    looked_joined same = rejoined client old mid own same (ap (λ (m : Me (Slot C R S) (View (Work E C R))). m.0.walk) sees.1)
+    looked_joined same = rejoined client old mid own same (ap (λ (m : Me (Slot C R S) (View (Work E C R))). m.0.walk) sees.1) (ap (λ (m : Me (Slot C R S) (View (Work E C R))). m.0.work.heard) sees.1)
         (subst (λ (m : Me (Slot C R S) (View (Work E C R))). IsWorking client (old.table_id.slots - 1) m.0.work m.1) (sym sees.1) record { own = own.working.own; live = own.working.live; hands_are = own.working.hands_are; quiet = own.working.quiet; below = own.working.below })
 
   -- the laws at a word that the code names

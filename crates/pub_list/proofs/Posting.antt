@@ -19,9 +19,9 @@ use Rattle.pub_rule.specs.declared.work.Serving.TheVariants.{Nothing}
 use Rattle.pub_rule.specs.WorkSplits.{owner_of}
 use Rattle.pub_list.specs.declared.asking.Answer.TheVariants as answers
 use Rattle.pub_list.specs.Asking.{IsCollected}
-use Rattle.pub_list.specs.Records.{state_at}
+use Rattle.pub_list.specs.Records.{state_at, number_of}
 use Rattle.pub_rule.specs.Work.{IsClient, IsTaken}
-use Rattle.pub_list.proofs.Looking.{code, code_at, looks, below_five, looked_joined}
+use Rattle.pub_list.proofs.Looking.{number_at, looks, below_five, looked_joined}
 use Rattle.pub_list.proofs.Working.{place_in, slot_in, call_in, alone, rejoined}
 
 module _ {E C R S : Type 0} where
@@ -46,7 +46,7 @@ module _ {E C R S : Type 0} where
       nothing_left = λ j. with_taken (sym (own.working.quiet free) j) (with_state (old.table_id.slots - 1) (sym free j) [])
 
       pub posted_joined : new.table_id ≡ old.table_id → IsJoined client new
-      posted_joined same = rejoined client old new own same (ap (λ (m : Me (Slot C R S) (View (Work E C R))). m.0.walk) posts)
+      posted_joined same = rejoined client old new own same (ap (λ (m : Me (Slot C R S) (View (Work E C R))). m.0.walk) posts) (ap (λ (m : Me (Slot C R S) (View (Work E C R))). m.0.work.heard) posts)
           (subst (λ (m : Me (Slot C R S) (View (Work E C R))). IsWorking client (old.table_id.slots - 1) m.0.work m.1) (sym posts) record {
             own = refl;
             live = refl;
@@ -63,7 +63,7 @@ module _ {E C R S : Type 0} where
       still_asks same = looked_joined legal owns replies client k old mid own (did.1 other) same
 
       pub not_collected : IsCollected legal owns replies client old.me.0 mid.me.0 (Err (state_at k))
-      not_collected = (looks legal owns replies client k old mid own (did.1 other), λ e. other (sym (code_at k (below_five legal owns replies client k old mid own (did.1 other))) ∙ ap code e))
+      not_collected = (looks legal owns replies client k old mid own (did.1 other), λ e. other (sym (number_at k (below_five legal owns replies client k old mid own (did.1 other))) ∙ ap number_of e))
 
     module _ (hit : k ≡ 4) where
       abbrev itself : (did.0 hit).0 ≡ client
@@ -132,8 +132,8 @@ module _ {E C R S : Type 0} where
             )) (did.0 hit).6
 
         -- it asks nothing now
-        idle_joined : (w : Work E C R) → new.me.0 ≡ with_work w old.me.0 → w.stage ≡ Free client → w.holds ≡ false → w.serving ≡ Nothing → new.table_id ≡ old.table_id → IsJoined client new
-        idle_joined w is stage unheld nothing same = rejoined client old new own same (ap (λ (v : View (Work E C R)). v.walk) is)
+        idle_joined : (w : Work E C R) → new.me.0 ≡ with_work w old.me.0 → w.stage ≡ Free client → w.holds ≡ false → w.serving ≡ Nothing → w.heard ≡ old.me.0.work.heard → new.table_id ≡ old.table_id → IsJoined client new
+        idle_joined w is stage unheld nothing heard same = rejoined client old new own same (ap (λ (v : View (Work E C R)). v.walk) is) (ap (λ (v : View (Work E C R)). v.work.heard) is ∙ heard)
             (subst (λ (m : Work E C R × List (ℕ × Slot C R S)). IsWorking client (old.table_id.slots - 1) m.0 m.1) (λ i. ((sym is i).work, sym hands_now i)) record {
               own = ap owner_of stage;
               live = ap is_live stage;
@@ -144,8 +144,8 @@ module _ {E C R S : Type 0} where
 
         pub collected_joined : new.table_id ≡ old.table_id → IsJoined client new
         collected_joined same = ⊎_elim
-            (λ h. idle_joined (refused (did.0 hit).0 event_of old.me.0.work) (view_now ∙ ap (λ (m : Me (Slot C R S) (View (Work E C R))). m.0) h.0) (ap (λ z. Free z) itself) free (own.working.quiet free) same)
-            (λ h. idle_joined (answered (did.0 hit).0 (did.0 hit).1 h.0 event_of old.me.0.work) (view_now ∙ ap (λ (m : Me (Slot C R S) (View (Work E C R))). m.0) h.1) (ap (λ z. Free z) itself) free (own.working.quiet free) same) (did.0 hit).6
+            (λ h. idle_joined (refused (did.0 hit).0 event_of old.me.0.work) (view_now ∙ ap (λ (m : Me (Slot C R S) (View (Work E C R))). m.0) h.0) (ap (λ z. Free z) itself) free (own.working.quiet free) refl same)
+            (λ h. idle_joined (answered (did.0 hit).0 (did.0 hit).1 h.0 event_of old.me.0.work) (view_now ∙ ap (λ (m : Me (Slot C R S) (View (Work E C R))). m.0) h.1) (ap (λ z. Free z) itself) free (own.working.quiet free) refl same) (did.0 hit).6
 
   -- the laws at a word that the code names
   module _ (history : S → List E) (legal : List E → Type 0) (owns : List E → ℕ → List C) (replies : List E → ℕ → List R) (n size id word : ℕ) (me : Me (Slot C R S) (View (Work E C R))) where

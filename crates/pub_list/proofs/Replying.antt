@@ -35,6 +35,11 @@ said_in d none = d
 said_in d (some (slots.State x)) = x
 said_in d (some _) = d
 
+heard_still : {E C R : Type 0} (serving : Serving C) (r : ℕ) (h : List E) (w : Work E C R) → (replying serving r h w).heard ≡ w.heard
+heard_still Nothing r h w = refl
+heard_still (Posted q c) r h w = refl
+heard_still (Parked q c) r h w = refl
+
 -- the slot of the record that is taken lies in front
 in_front : {C R S : Type 0} (r : ℕ) (serving : Serving C) (others : List (ℕ × Slot C R S)) → IsTaken r serving → with_taken serving others ≡ (r, slots.Empty) ∷ others
 in_front r Nothing others t = absurd t
@@ -78,8 +83,8 @@ module _ {E C R S : Type 0} where
     rests : (v : View (Work E C R)) (l : List (ℕ × Slot C R S)) (new : Seat (Slot C R S) (View (Work E C R))) → new.me ≡ (v, rest l) → (x : Slot C R S) → l ≡ (r, x) ∷ rest old.me.1 → new.me ≡ (v, others)
     rests v l new e x is = e ∙ (ap (λ (z : List (ℕ × Slot C R S)). (v, rest z)) is ∙ ap (λ (z : List (ℕ × Slot C R S)). (v, rest z)) hands_were)
 
-    rejoins : (w : Work E C R) (new : Seat (Slot C R S) (View (Work E C R))) → new.me ≡ (with_work w old.me.0, others) → IsWorking p (old.table_id.slots - 1) w others → new.table_id ≡ old.table_id → IsJoined p new
-    rejoins w new is working same = rejoined p old new own same (ap (λ (m : Me (Slot C R S) (View (Work E C R))). m.0.walk) is) (subst (λ (m : Me (Slot C R S) (View (Work E C R))). IsWorking p (old.table_id.slots - 1) m.0.work m.1) (sym is) working)
+    rejoins : (w : Work E C R) (new : Seat (Slot C R S) (View (Work E C R))) → new.me ≡ (with_work w old.me.0, others) → IsWorking p (old.table_id.slots - 1) w others → w.heard ≡ old.me.0.work.heard → new.table_id ≡ old.table_id → IsJoined p new
+    rejoins w new is working heard same = rejoined p old new own same (ap (λ (m : Me (Slot C R S) (View (Work E C R))). m.0.walk) is) (ap (λ (m : Me (Slot C R S) (View (Work E C R))). m.0.work.heard) is ∙ heard) (subst (λ (m : Me (Slot C R S) (View (Work E C R))). IsWorking p (old.table_id.slots - 1) m.0.work m.1) (sym is) working)
 
     module _ (mid : Seat (Slot C R S) (View (Work E C R))) (x : Slot C R S) (put : mid.me ≡ (old.me.0, (r, x) ∷ rest old.me.1)) where
       pub hands_put : mid.me.1 ≡ (r, x) ∷ rest mid.me.1
@@ -101,7 +106,7 @@ module _ {E C R S : Type 0} where
         refuses did = ap (λ (m : Me (Slot C R S) (View (Work E C R))). m.0) (refused_now did)
 
         pub refused_joined : call_refused (step 0 word 0 0 none) mid.me 0 new.me → new.table_id ≡ old.table_id → IsJoined p new
-        refused_joined did same = rejoins (refusing r old.me.0.work) new (refused_now did) (after_refusal p (old.table_id.slots - 1) r old.me.0.work old.me.1 own.working holds) same
+        refused_joined did same = rejoins (refusing r old.me.0.work) new (refused_now did) (after_refusal p (old.table_id.slots - 1) r old.me.0.work old.me.1 own.working holds) refl same
 
         module _ (history : S → List E) (state : S) where
           -- parked
@@ -113,7 +118,7 @@ module _ {E C R S : Type 0} where
           parks did = ap (λ (m : Me (Slot C R S) (View (Work E C R))). m.0) (parked_now did)
 
           pub parked_joined : call_parked (step 0 word 0 0 (some (slots.State state))) mid.me 0 new.me history → new.table_id ≡ old.table_id → IsJoined p new
-          parked_joined did same = rejoins (leaving r (history state) old.me.0.work) new (parked_now did) (after_park p (old.table_id.slots - 1) r (history state) old.me.0.work old.me.1 own.working holds) same
+          parked_joined did same = rejoins (leaving r (history state) old.me.0.work) new (parked_now did) (after_park p (old.table_id.slots - 1) r (history state) old.me.0.work old.me.1 own.working holds) refl same
 
           -- replied
           module _ (size k : ℕ) where
@@ -130,14 +135,14 @@ module _ {E C R S : Type 0} where
             replies_now did = ap (λ (m : Me (Slot C R S) (View (Work E C R))). m.0) (replied_now did)
 
             pub replied_joined : reply_put history mid.me.0.work.serving (step size word 2 4 (some (slots.State state))) mid.me k new.me → new.table_id ≡ old.table_id → IsJoined p new
-            replied_joined did same = rejoins (replying old.me.0.work.serving r (history state) old.me.0.work) new (replied_now did) (after_reply p (old.table_id.slots - 1) r (history state) old.me.0.work old.me.1 old.me.0.work.serving own.working holds) same
+            replied_joined did same = rejoins (replying old.me.0.work.serving r (history state) old.me.0.work) new (replied_now did) (after_reply p (old.table_id.slots - 1) r (history state) old.me.0.work old.me.1 old.me.0.work.serving own.working holds) (heard_still old.me.0.work.serving r (history state) old.me.0.work) same
 
   -- the laws at a word that the code names
   module _ (history : S → List E) (legal : List E → Type 0) (owns : List E → ℕ → List C) (replies : List E → ℕ → List R) (n size id word : ℕ) (me : Me (Slot C R S) (View (Work E C R))) (p r clients : ℕ) (e : word ≡ state_word r) (key : n ≡ clients) (is : IsClient p me.0.work.stage) (holds : me.0.work.holds ≡ true) where
     pub word_refuses : (c : C) → me.0.work.serving ≡ Posted r c → me.1 ≡ (r, slots.Memory) ∷ rest me.1 → Allows (Ruled n (Serves history legal owns replies n)) size id me word (λ _. 4) (λ _. call_refused (step size word 4 0 none) me 4)
     word_refuses c takes hands = subst (λ (i : ℕ). Allows (Ruled n (Serves history legal owns replies n)) size id me i (λ _. 4) (λ _. call_refused (step size i 4 0 none) me 4)) (sym e) (refuse history legal owns replies n size id p r c me is holds takes hands)
 
-    module _ (by : E → ℕ) (call : E → C) (own_call : AddsCall owns by call) (own_other : AddsNoOther owns by) (one_more : AddsAtMostOneReply legal replies) (no_more : HasNoMoreReplies legal owns replies) (state : S) where
+    module _ (by : E → ℕ) (call : E → C) (own_call : AddsCall legal owns by call) (own_other : AddsNoOther legal owns by) (one_more : AddsAtMostOneReply legal replies) (no_more : HasNoMoreReplies legal owns replies) (state : S) where
       pub word_parks : MayPark history legal by call clients r me.0 state owns replies → me.1 ≡ (r, slots.Empty) ∷ rest me.1
           → Allows (Ruled n (Serves history legal owns replies n)) size id me word (λ k. either (eqb k 2) 3 k) (λ k m'. call_parked (step size word 2 3 (some (slots.State state))) me k m' history)
       word_parks may hands = let t = may.0 in subst (λ (i : ℕ). Allows (Ruled n (Serves history legal owns replies n)) size id me i (λ k. either (eqb k 2) 3 k) (λ k m'. call_parked (step size i 2 3 (some (slots.State state))) me k m' history)) (sym e)

@@ -1,5 +1,6 @@
 -- The steps of a client at a word that the code names, and its seat after them.
 use Rattle.std.proofs.Common.{◌≡◌, ℕ, zero, suc, eqb, ◌+◌, ◌-◌, ◌<◌, ◌≤◌, List, [], ◌∷◌, ◌++◌, length, replicate, IfSome, sym, refl, ap, ◌∙◌, subst, inl, inr, ⊎_elim, arith, Some, None, ne_eqb, Bool, true, false, ◌||◌, ◌&&◌, eq-eqb}
+use Rattle.std.specs.Prelude.{◌==◌}
 use mathlib.Core.Bool.{cond}
 use Rattle.std.specs.List.{slice_get}
 use mathlib.Core.Option.{Option, none}
@@ -26,7 +27,7 @@ use Rattle.pub_rule.proofs.Tables.{load_head, store_next, exchange_head, load_ne
 use Rattle.pub_list.specs.Records.{IsLooked}
 use Rattle.pub_list.specs.Telling.{IsTaught}
 use Rattle.pub_list.specs.declared.records.WordState.{WordState}
-use Rattle.pub_list.specs.Joined.{IsJoined, IsWorking, SeesAll, SeesFrom, client_at, seen, told, work}
+use Rattle.pub_list.specs.Joined.{IsJoined, is_on, IsWorking, SeesAll, SeesFrom, client_at, seen, told, work}
 
 pub link_small : (n : ℕ) (list : List ℕ) → IsListOf n list → link_to list ≤ n
 link_small n [] l = omega arith
@@ -72,6 +73,7 @@ module _ {E C R S : Type 0} (client clients slots : ℕ) (old new : Seat (Slot C
     small = subst (λ (z : TableId). client + 1 < z.slots) (sym same) own.small;
     listed = λ c h. subst (λ (z : TableId). c < z.slots - 1) (sym same) (subst (λ (k : ℕ). c < k - 1) (sym at) (l.1 c (subst (IsOn c) (ap (λ (m : Me (Slot C R S) (View (Work E C R))). m.0.walk.list) e) h)));
     others = λ c h. subst (λ (z : TableId). c < z.slots - 1) (sym same) (own.others c (subst (IsOn c) (ap (λ (m : Me (Slot C R S) (View (Work E C R))). m.0.walk.known) e) h));
+    heard = λ r k h. ap (is_on r) (ap (λ (m : Me (Slot C R S) (View (Work E C R))). m.0.walk.known) e) ∙ own.heard r k (subst (IsMarked r k) (ap (λ (m : Me (Slot C R S) (View (Work E C R))). m.0.work.heard) e) h);
   }
 
   counted : (list : List ℕ) → IsListOf (slots - 1) list → IsListOf clients list
@@ -102,6 +104,10 @@ client_read k list e = ap client_at e ∙ go list
     go [] = refl
     go (c ∷ cs) = ap (λ b. cond b None (Some (c + 1 - 1))) (ne_eqb (c + 1) 0 (λ e. omega arith)) ∙ ap (λ (x : ℕ). Some x) (omega arith)
 
+or_true : (b : Bool) → (b || true) ≡ true
+or_true true = refl
+or_true false = refl
+
 -- a client tells that it joined, and another learns it
 module _ {E C R S : Type 0} where
   pub told_still : (client : ℕ) (old new : Seat (Slot C R S) (View (Work E C R))) → IsJoined client old → new.table_id ≡ old.table_id → new.me ≡ old.me → IsJoined client new
@@ -111,6 +117,7 @@ module _ {E C R S : Type 0} where
     small = subst (λ (z : TableId). client + 1 < z.slots) (sym same) own.small;
     listed = λ c h. subst (λ (z : TableId). c < z.slots - 1) (sym same) (own.listed c (subst (IsOn c) (ap (λ (m : Me (Slot C R S) (View (Work E C R))). m.0.walk.list) e) h));
     others = λ c h. subst (λ (z : TableId). c < z.slots - 1) (sym same) (own.others c (subst (IsOn c) (ap (λ (m : Me (Slot C R S) (View (Work E C R))). m.0.walk.known) e) h));
+    heard = λ r k h. ap (is_on r) (ap (λ (m : Me (Slot C R S) (View (Work E C R))). m.0.walk.known) e) ∙ own.heard r k (subst (IsMarked r k) (ap (λ (m : Me (Slot C R S) (View (Work E C R))). m.0.work.heard) e) h);
   }
 
 module _ {E C R S : Type 0} (client teacher : ℕ) (old new from said : Seat (Slot C R S) (View (Work E C R))) (own : IsJoined client old) (its : IsJoined teacher from) (z : TableId) (at : old.table_id ≡ z) (there : from.table_id ≡ z) (same : new.table_id ≡ old.table_id)
@@ -124,6 +131,9 @@ module _ {E C R S : Type 0} (client teacher : ℕ) (old new from said : Seat (Sl
   pub told_more : told new ≡ teacher ∷ told old
   told_more = ap (λ (m : Me (Slot C R S) (View (Work E C R))). m.0.walk.known) did ∙ (ap (λ (m : Me (Slot C R S) (View (Work E C R))). m.0.walk.known ++ told old) tells ∙ ap (λ (c : ℕ). c ∷ told old) (ap client_of its.role))
 
+  heard_more : (work new).heard ≡ (teacher, (work from).posts) ∷ (work old).heard
+  heard_more = ap (λ (v : View (Work E C R)). v.work.heard) teaches ∙ ap (λ (c : ℕ). (c, (work from).posts) ∷ (work old).heard) its.working.own
+
   still_working : {n : ℕ} → IsWorking client n (work old) old.me.1 → IsWorking client n (taught (work old) (work said)) old.me.1
   still_working w = record { own = w.own; live = w.live; hands_are = w.hands_are; quiet = w.quiet; below = w.below }
 
@@ -135,6 +145,7 @@ module _ {E C R S : Type 0} (client teacher : ℕ) (old new from said : Seat (Sl
     listed = λ c h. subst (λ (z : TableId). c < z.slots - 1) (sym same) (own.listed c (subst (IsOn c) (ap (λ (m : Me (Slot C R S) (View (Work E C R))). m.0.walk.list) did) h));
     others = λ c h. subst (λ (z : TableId). c < z.slots - 1) (sym same) (⊎_elim (λ (e : c ≡ teacher). subst (λ (y : TableId). c < y.slots - 1) (there ∙ sym at) (let small = its.small in omega arith)) (own.others c)
         (subst (IsOn c) told_more h));
+    heard = λ r k h. ap (is_on r) told_more ∙ ⊎_elim (λ (e : (r ≡ teacher) × (k ≡ (work from).posts)). ap (λ b. b || is_on r (told old)) (eq-eqb r teacher e.0)) (λ (m : IsMarked r k (work old).heard). ap (λ b. (r == teacher) || b) (own.heard r k m) ∙ or_true (r == teacher)) (subst (IsMarked r k) heard_more h);
   }
 
 -- a post that is marked
@@ -142,10 +153,6 @@ pub is_marked_by : (r k : ℕ) (l : List (ℕ × ℕ)) → IsMarked r k l → is
 is_marked_by r k [] h = absurd h
 is_marked_by r k (x ∷ xs) h = ⊎_elim (λ (e : (r ≡ x.0) × (k ≡ x.1)). (λ i. (eqb (e.0 i) x.0 && eqb (e.1 i) x.1) || is_marked r k xs) ∙ ((λ i. (eq-eqb x.0 x.0 refl i && eq-eqb x.1 x.1 refl i) || is_marked r k xs)))
     (λ t. (λ i. (eqb r x.0 && eqb k x.1) || is_marked_by r k xs t i) ∙ or_true (eqb r x.0 && eqb k x.1)) h
-  where
-    or_true : (b : Bool) → (b || true) ≡ true
-    or_true true = refl
-    or_true false = refl
 
 -- past holds where the other knows so
 pub past_by : (a : Bool) (q client k : ℕ) (l : List (ℕ × ℕ)) → q ≡ client → IsMarked client k l → (a || is_marked q k l) ≡ true
@@ -162,7 +169,7 @@ placed_push P (y ∷ ys) x (suc n) e h p (suc k) = placed_push (λ j. P (suc j))
 
 -- the table at the start
 module _ {E C R S : Type 0} (history : S → List E) (legal : List E → Type 0) (own : List E → ℕ → List C) (replies : List E → ℕ → List R) (opens : (n : ℕ) → Opens history legal own replies n) where
-  pub opens_at : (n m k : ℕ) (words : List ℕ) (slots : List (Slot C R S)) (state : S) → history state ≡ [] → m ≡ n → words ≡ replicate k 0 → k ≡ word_count n → slots ≡ slots_of n state
-      → Ruled m (Serves history legal own replies m) (opening words slots (opening_view opening_work))
-  opens_at n m k words slots state new number w count s = subst (λ (z : ℕ × List ℕ × List (Slot C R S)). Ruled z.0 (Serves history legal own replies z.0) (opening z.1 z.2 (opening_view opening_work)))
-      (λ i. (sym number i, sym (w ∙ ap (λ (j : ℕ). replicate j 0) count) i, sym s i)) (opens n state new)
+  pub opens_at : (n m k : ℕ) (words : List ℕ) (slots : List (Slot C R S)) (state kept : S) → kept ≡ state → legal (history state) → ((r : ℕ) → own (history state) r ≡ []) → m ≡ n → words ≡ replicate k 0 → k ≡ word_count n → slots ≡ slots_of n state
+      → Ruled m (Serves history legal own replies m) (opening words slots (opening_view (opening_work (history kept))))
+  opens_at n m k words slots state kept same law uncalled number w count s = subst (λ (z : ℕ × List ℕ × List (Slot C R S) × S). Ruled z.0 (Serves history legal own replies z.0) (opening z.1 z.2 (opening_view (opening_work (history z.3)))))
+      (λ i. (sym number i, sym (w ∙ ap (λ (j : ℕ). replicate j 0) count) i, sym s i, sym same i)) (opens n state law uncalled)

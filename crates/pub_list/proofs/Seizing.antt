@@ -32,7 +32,7 @@ module _ {E C R S : Type 0} where
       found = (did.1 other).0
 
       pub met_joined : mid.table_id ≡ old.table_id → IsJoined client mid
-      met_joined same = rejoined client old mid own same (ap (λ (m : Me (Slot C R S) (View (Work E C R))). m.0.walk) (did.1 other).4)
+      met_joined same = rejoined client old mid own same (ap (λ (m : Me (Slot C R S) (View (Work E C R))). m.0.walk) (did.1 other).4) (ap (λ (m : Me (Slot C R S) (View (Work E C R))). m.0.work.heard) (did.1 other).4)
           (subst (λ (m : Me (Slot C R S) (View (Work E C R))). IsWorking client (old.table_id.slots - 1) m.0.work m.1) (sym (did.1 other).4) record { own = own.working.own; live = own.working.live; hands_are = own.working.hands_are; quiet = own.working.quiet; below = own.working.below })
 
       pub small_found : k < clients + 1
@@ -74,7 +74,7 @@ module _ {E C R S : Type 0} where
             subst (λ (z : S). GoesOn old.me.0.work.seen (history z) × legal (history z) × (new.me.0 ≡ with_work (holding (history z) old.me.0.work) old.me.0)) same ((did.0 hit).2, (did.0 hit).3, view_now)
 
         pub seized_joined : new.table_id ≡ old.table_id → IsJoined client new
-        seized_joined same = rejoined client old new own same (ap (λ (v : View (Work E C R)). v.walk) view_now)
+        seized_joined same = rejoined client old new own same (ap (λ (v : View (Work E C R)). v.walk) view_now) (ap (λ (v : View (Work E C R)). v.work.heard) view_now)
             (subst (λ (m : Work E C R × List (ℕ × Slot C R S)). IsWorking client (old.table_id.slots - 1) m.0 m.1) (λ i. ((sym view_now i).work, sym hands_now i)) record {
               own = own.working.own;
               live = own.working.live;
@@ -103,7 +103,7 @@ module _ {E C R S : Type 0} where
         releases = did ∙ ((λ i. (with_work (released (put i).0.work) (put i).0, rest (put i).1)) ∙ ap (λ (l : List (ℕ × Slot C R S)). (with_work (released old.me.0.work) old.me.0, rest l)) hands_were)
 
         pub released_joined : new.table_id ≡ old.table_id → IsJoined client new
-        released_joined same = rejoined client old new own same (ap (λ (m : Me (Slot C R S) (View (Work E C R))). m.0.walk) releases)
+        released_joined same = rejoined client old new own same (ap (λ (m : Me (Slot C R S) (View (Work E C R))). m.0.walk) releases) (ap (λ (m : Me (Slot C R S) (View (Work E C R))). m.0.work.heard) releases)
             (subst (λ (m : Me (Slot C R S) (View (Work E C R))). IsWorking client (old.table_id.slots - 1) m.0.work m.1) (sym releases) record { own = own.working.own; live = own.working.live; hands_are = refl; quiet = λ _. refl; below = λ r h. absurd h })
 
   -- the laws at a word that the code names

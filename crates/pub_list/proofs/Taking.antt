@@ -1,6 +1,8 @@
 -- A combiner's seat while it takes a record.
 use Rattle.std.proofs.Common.{◌≡◌, ◌≢◌, ℕ, true, eqb, ◌-◌, ◌<◌, List, ◌∷◌, length, sym, ap, ◌∙◌, subst}
 use Rattle.std.proofs.lemmas.Bool.{false≢true}
+use mathlib.Core.Logic.{dite}
+use native.Mathlib.Decide.{ℕ_discrete}
 use mathlib.Core.Option.{Option, some, none, some-injective}
 use prog.Atomic.{either}
 use Rattle.atomic_table.specs.Table.{Me, step, rest, Allows}
@@ -15,10 +17,11 @@ use Rattle.pub_rule.specs.declared.work.Stage.TheVariants.{Asking}
 use Rattle.pub_rule.specs.Words.{state_word}
 use Rattle.pub_rule.proofs.Numbers.{state_from_state}
 use Rattle.pub_list.specs.Joined.{IsJoined, IsWorking, own_slot, with_state, with_taken}
+use Rattle.pub_list.proofs.Seats.{told_still}
 use Rattle.pub_list.proofs.Working.{slot_in, rejoined}
 use Rattle.pub_rule.specs.Work.{IsClient, Serves}
-use Rattle.pub_rule.specs.WorkSteps.{with_work, taking, resuming, dealt, call_taken, call_resumed}
-use Rattle.pub_rule.proofs.Combiner.{take}
+use Rattle.pub_rule.specs.WorkSteps.{with_work, taking, resuming, dealt, call_taken, call_resumed, record_peeked}
+use Rattle.pub_rule.proofs.Combiner.{take, peek}
 use Rattle.pub_rule.proofs.Resuming.{resume}
 use Rattle.pub_list.specs.Combining.{IsCombining, IsOwed, IsTook}
 use Rattle.pub_list.specs.declared.combining.Took.TheVariants as took
@@ -59,7 +62,7 @@ module _ {E C R S : Type 0} where
       misses = ap (λ (m : Me (Slot C R S) (View (Work E C R))). m.0) (did.1 other).2 ∙ ap (λ (z : ℕ). with_work (dealt z old.me.0.work) old.me.0) its
 
       pub missed_joined : mid.table_id ≡ old.table_id → IsJoined p mid
-      missed_joined same = rejoined p old mid own same (ap (λ (m : Me (Slot C R S) (View (Work E C R))). m.0.walk) (did.1 other).2)
+      missed_joined same = rejoined p old mid own same (ap (λ (m : Me (Slot C R S) (View (Work E C R))). m.0.walk) (did.1 other).2) (ap (λ (m : Me (Slot C R S) (View (Work E C R))). m.0.work.heard) (did.1 other).2)
           (subst (λ (m : Me (Slot C R S) (View (Work E C R))). IsWorking p (old.table_id.slots - 1) m.0.work m.1) (sym (did.1 other).2) record { own = own.working.own; live = own.working.live; hands_are = own.working.hands_are; quiet = own.working.quiet; below = own.working.below })
 
     module _ (hit : k ≡ 1) where
@@ -93,7 +96,7 @@ module _ {E C R S : Type 0} where
         )
 
         pub taken_joined : new.table_id ≡ old.table_id → IsJoined p new
-        taken_joined same = rejoined p old new own same (ap (λ (m : Me (Slot C R S) (View (Work E C R))). m.0.walk) me_now)
+        taken_joined same = rejoined p old new own same (ap (λ (m : Me (Slot C R S) (View (Work E C R))). m.0.walk) me_now) (ap (λ (m : Me (Slot C R S) (View (Work E C R))). m.0.work.heard) me_now)
             (subst (λ (m : Me (Slot C R S) (View (Work E C R))). IsWorking p (old.table_id.slots - 1) m.0.work m.1) (sym me_now) (taken_working p (old.table_id.slots - 1) r call_was old.me.0.work old.me.1 own.working combines.0 combines.1 small))
 
   -- the same from parked
@@ -108,8 +111,24 @@ module _ {E C R S : Type 0} where
     resumes = (did.2, ap (λ (m : Me (Slot C R S) (View (Work E C R))). m.0) me_after)
 
     pub resumed_joined : new.table_id ≡ old.table_id → IsJoined p new
-    resumed_joined same = rejoined p old new own same (ap (λ (m : Me (Slot C R S) (View (Work E C R))). m.0.walk) me_after)
+    resumed_joined same = rejoined p old new own same (ap (λ (m : Me (Slot C R S) (View (Work E C R))). m.0.walk) me_after) (ap (λ (m : Me (Slot C R S) (View (Work E C R))). m.0.work.heard) me_after)
         (subst (λ (m : Me (Slot C R S) (View (Work E C R))). IsWorking p (old.table_id.slots - 1) m.0.work m.1) (sym me_after) (resumed_working p (old.table_id.slots - 1) r did.2 old.me.0.work old.me.1 own.working combines.0 combines.1 small))
+
+  -- the seat of client p was old, and is mid when the word of client r was read
+  module _ (p r word k : ℕ) (old mid : Seat (Slot C R S) (View (Work E C R))) (own : IsJoined p old) (at : word ≡ state_word r) (did : record_peeked (step 0 word 0 0 none) old.me k mid.me) where
+    pub peeked_same : k ≡ 1 → mid.me.0 ≡ old.me.0
+    peeked_same hit = ap (λ (m : Me (Slot C R S) (View (Work E C R))). m.0) (did.0 hit)
+
+    me_dealt : k ≢ 1 → mid.me ≡ (with_work (dealt r old.me.0.work) old.me.0, old.me.1)
+    me_dealt other = (did.1 other).2 ∙ ap (λ (z : ℕ). (with_work (dealt z old.me.0.work) old.me.0, old.me.1)) (state_from_state (did.1 other).0 r (sym (did.1 other).1 ∙ at))
+
+    pub peeked_dealt : k ≢ 1 → mid.me.0 ≡ with_work (dealt r old.me.0.work) old.me.0
+    peeked_dealt other = ap (λ (m : Me (Slot C R S) (View (Work E C R))). m.0) (me_dealt other)
+
+    pub peeked_joined : mid.table_id ≡ old.table_id → IsJoined p mid
+    peeked_joined same = dite (ℕ_discrete k 1) (λ hit. told_still p old mid own same (did.0 hit))
+        (λ other. rejoined p old mid own same (ap (λ (m : Me (Slot C R S) (View (Work E C R))). m.0.walk) (me_dealt other)) (ap (λ (m : Me (Slot C R S) (View (Work E C R))). m.0.work.heard) (me_dealt other))
+        (subst (λ (m : Me (Slot C R S) (View (Work E C R))). IsWorking p (old.table_id.slots - 1) m.0.work m.1) (sym (me_dealt other)) record { own = own.working.own; live = own.working.live; hands_are = own.working.hands_are; quiet = own.working.quiet; below = own.working.below }))
 
   -- the laws at a word that the code names
   module _ (history : S → List E) (legal : List E → Type 0) (owns : List E → ℕ → List C) (replies : List E → ℕ → List R) (n size id word : ℕ) (me : Me (Slot C R S) (View (Work E C R))) (p r clients : ℕ) (e : word ≡ state_word r) (key : n ≡ clients) (is : IsClient p me.0.work.stage)
@@ -121,3 +140,7 @@ module _ {E C R S : Type 0} where
     pub parked_takes : IsOwed replies r me.0 → Allows (Ruled n (Serves history legal owns replies n)) size id me word (λ k. either (eqb k 3) 2 k) (call_resumed (step size word 3 2 none) me)
     parked_takes owed = subst (λ (i : ℕ). Allows (Ruled n (Serves history legal owns replies n)) size id me i (λ k. either (eqb k 3) 2 k) (call_resumed (step size i 3 2 none) me)) (sym e)
         (resume history legal owns replies n size id p r me is combines.0 combines.1 (subst (λ (z : ℕ). r < z) (sym key) small) owed.0 owed.1)
+
+    pub posted_peeks : Allows (Ruled n (Serves history legal owns replies n)) size id me word (λ k. k) (λ k m'. record_peeked (step size word 0 0 none) me k m')
+    posted_peeks = subst (λ (i : ℕ). Allows (Ruled n (Serves history legal owns replies n)) size id me i (λ k. k) (λ k m'. record_peeked (step size i 0 0 none) me k m')) (sym e)
+        (peek history legal owns replies n size id p r me is combines.0 combines.1 (subst (λ (z : ℕ). r < z) (sym key) small))

@@ -12,9 +12,9 @@ use Rattle.pub_rule.specs.declared.work.Serving.{Serving}
 use Rattle.pub_rule.specs.declared.served.Slot.{Slot}
 use Rattle.pub_rule.specs.declared.served.Slot.TheVariants as slots
 use Rattle.pub_rule.specs.Lists.{IsOn}
-use Rattle.pub_rule.specs.Work.{IsClient}
+use Rattle.pub_rule.specs.Work.{IsClient, IsMarked}
 use Rattle.pub_rule.specs.WorkSplits.{owner_of}
-use Rattle.pub_list.specs.Joined.{IsJoined, IsWorking, is_live, own_slot, with_state, with_taken, work}
+use Rattle.pub_list.specs.Joined.{IsJoined, is_on, IsWorking, is_live, own_slot, with_state, with_taken, work}
 
 client_is : {C : Type 0} (q : ℕ) (st : Stage C) → owner_of st ≡ q → is_live st ≡ true → IsClient q st
 client_is q Spent e l = absurd (false≢true l)
@@ -56,11 +56,12 @@ module _ {E C R S : Type 0} where
   with_both client n w hands serving i holds is = i.hands_are ∙ (λ j. with_taken (is j) (with_state n (holds j) (own_slot w.stage)))
 
   -- the seat after a step that leaves the list
-  pub rejoined : (client : ℕ) (old new : Seat (Slot C R S) (View (Work E C R))) → IsJoined client old → new.table_id ≡ old.table_id → new.me.0.walk ≡ old.me.0.walk → IsWorking client (old.table_id.slots - 1) (work new) new.me.1 → IsJoined client new
-  rejoined client old new own same walk working = record {
+  pub rejoined : (client : ℕ) (old new : Seat (Slot C R S) (View (Work E C R))) → IsJoined client old → new.table_id ≡ old.table_id → new.me.0.walk ≡ old.me.0.walk → (work new).heard ≡ (work old).heard → IsWorking client (old.table_id.slots - 1) (work new) new.me.1 → IsJoined client new
+  rejoined client old new own same walk heard working = record {
     role = ap (λ (v : Walk). v.role) walk ∙ own.role;
     working = subst (λ (z : TableId). IsWorking client (z.slots - 1) (work new) new.me.1) (sym same) working;
     small = subst (λ (z : TableId). client + 1 < z.slots) (sym same) own.small;
     listed = λ c h. subst (λ (z : TableId). c < z.slots - 1) (sym same) (own.listed c (subst (IsOn c) (ap (λ (v : Walk). v.list) walk) h));
     others = λ c h. subst (λ (z : TableId). c < z.slots - 1) (sym same) (own.others c (subst (IsOn c) (ap (λ (v : Walk). v.known) walk) h));
+    heard = λ r k h. ap (is_on r) (ap (λ (v : Walk). v.known) walk) ∙ own.heard r k (subst (IsMarked r k) heard h);
   }

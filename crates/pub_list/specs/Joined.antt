@@ -1,5 +1,5 @@
 -- A client that has joined.
-use Rattle.std.specs.Prelude.{◌≡◌, ℕ, Bool, true, false, ◌+◌, ◌-◌, ◌<◌, ◌==◌, List, [], ◌∷◌, Option, Some, None, if◌then◌else◌}
+use Rattle.std.specs.Prelude.{◌≡◌, ℕ, Bool, true, false, ◌+◌, ◌-◌, ◌<◌, ◌==◌, ◌||◌, List, [], ◌∷◌, Option, Some, None, if◌then◌else◌}
 use Rattle.atomic_table.specs.declared.shared.Seat.{Seat}
 use Rattle.pub_rule.specs.declared.walk.View.{View}
 use Rattle.pub_rule.specs.declared.walk.Role.TheVariants as roles
@@ -10,13 +10,18 @@ use Rattle.pub_rule.specs.declared.work.Serving.{Serving}
 use Rattle.pub_rule.specs.declared.work.Serving.TheVariants.{Nothing, Posted, Parked}
 use Rattle.pub_rule.specs.declared.served.Slot.{Slot}
 use Rattle.pub_rule.specs.declared.served.Slot.TheVariants as slots
-use Rattle.pub_rule.specs.Work.{IsTaken}
+use Rattle.pub_rule.specs.Work.{IsTaken, IsMarked}
 use Rattle.pub_rule.specs.WorkSplits.{owner_of}
 use Rattle.pub_rule.specs.Lists.{IsOn, EndsWith}
 
 -- the client that a word of the list leads to
 abbrev pub client_at : ℕ → Option ℕ
 client_at link = if link == 0 then None else Some (link - 1)
+
+-- whether the client is on the list
+abbrev pub is_on : ℕ → List ℕ → Bool
+is_on c [] = false
+is_on c (x ∷ xs) = (c == x) || is_on c xs
 
 module _ {T W : Type 0} where
   -- the list as a client loaded it last, its head first
@@ -86,3 +91,5 @@ module _ {E C R S : Type 0} where
     pub small : client + 1 < seat.table_id.slots
     pub listed : (c : ℕ) → IsOn c (seen seat) → c < seat.table_id.slots - 1
     pub others : (c : ℕ) → IsOn c (told seat) → c < seat.table_id.slots - 1
+    -- whose post it heard of, of that client it was told that it joined
+    pub heard : (r k : ℕ) → IsMarked r k (work seat).heard → is_on r (told seat) ≡ true

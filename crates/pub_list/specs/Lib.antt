@@ -1,8 +1,12 @@
 pub mod Asking
+pub mod Clients
 pub mod Closing
 pub mod Combining
 pub mod Fresh
 pub mod Joined
+pub mod Learning
 pub mod Lists
+pub mod Opening
+pub mod Passing
 pub mod Records
 pub mod Telling

@@ -17,7 +17,7 @@ pub struct Closing<S: Served> {
     pub(crate) table: Records<S>,
     pub(crate) closer: Place<S>,
     pub(crate) clients: u32,
-    ghost own: { IsCloser table.shared.table_id table.shared.key clients closer },
+    ghost own: { IsCloser table.shared.table_id table.shared.key.0 clients closer },
 }
 
 /// A client that is handed in. It is the project's own.

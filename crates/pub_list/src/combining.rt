@@ -1,10 +1,10 @@
 //! A client combines: it seizes the state, serves records, and releases the state.
-ghost use Rattle.std.specs.Prelude.{◌≡◌, ◌<◌, true, false};
-ghost use Rattle.pub_rule.specs.WorkSteps.{with_work, refusing};
+ghost use Rattle.std.specs.Prelude.{◌≡◌, ◌<◌, true, false, IsTrue, IsFalse};
+ghost use Rattle.pub_rule.specs.WorkSteps.{with_work, dealt, refusing};
 ghost use Rattle.pub_list.specs.declared.asking.Answer.TheVariants as answers;
 ghost use Rattle.pub_list.specs.declared.records.WordState.TheVariants as states;
 ghost use Rattle.pub_rule.specs.declared.served.Slot.TheVariants as slots;
-ghost use Rattle.pub_list.specs.Joined.{work};
+ghost use Rattle.pub_list.specs.Clients.{view, work, BelongsTo, IsSame};
 ghost use Rattle.pub_list.specs.Combining.{
   IsCombining,
   IsOwed,
@@ -25,8 +25,8 @@ use crate::joined::Joined;
 use crate::lists::{List, Record};
 use crate::records::WordState;
 use pub_rule::{
-    AnswerCall, ParkCall, RefuseCall, ReleaseState, SeizeState, Served, Slot, TakeParked,
-    TakePosted, lock_word, state_word,
+    ANSWERED, AnswerCall, PARKED, POSTED, ParkCall, PeekAt, RefuseCall, ReleaseState, SeizeState,
+    Served, Slot, TAKEN, TakeParked, TakePosted, lock_word, state_word,
 };
 
 /// What came of taking a record.
@@ -44,10 +44,10 @@ impl<S: Served> Joined<S> {
     /// Seizes the state, to combine (flat combining: Hendler, Incze, Shavit, Tzafrir 2010). The error is the
     /// client that combines, which is another one. The caller doesn't combine.
     pub fn seize(&mut self, list: &List<S>) -> Result<S, u32>
-        requires list { self.old.seat.table_id ≡ list.now.table.shared.table_id }
-        requires unheld { (work self.old.seat).holds ≡ false }
-        ensures client { (self.new.client ≡ self.old.client) × (self.new.seat.table_id ≡ self.old.seat.table_id) }
-        ensures seized { IsSeized S.history S.legal list.now.clients self.old.client self.old.seat.me.0 self.new.seat.me.0 result }
+        requires list { BelongsTo list.now self.old }
+        requires unheld { (work self.old).holds ≡ false }
+        ensures client { IsSame self.old self.new }
+        ensures seized { IsSeized S.history S.legal list.now.clients self.old.client (view self.old) (view self.new) result }
     {
         let table = &list.table.shared;
         let number = u64::from(self.client) + 1;
@@ -61,16 +61,31 @@ impl<S: Served> Joined<S> {
         }
     }
 
+    /// Whether the record of `client` is posted. Where it isn't, a combiner has dealt with each post of this
+    /// client that was heard of, as where a `take` fails. The caller combines, and has taken no record. This
+    /// load before the exchange leaves the record's cache line with its client; it is the project's own.
+    pub fn is_posted(&mut self, list: &List<S>, client: u32) -> bool
+        requires list { BelongsTo list.now self.old }
+        requires client { client < list.now.clients }
+        requires combines { IsCombining (view self.old) }
+        ensures client { IsSame self.old self.new }
+        ensures posted { IsTrue result → view self.new ≡ view self.old }
+        ensures other { IsFalse result → view self.new ≡ with_work (dealt client (work self.old)) (view self.old) }
+    {
+        let table = &list.table.shared;
+        table.load::<PeekAt>(&mut self.seat, state_word(client)) == POSTED
+    }
+
     /// Takes the record of `client`, if its word is `from` (flat combining: Hendler, Incze, Shavit, Tzafrir
     /// 2010): posted, or parked where the client is owed a reply. The caller combines, and has taken no
     /// other.
     pub fn take(&mut self, list: &List<S>, client: u32, from: WordState) -> Took<S::Call>
-        requires list { self.old.seat.table_id ≡ list.now.table.shared.table_id }
+        requires list { BelongsTo list.now self.old }
         requires client { client < list.now.clients }
-        requires combines { IsCombining self.old.seat.me.0 }
-        requires from { MayTake S.replies client self.old.seat.me.0 from }
-        ensures client { (self.new.client ≡ self.old.client) × (self.new.seat.table_id ≡ self.old.seat.table_id) }
-        ensures took { IsTook S.own S.replies client self.old.seat.me.0 self.new.seat.me.0 from result }
+        requires combines { IsCombining (view self.old) }
+        requires from { MayTake S.replies client (view self.old) from }
+        ensures client { IsSame self.old self.new }
+        ensures took { IsTook S.own S.replies client (view self.old) (view self.new) from result }
     {
         match from {
             WordState::Posted => self.take_posted(list, client),
@@ -80,15 +95,20 @@ impl<S: Served> Joined<S> {
     }
 
     fn take_posted(&mut self, list: &List<S>, client: u32) -> Took<S::Call>
-        requires list { self.old.seat.table_id ≡ list.now.table.shared.table_id }
+        requires list { BelongsTo list.now self.old }
         requires client { client < list.now.clients }
-        requires combines { IsCombining self.old.seat.me.0 }
-        ensures client { (self.new.client ≡ self.old.client) × (self.new.seat.table_id ≡ self.old.seat.table_id) }
-        ensures took { IsTook S.own S.replies client self.old.seat.me.0 self.new.seat.me.0 states.Posted result }
+        requires combines { IsCombining (view self.old) }
+        ensures client { IsSame self.old self.new }
+        ensures took { IsTook S.own S.replies client (view self.old) (view self.new) states.Posted result }
     {
         let table = &list.table.shared;
-        let found = table.compare_exchange::<TakePosted>(&mut self.seat, state_word(client), 1, 2);
-        if found != 1 {
+        let found = table.compare_exchange::<TakePosted>(
+            &mut self.seat,
+            state_word(client),
+            POSTED,
+            TAKEN,
+        );
+        if found != POSTED {
             return Took::Not;
         }
         match table.exchange(&mut self.seat, client as usize, Slot::Empty) {
@@ -98,16 +118,16 @@ impl<S: Served> Joined<S> {
     }
 
     fn take_parked(&mut self, list: &List<S>, client: u32) -> Took<S::Call>
-        requires list { self.old.seat.table_id ≡ list.now.table.shared.table_id }
+        requires list { BelongsTo list.now self.old }
         requires client { client < list.now.clients }
-        requires combines { IsCombining self.old.seat.me.0 }
-        requires owed { IsOwed S.replies client self.old.seat.me.0 }
-        ensures client { (self.new.client ≡ self.old.client) × (self.new.seat.table_id ≡ self.old.seat.table_id) }
-        ensures took { IsTook S.own S.replies client self.old.seat.me.0 self.new.seat.me.0 states.Parked result }
+        requires combines { IsCombining (view self.old) }
+        requires owed { IsOwed S.replies client (view self.old) }
+        ensures client { IsSame self.old self.new }
+        ensures took { IsTook S.own S.replies client (view self.old) (view self.new) states.Parked result }
     {
         list.table
             .shared
-            .compare_exchange::<TakeParked>(&mut self.seat, state_word(client), 3, 2);
+            .compare_exchange::<TakeParked>(&mut self.seat, state_word(client), PARKED, TAKEN);
         Took::FromParked
     }
 
@@ -116,11 +136,11 @@ impl<S: Served> Joined<S> {
     /// is the one that it brings its client; or the answer is Memory, and the state has no event more. To a
     /// parked call the reply is the last that its client has in the history.
     pub fn answer(&mut self, list: &List<S>, client: u32, answer: Answer<S::Reply>, state: S) -> S
-        requires list { self.old.seat.table_id ≡ list.now.table.shared.table_id }
-        requires combines { (work self.old.seat).holds ≡ true }
-        requires answer { MayAnswer S.history S.legal S.client S.call list.now.clients client self.old.seat.me.0 state S.replies answer }
-        ensures client { (self.new.client ≡ self.old.client) × (self.new.seat.table_id ≡ self.old.seat.table_id) }
-        ensures answered { IsAnswered S.history client self.old.seat.me.0 self.new.seat.me.0 state answer }
+        requires list { BelongsTo list.now self.old }
+        requires combines { (work self.old).holds ≡ true }
+        requires answer { MayAnswer S.history S.legal S.client S.call list.now.clients client (view self.old) state S.replies answer }
+        ensures client { IsSame self.old self.new }
+        ensures answered { IsAnswered S.history client (view self.old) (view self.new) state answer }
         ensures state { result ≡ state }
     {
         match answer {
@@ -133,57 +153,69 @@ impl<S: Served> Joined<S> {
     }
 
     fn reply(&mut self, list: &List<S>, client: u32, reply: S::Reply, state: S) -> S
-        requires list { self.old.seat.table_id ≡ list.now.table.shared.table_id }
-        requires combines { (work self.old.seat).holds ≡ true }
-        requires answer { MayAnswer S.history S.legal S.client S.call list.now.clients client self.old.seat.me.0 state S.replies (answers.Reply reply) }
-        ensures client { (self.new.client ≡ self.old.client) × (self.new.seat.table_id ≡ self.old.seat.table_id) }
-        ensures answered { IsAnswered S.history client self.old.seat.me.0 self.new.seat.me.0 state (answers.Reply reply) }
+        requires list { BelongsTo list.now self.old }
+        requires combines { (work self.old).holds ≡ true }
+        requires answer { MayAnswer S.history S.legal S.client S.call list.now.clients client (view self.old) state S.replies (answers.Reply reply) }
+        ensures client { IsSame self.old self.new }
+        ensures answered { IsAnswered S.history client (view self.old) (view self.new) state (answers.Reply reply) }
         ensures state { result ≡ state }
     {
         let table = &list.table.shared;
         table.exchange(&mut self.seat, client as usize, Slot::Reply(reply));
         let said = Slot::State(state);
-        table.compare_exchange_with::<AnswerCall>(&mut self.seat, state_word(client), 2, 4, &said);
+        table.compare_exchange_with::<AnswerCall>(
+            &mut self.seat,
+            state_word(client),
+            TAKEN,
+            ANSWERED,
+            &said,
+        );
         state_in(said)
     }
 
     fn refuse(&mut self, list: &List<S>, client: u32)
-        requires list { self.old.seat.table_id ≡ list.now.table.shared.table_id }
-        requires took { TookPosted client self.old.seat.me.0 }
-        ensures client { (self.new.client ≡ self.old.client) × (self.new.seat.table_id ≡ self.old.seat.table_id) }
-        ensures refused { self.new.seat.me.0 ≡ with_work (refusing client (work self.old.seat)) self.old.seat.me.0 }
+        requires list { BelongsTo list.now self.old }
+        requires took { TookPosted client (view self.old) }
+        ensures client { IsSame self.old self.new }
+        ensures refused { view self.new ≡ with_work (refusing client (work self.old)) (view self.old) }
     {
         let table = &list.table.shared;
         table.exchange(&mut self.seat, client as usize, Slot::Memory);
-        table.store::<RefuseCall>(&mut self.seat, state_word(client), 4);
+        table.store::<RefuseCall>(&mut self.seat, state_word(client), ANSWERED);
     }
 
     /// Leaves the record of `client` parked, which the caller took from posted, and gives `state` back: it
     /// has one event more, that call, which brings its client no reply yet. This is the project's own.
     pub fn mark_parked(&mut self, list: &List<S>, client: u32, state: S) -> S
-        requires list { self.old.seat.table_id ≡ list.now.table.shared.table_id }
-        requires combines { (work self.old.seat).holds ≡ true }
-        requires park { MayPark S.history S.legal S.client S.call list.now.clients client self.old.seat.me.0 state S.own S.replies }
-        ensures client { (self.new.client ≡ self.old.client) × (self.new.seat.table_id ≡ self.old.seat.table_id) }
-        ensures parked { IsParked S.history client self.old.seat.me.0 self.new.seat.me.0 state }
+        requires list { BelongsTo list.now self.old }
+        requires combines { (work self.old).holds ≡ true }
+        requires park { MayPark S.history S.legal S.client S.call list.now.clients client (view self.old) state S.own S.replies }
+        ensures client { IsSame self.old self.new }
+        ensures parked { IsParked S.history client (view self.old) (view self.new) state }
         ensures state { result ≡ state }
     {
         let said = Slot::State(state);
         list.table
             .shared
-            .compare_exchange_with::<ParkCall>(&mut self.seat, state_word(client), 2, 3, &said);
+            .compare_exchange_with::<ParkCall>(
+                &mut self.seat,
+                state_word(client),
+                TAKEN,
+                PARKED,
+                &said,
+            );
         state_in(said)
     }
 
     /// Gives the state back to the list (flat combining: Hendler, Incze, Shavit, Tzafrir 2010). The caller
     /// combines, has taken no record, and owes nobody a reply.
     pub fn release(&mut self, list: &List<S>, state: S)
-        requires list { self.old.seat.table_id ≡ list.now.table.shared.table_id }
-        requires combines { IsCombining self.old.seat.me.0 }
-        requires state { S.history state ≡ (work self.old.seat).seen }
-        requires owed { OwesNothing S.replies list.now.clients self.old.seat.me.0 }
-        ensures client { (self.new.client ≡ self.old.client) × (self.new.seat.table_id ≡ self.old.seat.table_id) }
-        ensures released { IsReleased self.old.seat.me.0 self.new.seat.me.0 }
+        requires list { BelongsTo list.now self.old }
+        requires combines { IsCombining (view self.old) }
+        requires state { S.history state ≡ (work self.old).seen }
+        requires owed { OwesNothing S.replies list.now.clients (view self.old) }
+        ensures client { IsSame self.old self.new }
+        ensures released { IsReleased (view self.old) (view self.new) }
     {
         let table = &list.table.shared;
         table.exchange(&mut self.seat, list.clients as usize, Slot::State(state));

@@ -1,10 +1,11 @@
 //! How far a publication record is.
 ghost use Rattle.std.specs.Prelude.{◌≡◌, ◌≢◌, ◌<◌};
+ghost use Rattle.pub_list.specs.Clients.{view, BelongsTo, IsSame};
 ghost use Rattle.pub_list.specs.Records.{state_at, IsLooked};
 
 use crate::joined::Joined;
 use crate::lists::List;
-use pub_rule::{LookAt, LookOwn, Served, state_word};
+use pub_rule::{FREE, LookAt, LookOwn, PARKED, POSTED, Served, TAKEN, state_word};
 
 /// How far a client's publication record is (flat combining: Hendler, Incze, Shavit, Tzafrir 2010). That a
 /// call may be parked is the project's own.
@@ -27,11 +28,11 @@ impl<S: Served> Joined<S> {
     /// client's may be further by the time that the caller reads this, so it tells nothing for sure. Of its
     /// own the caller learns what the history has, and whether its call is answered.
     pub fn look(&mut self, list: &List<S>, client: u32) -> WordState
-        requires list { self.old.seat.table_id ≡ list.now.table.shared.table_id }
+        requires list { BelongsTo list.now self.old }
         requires client { client < list.now.clients }
-        ensures client { (self.new.client ≡ self.old.client) × (self.new.seat.table_id ≡ self.old.seat.table_id) }
-        ensures own { client ≡ self.old.client → IsLooked S.legal S.own S.replies client self.old.seat.me.0 self.new.seat.me.0 result }
-        ensures other { client ≢ self.old.client → self.new.seat.me.0 ≡ self.old.seat.me.0 }
+        ensures client { IsSame self.old self.new }
+        ensures own { client ≡ self.old.client → IsLooked S.legal S.own S.replies client (view self.old) (view self.new) result }
+        ensures other { client ≢ self.old.client → view self.new ≡ view self.old }
     {
         if client == self.client {
             self.look_own(list)
@@ -41,19 +42,19 @@ impl<S: Served> Joined<S> {
     }
 
     pub(crate) fn look_own(&mut self, list: &List<S>) -> WordState
-        requires list { self.old.seat.table_id ≡ list.now.table.shared.table_id }
-        ensures client { (self.new.client ≡ self.old.client) × (self.new.seat.table_id ≡ self.old.seat.table_id) }
-        ensures own { IsLooked S.legal S.own S.replies self.old.client self.old.seat.me.0 self.new.seat.me.0 result }
+        requires list { BelongsTo list.now self.old }
+        ensures client { IsSame self.old self.new }
+        ensures own { IsLooked S.legal S.own S.replies self.old.client (view self.old) (view self.new) result }
     {
         let table = &list.table.shared;
         state_of(table.load::<LookOwn>(&mut self.seat, state_word(self.client)))
     }
 
     fn look_at(&mut self, list: &List<S>, client: u32) -> WordState
-        requires list { self.old.seat.table_id ≡ list.now.table.shared.table_id }
+        requires list { BelongsTo list.now self.old }
         requires client { client < list.now.clients }
-        ensures client { (self.new.client ≡ self.old.client) × (self.new.seat.table_id ≡ self.old.seat.table_id) }
-        ensures view { self.new.seat.me.0 ≡ self.old.seat.me.0 }
+        ensures client { IsSame self.old self.new }
+        ensures view { view self.new ≡ view self.old }
     {
         let table = &list.table.shared;
         state_of(table.load::<LookAt>(&mut self.seat, state_word(client)))
@@ -65,10 +66,10 @@ pub(crate) fn state_of(word: u64) -> WordState
     ensures { result ≡ state_at word }
 {
     match word {
-        0 => WordState::Free,
-        1 => WordState::Posted,
-        2 => WordState::Taken,
-        3 => WordState::Parked,
+        FREE => WordState::Free,
+        POSTED => WordState::Posted,
+        TAKEN => WordState::Taken,
+        PARKED => WordState::Parked,
         _ => WordState::Answered,
     }
 }

@@ -50,26 +50,26 @@ in_stage R c y (stages.Asking q k) h = h
 in_stage R c y (stages.Token q) h = tt
 
 module _ {E C R S : Type 0} (history : S → List E) (legal : List E → Type 0) (own : List E → ℕ → List C) (replies : List E → ℕ → List R) (n : ℕ) (client : E → ℕ) (call : E → C)
-    (own_call : AddsCall own client call) (own_other : AddsNoOther own client) (one_more : AddsAtMostOneReply legal replies) (no_more : HasNoMoreReplies legal own replies) where
+    (own_call : AddsCall legal own client call) (own_other : AddsNoOther legal own client) (one_more : AddsAtMostOneReply legal replies) (no_more : HasNoMoreReplies legal own replies) where
   -- a client with as many replies as calls gets no further one
-  even_still : (h : List E) (e : E) (i : ℕ) (calls : List C) (got : List R) → legal (h ++ e ∷ []) → i ≢ client e → own h i ≡ calls → replies h i ≡ got → length calls ≡ length got → replies (h ++ e ∷ []) i ≡ got
-  even_still h e i calls got law other o g even = ⊎_elim (λ same. same ∙ g)
-      (λ y. let x : R = y.0 in let most = no_more (h ++ e ∷ []) i law in let a = ap length (own_other h e i other ∙ o) in let b = ap length (y.1 ∙ ap (λ (l : List R). l ++ x ∷ []) g) in let c = length-append got (x ∷ []) in absurd (omega arith)) (one_more h e i law)
+  even_still : (h : List E) (e : E) (i : ℕ) (calls : List C) (got : List R) → legal h → legal (h ++ e ∷ []) → i ≢ client e → own h i ≡ calls → replies h i ≡ got → length calls ≡ length got → replies (h ++ e ∷ []) i ≡ got
+  even_still h e i calls got was law other o g even = ⊎_elim (λ same. same ∙ g)
+      (λ y. let x : R = y.0 in let most = no_more (h ++ e ∷ []) i law in let a = ap length (own_other h e i was law other ∙ o) in let b = ap length (y.1 ∙ ap (λ (l : List R). l ++ x ∷ []) g) in let c = length-append got (x ∷ []) in absurd (omega arith)) (one_more h e i was law)
 
   -- another client, after an event
-  other_phase : (d : Desk E C) (r : ℕ) (c : C) (e : E) (i : ℕ) (t : Client E C R) (p : Phase C R) (paid : List ℕ) → d.serving ≡ Posted r c → legal (d.hist ++ e ∷ []) → client e ≡ r → i ≢ r → ¬ IsOn i paid → (replies d.hist i ≡ replies d.before i) ⊎ IsOn i d.paid
+  other_phase : (d : Desk E C) (r : ℕ) (c : C) (e : E) (i : ℕ) (t : Client E C R) (p : Phase C R) (paid : List ℕ) → d.serving ≡ Posted r c → legal d.hist → legal (d.hist ++ e ∷ []) → client e ≡ r → i ≢ r → ¬ IsOn i paid → (replies d.hist i ≡ replies d.before i) ⊎ IsOn i d.paid
       → own d.hist i ≡ calls_of t.entered p → length t.entered ≡ length t.got → HasReplies own replies d i t.got p → IsTakenIn i d.serving p
       → HasReplies own replies (record { hist = d.hist ++ e ∷ []; before = d.hist; paid = paid; serving = Nothing }) i t.got p × IsSettled own replies (record { hist = d.hist ++ e ∷ []; before = d.hist; paid = paid; serving = Nothing }) i p × IsTakenIn i Nothing p
-  other_phase d r c e i t away paid s law is other off owed o even h k = let z = even_still d.hist e i t.entered t.got law (λ z. other (z ∙ is)) o h even in (z, inl (z ∙ sym h), λ f. f)
-  other_phase d r c e i t free paid s law is other off owed o even h k = let z = even_still d.hist e i t.entered t.got law (λ z. other (z ∙ is)) o h even in (z, inl (z ∙ sym h), λ f. f)
-  other_phase d r c e i t (posted a) paid s law is other off owed o even h k = let z = even_still d.hist e i t.entered t.got law (λ z. other (z ∙ is)) o h even in (z, inl (z ∙ sym h), λ f. f)
-  other_phase d r c e i t (taken a) paid s law is other off owed o even h k = absurd (other (subst (IsTaken i) (sym k ∙ s) refl))
-  other_phase d r c e i t (parked a) paid s law is other off owed o even h k = let still : replies d.hist i ≡ t.got = ⊎_elim (λ z. z) (λ y. absurd (⊎_elim
+  other_phase d r c e i t away paid s was law is other off owed o even h k = let z = even_still d.hist e i t.entered t.got was law (λ z. other (z ∙ is)) o h even in (z, inl (z ∙ sym h), λ f. f)
+  other_phase d r c e i t free paid s was law is other off owed o even h k = let z = even_still d.hist e i t.entered t.got was law (λ z. other (z ∙ is)) o h even in (z, inl (z ∙ sym h), λ f. f)
+  other_phase d r c e i t (posted a) paid s was law is other off owed o even h k = let z = even_still d.hist e i t.entered t.got was law (λ z. other (z ∙ is)) o h even in (z, inl (z ∙ sym h), λ f. f)
+  other_phase d r c e i t (taken a) paid s was law is other off owed o even h k = absurd (other (subst (IsTaken i) (sym k ∙ s) refl))
+  other_phase d r c e i t (parked a) paid s was law is other off owed o even h k = let still : replies d.hist i ≡ t.got = ⊎_elim (λ z. z) (λ y. absurd (⊎_elim
       (λ (same : replies d.hist i ≡ replies d.before i). let x : R = y.0 in let z : length (t.got ++ x ∷ []) ≡ length t.got = ap length (sym y.1 ∙ (same ∙ h.0)) in let b = length-append t.got (x ∷ []) in omega arith) (λ on. y.2 on) owed)) h.1 in
-      ((still, ⊎_elim (λ same. inl (same ∙ still)) (λ y. inr (y.0, y.1 ∙ ap (λ (l : List R). l ++ y.0 ∷ []) still, off)) (one_more d.hist e i law)), tt, λ f. f)
-  other_phase d r c e i t (resumed a) paid s law is other off owed o even h k = absurd (subst is_posted (sym s ∙ k) tt)
-  other_phase d r c e i t (refused a) paid s law is other off owed o even h k = let z = even_still d.hist e i t.entered t.got law (λ z. other (z ∙ is)) o h even in (z, inl (z ∙ sym h), λ f. f)
-  other_phase d r c e i t (replied a x) paid s law is other off owed o even h k = let z = even_still d.hist e i (t.entered ++ a ∷ []) (t.got ++ x ∷ []) law (λ z. other (z ∙ is)) o h (let b = length-append t.entered (a ∷ []) in let l = length-append t.got (x ∷ []) in omega arith) in
+      ((still, ⊎_elim (λ same. inl (same ∙ still)) (λ y. inr (y.0, y.1 ∙ ap (λ (l : List R). l ++ y.0 ∷ []) still, off)) (one_more d.hist e i was law)), tt, λ f. f)
+  other_phase d r c e i t (resumed a) paid s was law is other off owed o even h k = absurd (subst is_posted (sym s ∙ k) tt)
+  other_phase d r c e i t (refused a) paid s was law is other off owed o even h k = let z = even_still d.hist e i t.entered t.got was law (λ z. other (z ∙ is)) o h even in (z, inl (z ∙ sym h), λ f. f)
+  other_phase d r c e i t (replied a x) paid s was law is other off owed o even h k = let z = even_still d.hist e i (t.entered ++ a ∷ []) (t.got ++ x ∷ []) was law (λ z. other (z ∙ is)) o h (let b = length-append t.entered (a ∷ []) in let l = length-append t.got (x ∷ []) in omega arith) in
       (z, inl (z ∙ sym h), λ f. f)
 
   append_all : (a b c : List E) → (a ++ b) ++ c ≡ a ++ (b ++ c)
@@ -86,8 +86,8 @@ module _ {E C R S : Type 0} (history : S → List E) (legal : List E → Type 0)
   parked_still h more i t (refused c) w = w
   parked_still h more i t (replied c x) w = w
 
-  same_calls : (h : List E) (e : E) (i : ℕ) (t : Client E C R) → i ≢ client e → own h i ≡ calls_of t.entered t.phase → own (h ++ e ∷ []) i ≡ calls_of t.entered t.phase
-  same_calls h e i t other o = own_other h e i other ∙ o
+  same_calls : (h : List E) (e : E) (i : ℕ) (t : Client E C R) → legal h → legal (h ++ e ∷ []) → i ≢ client e → own h i ≡ calls_of t.entered t.phase → own (h ++ e ∷ []) i ≡ calls_of t.entered t.phase
+  same_calls h e i t was law other o = own_other h e i was law other ∙ o
 
   abbrev Half : State (Slot C R S) (Work E C R) → Type 0
   Half = Served n (Serves history legal own replies n)
@@ -105,8 +105,8 @@ module _ {E C R S : Type 0} (history : S → List E) (legal : List E → Type 0)
       let owed : (i : ℕ) → i < n → (replies d.hist i ≡ replies d.before i) ⊎ IsOn i d.paid = λ i l. ⊎_elim (λ g. inl (ap (λ (z : List E). replies z i) (sym b.seen) ∙ (g ∙ ap (λ (z : List E). replies z i) b.before))) (λ on. inr (subst (IsOn i) b.paid on)) (owes i l) in
       subst (λ (z : Work E C R). Serves history legal own replies n (set words (state_word q) x) (set homes q y) (set works id z)) (sym is)
       (holder_step history legal own replies n words homes works r id p q x y v t desk' (marks_of q v.heard ++ v.passed) (if is_own q v.stage then true else v.past) at was holds small stay number slot phase
-      (λ i l other g. let z = other_phase d q c e i (r.truth i) (r.truth i).phase paid serving law whose other (off i other) (owed i l) g.calls g.even g.replies_are g.taken_is in record {
-        calls = same_calls d.hist e i (r.truth i) (λ u. other (u ∙ whose)) g.calls;
+      (λ i l other g. let z = other_phase d q c e i (r.truth i) (r.truth i).phase paid serving r.is_legal law whose other (off i other) (owed i l) g.calls g.even g.replies_are g.taken_is in record {
+        calls = same_calls d.hist e i (r.truth i) r.is_legal law (λ u. other (u ∙ whose)) g.calls;
         even = g.even;
         replies_are = z.0;
         settled = z.1;
@@ -134,7 +134,7 @@ module _ {E C R S : Type 0} (history : S → List E) (legal : List E → Type 0)
         event_step s.words s.homes s.views r id p q 4 (some (slots.Reply y)) v c e (q ∷ []) (record o { phase = replied c y }) at was holds posts whose (subst legal now law) owes
             (subst (λ (z : Phase C R). Stays (record o { phase = z }) (record o { phase = replied c y })) (sym g.0) record { stage = in_stage R c y; entered = refl; got = refl; posts = refl; begun = refl; dealt = λ _. tt; ready = λ h. absurd (omega arith) }) refl refl
             record {
-              calls = subst (λ (z : ℕ). own (hist ++ e ∷ []) z ≡ own hist z ++ call e ∷ []) whose (own_call hist e) ∙ (λ i. g.3 i ++ what i ∷ []);
+              calls = subst (λ (z : ℕ). own (hist ++ e ∷ []) z ≡ own hist z ++ call e ∷ []) whose (own_call hist e r.is_legal (subst legal now law)) ∙ (λ i. g.3 i ++ what i ∷ []);
               even = g.5;
               replies_are = ap (λ (z : List E). replies z q) (sym now) ∙ (brings ∙ ap (λ (z : List R). z ++ y ∷ []) (ap (λ (z : List E). replies z q) g.2 ∙ g.4));
               settled = inr (inl refl);

@@ -1,5 +1,5 @@
 -- The steps of a client on its own record keep the rule.
-use Rattle.std.proofs.Common.{◌≡◌, ◌⊎◌, ℕ, Bool, true, false, eqb, eqb-true, ◌≢◌, ◌+◌, ◌<◌, List, [], ◌∷◌, ◌++◌, get_or, set, sym, refl, ap, ◌∙◌, subst, inl, inr, ⊎_elim, arith, length-append}
+use Rattle.std.proofs.Common.{◌≡◌, ◌⊎◌, ℕ, false, eqb, ◌≢◌, ◌+◌, ◌<◌, List, [], ◌∷◌, ◌++◌, get_or, set, sym, refl, ap, ◌∙◌, subst, inl, inr, ⊎_elim, arith, length-append}
 use Rattle.std.proofs.lemmas.Bool.{false≢true}
 use mathlib.Core.Option.{Option, none, some}
 use prog.Atomic.{either}
@@ -73,7 +73,7 @@ module _ {E C R S : Type 0} (history : S → List E) (legal : List E → Type 0)
         tt,
         client_step history legal own replies n s.words s.homes s.views r id q 1 (some (slots.Call c)) v t (Asking q c) v.seen false at was refl record { posts = omega arith; begun = omega arith; dealt = λ e. absurd (omega arith) } refl
             refl refl record { calls = old.calls; even = old.even; replies_are = old.replies_are; settled = old.settled; was_parked = tt; taken_is = old.taken_is } refl (λ e. absurd (false≢true e)) k.saw (λ h. (k.combines h).seen) (asking q c v)
-            (λ i. record v { stage = Asking q c; seen = v.seen; entered = cl.entered i; got = cl.got i; posts = cl.posts i + 1; past = false; ready = false }),
+            (λ i. record v { stage = Asking q c; seen = v.seen; entered = cl.entered i; got = cl.got i; posts = cl.posts i + 1; past = false; found = 0 }),
         refl,
       )
 
@@ -85,11 +85,11 @@ module _ {E C R S : Type 0} (history : S → List E) (legal : List E → Type 0)
 
   -- a client that sees the history, and no more
   pub sees : (words : List ℕ) (homes : List (Option (Slot C R S))) (works : List (Work E C R)) (r : Serves history legal own replies n words homes works) (id q : ℕ) (v : Work E C R) → get_elem? works id ≡ some v → IsClient q v.stage
-      → Serves history legal own replies n (set words (state_word q) (get_or words (state_word q) 0)) homes (set works id (seeing r.desk.hist (eqb (get_or words (state_word q) 0) 4) v))
-  sees words homes works r id q v at was = let i : ℕ = state_word q in let found : ℕ = get_or words i 0 in let few = r.few in let b : Bool = eqb found 4 in let k = r.each_seat id v at in subst (λ (ws : List ℕ). Serves history legal own replies n ws homes (set works id (seeing r.desk.hist b v))) (sym (set-get_or words i 0))
-      (view_step history legal own replies n words homes works r id (seeing r.desk.hist b v) record {
+      → Serves history legal own replies n (set words (state_word q) (get_or words (state_word q) 0)) homes (set works id (seeing r.desk.hist (get_or words (state_word q) 0) v))
+  sees words homes works r id q v at was = let i : ℕ = state_word q in let found : ℕ = get_or words i 0 in let few = r.few in let k = r.each_seat id v at in subst (λ (ws : List ℕ). Serves history legal own replies n ws homes (set works id (seeing r.desk.hist found v))) (sym (set-get_or words i 0))
+      (view_step history legal own replies n words homes works r id (seeing r.desk.hist found v) record {
         maker = k.maker;
-        client = λ p is. let d = k.client p is in let small = d.made_it in record { made_it = d.made_it; live = d.live; seat_is = d.seat_is; stage = d.stage; entered = d.entered; got = d.got; posts = d.posts; begun = d.begun; past = d.past; ready = λ e. found_four p is small e; holds = d.holds; waits = d.waits };
+        client = λ p is. let d = k.client p is in let small = d.made_it in record { made_it = d.made_it; live = d.live; seat_is = d.seat_is; stage = d.stage; entered = d.entered; got = d.got; posts = d.posts; begun = d.begun; past = d.past; found = λ e. found_four p is small e; holds = d.holds; waits = d.waits };
         token = k.token;
         combines = λ e. let b = k.combines e in record { client = b.client; seen = refl; before = b.before; paid = b.paid; serving = b.serving };
         saw = all_of r.desk.hist;
@@ -107,8 +107,8 @@ module _ {E C R S : Type 0} (history : S → List E) (legal : List E → Type 0)
       one_client a b (Asking c k) h i = sym h ∙ i
       one_client a b (Token c) h i = absurd h
 
-      found_four : (p : ℕ) → IsClient p v.stage → p < r.made → eqb (get_or words (state_word q) 0) 4 ≡ true → word_of (r.truth p).phase ≡ 4
-      found_four p is small e = let few = r.few in let same : p ≡ q = one_client p q v.stage is was in sym (r.each_client p (omega arith)).word ∙ (ap (λ (z : ℕ). get_or words (state_word z) 0) same ∙ eqb-true (get_or words (state_word q) 0) 4 e)
+      found_four : (p : ℕ) → IsClient p v.stage → p < r.made → get_or words (state_word q) 0 ≡ 4 → word_of (r.truth p).phase ≡ 4
+      found_four p is small e = let few = r.few in let same : p ≡ q = one_client p q v.stage is was in sym (r.each_client p (omega arith)).word ∙ (ap (λ (z : ℕ). get_or words (state_word z) 0) same ∙ e)
 
   waits_by : (d : Desk E C) (q : ℕ) (o : Client E C R) (c a : C) (v : Work E C R) → v.entered ≡ o.entered → v.got ≡ o.got → a ≡ c → own d.hist q ≡ o.entered ++ a ∷ [] → IsParkedBy own replies d.hist q o a → IsWaiting own replies q c d.hist v
   waits_by d q o c a v entered got same calls was = let call : o.entered ++ a ∷ [] ≡ v.entered ++ c ∷ [] = λ i. sym entered i ++ same i ∷ [] in (calls ∙ call, o.parked_by, was.0, was.1 ∙ call, was.2 ∙ sym got)
@@ -146,7 +146,7 @@ module _ {E C R S : Type 0} (history : S → List E) (legal : List E → Type 0)
 
   -- what a client sees where it finds the number k in its own state word
   asking_look : (words : List ℕ) (homes : List (Option (Slot C R S))) (works : List (Work E C R)) (r : Serves history legal own replies n words homes works) (id q : ℕ) (c : C) (st : Step (Slot C R S)) (me : Me (Slot C R S) (View (Work E C R))) → get_elem? works id ≡ some me.0.work → me.0.work.stage ≡ Asking q c
-      → own_seen st me (get_or words (state_word q) 0) (with_work (seeing r.desk.hist (eqb (get_or words (state_word q) 0) 4) me.0.work) me.0, me.1) legal own replies
+      → own_seen st me (get_or words (state_word q) 0) (with_work (seeing r.desk.hist (get_or words (state_word q) 0) me.0.work) me.0, me.1) legal own replies
   asking_look words homes works r id q c st me at is = let v : Work E C R = me.0.work in let k = r.each_seat id v at in let cl = k.client q (subst (IsClient q) (sym is) refl) in let o : Client E C R = r.truth q in
       let few = r.few in let small = cl.made_it in let inside : q < n = omega arith in let rec = r.each_client q inside in let flies : IsInFlight c o.phase = subst (λ (s : Stage C). IsInStage s o.phase) is cl.stage in
       let bounds = in_flight c o.phase flies in let low = bounds.0 in let high = bounds.1 in let word : get_or words (state_word q) 0 ≡ word_of o.phase = rec.word in (
@@ -160,7 +160,7 @@ module _ {E C R S : Type 0} (history : S → List E) (legal : List E → Type 0)
         omega arith,
         omega arith,
         (λ past e. dealt_unposted o.phase (cl.past past) (sym word ∙ e)),
-        (λ ready. word ∙ cl.ready ready),
+        (λ found. word ∙ cl.found found),
         (λ f. waiting r.desk q o c o.phase v cl.entered cl.got flies (⊎_elim (λ e. inl (sym word ∙ e)) (λ t. inr (cl.past t.0, λ e. t.1 (word ∙ e))) f) rec.phase),
         k.was_told,
       )
@@ -187,14 +187,14 @@ module _ {E C R S : Type 0} (history : S → List E) (legal : List E → Type 0)
   idle_phase (Token q) p h i = absurd h
 
   idle_look : (words : List ℕ) (homes : List (Option (Slot C R S))) (works : List (Work E C R)) (r : Serves history legal own replies n words homes works) (id q : ℕ) (st : Step (Slot C R S)) (me : Me (Slot C R S) (View (Work E C R))) → get_elem? works id ≡ some me.0.work → IsClient q me.0.work.stage → IsIdle me.0.work.stage
-      → idle_seen st me (get_or words (state_word q) 0) (with_work (seeing r.desk.hist (eqb (get_or words (state_word q) 0) 4) me.0.work) me.0, me.1) legal own replies
+      → idle_seen st me (get_or words (state_word q) 0) (with_work (seeing r.desk.hist (get_or words (state_word q) 0) me.0.work) me.0, me.1) legal own replies
   idle_look words homes works r id q st me at was idle = let v : Work E C R = me.0.work in let k = r.each_seat id v at in let cl = k.client q was in let o : Client E C R = r.truth q in let few = r.few in let small = cl.made_it in let inside : q < n = omega arith in let rec = r.each_client q inside in
       let F : Phase C R → Type 0 = λ p. (word_of p ≡ 0) × (own r.desk.hist q ≡ o.entered) × (replies r.desk.hist q ≡ o.got) in
       let at_rest : (p : Phase C R) → (p ≡ away) ⊎ (p ≡ free) → IsInPhase own replies r.desk q (record o { phase = p }) → F p = λ p e h. resting r.desk q o p e h in
       let f : F o.phase = at_rest o.phase (idle_phase v.stage o.phase idle cl.stage) rec.phase in (q, r.desk.hist, was, idle, refl, k.saw, r.is_legal, rec.word ∙ f.0, f.1 ∙ sym cl.entered, f.2 ∙ sym cl.got, k.was_told)
 
   own_look : (words : List ℕ) (homes : List (Option (Slot C R S))) (works : List (Work E C R)) (r : Serves history legal own replies n words homes works) (id q : ℕ) (st : Step (Slot C R S)) (me : Me (Slot C R S) (View (Work E C R))) → get_elem? works id ≡ some me.0.work → IsClient q me.0.work.stage
-      → own_looked st me (get_or words (state_word q) 0) (with_work (seeing r.desk.hist (eqb (get_or words (state_word q) 0) 4) me.0.work) me.0, me.1) legal own replies
+      → own_looked st me (get_or words (state_word q) 0) (with_work (seeing r.desk.hist (get_or words (state_word q) 0) me.0.work) me.0, me.1) legal own replies
   own_look words homes works r id q st me at was = ⊎_elim (λ t. inl (asking_look words homes works r id q t.0 st me at t.1)) (λ idle. inr (idle_look words homes works r id q st me at was idle)) (asks_or_not q me.0.work.stage was)
 
   -- a client whose word is 4 asks
@@ -223,7 +223,7 @@ module _ {E C R S : Type 0} (history : S → List E) (legal : List E → Type 0)
         rec.home ∙ ap (λ (p : Phase C R). some (home_of p)) e,
         client_step history legal own replies n s.words s.homes s.views r id q 0 none v t (Free q) hist false at was refl record { posts = omega arith; begun = omega arith; dealt = λ _ _. tt } refl
             refl refl record { calls = old.calls; even = old.even; replies_are = old.replies_are; settled = old.settled; was_parked = tt; taken_is = old.taken_is } refl (λ f. absurd (false≢true f)) (all_of hist) (λ _. refl) (told.refused q hist v)
-            (λ i. record v { stage = Free q; seen = hist; entered = cl.entered i; got = cl.got i; posts = cl.posts i; past = false; ready = false }),
+            (λ i. record v { stage = Free q; seen = hist; entered = cl.entered i; got = cl.got i; posts = cl.posts i; past = false; found = 0 }),
         ((λ _. (q, c, hist, is, k.saw, r.is_legal, inl (refl, old.calls ∙ sym cl.entered, old.replies_are ∙ sym cl.got))), λ other. absurd (other hit)),
       ))
       (λ (y : (x : R) × (o.phase ≡ replied c x)). let x : R = y.0 in let e : o.phase ≡ replied c x = y.1 in
@@ -241,14 +241,14 @@ module _ {E C R S : Type 0} (history : S → List E) (legal : List E → Type 0)
               was_parked = tt;
               taken_is = old.taken_is;
             } refl (λ f. absurd (false≢true f)) (all_of hist) (λ _. refl) (answered q c x hist v)
-            (λ i. record v { stage = Free q; seen = hist; entered = cl.entered i ++ c ∷ []; got = cl.got i ++ x ∷ []; posts = cl.posts i; past = false; ready = false }),
+            (λ i. record v { stage = Free q; seen = hist; entered = cl.entered i ++ c ∷ []; got = cl.got i ++ x ∷ []; posts = cl.posts i; past = false; found = 0 }),
         (
           (λ _. (q, c, hist, is, k.saw, r.is_legal, inr (x, refl, old.calls ∙ ap (λ (l : List C). l ++ c ∷ []) (sym cl.entered), old.replies_are ∙ ap (λ (l : List R). l ++ x ∷ []) (sym cl.got)))),
           λ other. absurd (other hit),
         ),
       ))
       (four c o.phase (sym rec.word ∙ hit) flies))
-      (λ miss. (seeing hist (eqb found 4) v, keeps, tt, sees s.words s.homes s.views r id q v at was, ((λ hit. absurd (miss hit)), λ _. own_look s.words s.homes s.views r id q (step size (state_word q) 4 0 none) me at was))))
+      (λ miss. (seeing hist found v, keeps, tt, sees s.words s.homes s.views r id q v at was, ((λ hit. absurd (miss hit)), λ _. own_look s.words s.homes s.views r id q (step size (state_word q) 4 0 none) me at was))))
       (λ _ _ _ h. h)
 
   pub fetch : KeptByFetch history legal own replies n
@@ -264,13 +264,13 @@ module _ {E C R S : Type 0} (history : S → List E) (legal : List E → Type 0)
         rec.home ∙ ap (λ (p : Phase C R). some (home_of p)) phase,
         client_step history legal own replies n s.words s.homes s.views r id q (get_or s.words (state_word q) 0) none v (record o { phase = free }) (Free q) v.seen v.past at was refl record { posts = omega arith; begun = omega arith; dealt = λ _ _. tt } refl
             (rec.word ∙ ap (λ (p : Phase C R). word_of p) phase) refl record { calls = old.calls; even = old.even; replies_are = old.replies_are; settled = old.settled; was_parked = tt; taken_is = old.taken_is } refl (λ _. tt) k.saw (λ h. (k.combines h).seen)
-            (told.fetched q v) (λ i. record v { stage = Free q; seen = v.seen; entered = cl.entered i; got = cl.got i; posts = cl.posts i; past = v.past; ready = false }),
+            (told.fetched q v) (λ i. record v { stage = Free q; seen = v.seen; entered = cl.entered i; got = cl.got i; posts = cl.posts i; past = v.past; found = 0 }),
         (q, is, refl),
       ))
       (λ _ _ _ h. h)
 
   -- a seat that sees nothing is as it was
-  idle : (s : State (Slot C R S) (Work E C R)) (i id : ℕ) (v : Work E C R) → get_elem? s.views id ≡ some v → Half s → Serves history legal own replies n (set s.words i (get_or s.words i 0)) s.homes (set s.views id v)
+  pub idle : (s : State (Slot C R S) (Work E C R)) (i id : ℕ) (v : Work E C R) → get_elem? s.views id ≡ some v → Half s → Serves history legal own replies n (set s.words i (get_or s.words i 0)) s.homes (set s.views id v)
   idle s i id v at r = subst (λ (ws : List ℕ). Serves history legal own replies n ws s.homes (set s.views id v)) (sym (set-get_or s.words i 0)) (subst (Serves history legal own replies n s.words s.homes) (sym (set_again s.views id v at)) r)
 
   give_half : (size id q : ℕ) (v : Work E C R) (hands : List (ℕ × Slot C R S)) → v.stage ≡ Free q → Allows Half size id (v, (q, slots.Empty) ∷ hands) (state_word q) (λ k. k) (λ _ m'. m' ≡ (told.given q v, hands))
@@ -283,7 +283,7 @@ module _ {E C R S : Type 0} (history : S → List E) (legal : List E → Type 0)
         tt,
         client_step history legal own replies n s.words s.homes s.views r id q (get_or s.words (state_word q) 0) (some slots.Empty) v (record o { phase = away }) (Away q) v.seen v.past at was refl record { posts = omega arith; begun = omega arith; dealt = λ _ _. tt } refl
             (rec.word ∙ ap (λ (p : Phase C R). word_of p) phase) refl record { calls = old.calls; even = old.even; replies_are = old.replies_are; settled = old.settled; was_parked = tt; taken_is = old.taken_is } refl (λ _. tt) k.saw (λ h. (k.combines h).seen)
-            (told.given q v) (λ i. record v { stage = Away q; seen = v.seen; entered = cl.entered i; got = cl.got i; posts = cl.posts i; past = v.past; ready = false }),
+            (told.given q v) (λ i. record v { stage = Away q; seen = v.seen; entered = cl.entered i; got = cl.got i; posts = cl.posts i; past = v.past; found = 0 }),
         refl,
       )
 
@@ -304,7 +304,7 @@ module _ {E C R S : Type 0} (history : S → List E) (legal : List E → Type 0)
   pub watch : KeptByWatch history legal own replies n
   watch size id q me was = let v : Work E C R = me.0.work in let half : ℕ → Me (Slot C R S) (Work E C R) → Type 0 = λ k m'. own_looked (step size (state_word q) 0 0 none) me k (with_work m'.0 me.0, m'.1) legal own replies in
       lift n (Serves history legal own replies n) size id (state_word q) (λ k. k) me half (λ k m'. own_looked (step size (state_word q) 0 0 none) me k m' legal own replies) (λ e. state_from_head q (sym e)) (λ r e. state_from_next q r (sym e))
-      (λ s r sz at _. (seeing r.desk.hist (eqb (get_or s.words (state_word q) 0) 4) v, keeps, tt, sees s.words s.homes s.views r id q v at was, own_look s.words s.homes s.views r id q (step size (state_word q) 0 0 none) me at was))
+      (λ s r sz at _. (seeing r.desk.hist (get_or s.words (state_word q) 0) v, keeps, tt, sees s.words s.homes s.views r id q v at was, own_look s.words s.homes s.views r id q (step size (state_word q) 0 0 none) me at was))
       (λ _ _ _ h. h)
 
   state_below : (p : Phase C R) → word_of p < 5

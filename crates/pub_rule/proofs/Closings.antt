@@ -102,7 +102,7 @@ module _ {E C R S : Type 0} (history : S → List E) (legal : List E → Type 0)
         posts = c.posts;
         begun = c.begun;
         past = c.past;
-        ready = c.ready;
+        found = c.found;
         holds = c.holds;
         waits = c.waits;
       };

@@ -2,7 +2,7 @@
 use Rattle.std.proofs.Common.{◌≡◌, ◌≢◌, ℕ, eqb, ◌<◌, List, length, get_or, set, sym, refl, ap, ◌∙◌, subst, inl, ⊎_elim, arith, lt_of_not-le}
 use lib.Seq.{set-get_or}
 use mathlib.Core.Logic.{dite}
-use native.Mathlib.Decide.{dec_le}
+use native.Mathlib.Decide.{dec_le, ℕ_discrete}
 use mathlib.Core.Option.{none, some}
 use prog.Atomic.{either}
 use Rattle.atomic_table.specs.Table.{State, Me, step, Act, keeps, takes, Valid, stepped, carried_after}
@@ -17,12 +17,12 @@ use Rattle.pub_rule.specs.declared.served.Slot.{Slot}
 use Rattle.pub_rule.specs.declared.served.Slot.TheVariants as slots
 use Rattle.pub_rule.specs.Words.{state_word}
 use Rattle.pub_rule.specs.Work.{Phase, away, free, posted, taken, parked, resumed, refused, replied, Client, Desk, IsTaken, IsTakenIn, word_of, home_of, IsDealt, IsInPhase, IsMarked, HasReplies, IsSettled, IsInStage, IsClient, Serves}
-use Rattle.pub_rule.specs.WorkSteps.{with_work, dealt, taking, call_taken}
-use Rattle.pub_rule.specs.WorkLaws.{KeptByTake}
+use Rattle.pub_rule.specs.WorkSteps.{with_work, dealt, taking, call_taken, record_peeked}
+use Rattle.pub_rule.specs.WorkLaws.{KeptByTake, KeptByPeek}
 use Rattle.pub_rule.proofs.Numbers.{state_from_head, state_from_next}
 use Rattle.pub_rule.proofs.Moves.{Stays, holder_step, has_seat, view_step}
 use Rattle.pub_rule.proofs.Lift.{Served, lift}
-use Rattle.pub_rule.proofs.Clientwork.{all_of}
+use Rattle.pub_rule.proofs.Clientwork.{all_of, idle}
 use Rattle.pub_rule.proofs.Passing.{marks_are, past_is}
 
 abbrev pub is_nothing : {C : Type 0} → Serving C → Type 0
@@ -149,7 +149,7 @@ module _ {E C R S : Type 0} (history : S → List E) (legal : List E → Type 0)
             posts = d.posts;
             begun = d.begun;
             past = λ h. ⊎_elim d.past (λ (e : i ≡ q). subst (λ (z : ℕ). IsDealt (r.truth z).phase) (sym e) deal) (past_is i q v.stage v.past is h);
-            ready = d.ready;
+            found = d.found;
             holds = d.holds;
             waits = d.waits;
           };
@@ -163,4 +163,46 @@ module _ {E C R S : Type 0} (history : S → List E) (legal : List E → Type 0)
         }),
         ((λ hit. absurd (miss hit)), λ _. (q, refl, refl)),
       )))
+      (λ _ _ _ h. h)
+
+  pub peek : KeptByPeek history legal own replies n
+  peek size id p q me was holds nothing inside = let v : Work E C R = me.0.work in let then : ℕ → Me (Slot C R S) (View (Work E C R)) → Type 0 = λ k m'. record_peeked (step size (state_word q) 0 0 none) me k m' in
+      let half : ℕ → Me (Slot C R S) (Work E C R) → Type 0 = λ k m'. then k (with_work m'.0 me.0, m'.1) in
+      lift n (Serves history legal own replies n) size id (state_word q) (λ k. k) me half then (λ e. state_from_head q (sym e)) (λ r e. state_from_next q r (sym e))
+      (λ s r sz at _. let found : ℕ = get_or s.words (state_word q) 0 in
+      let k = r.each_seat id v at in let o : Client E C R = r.truth q in let b = k.combines holds in let rec = r.each_client q inside in
+      let F : ℕ → Type 0 = λ x. (w : Work E C R) × (a : Act (Slot C R S)) × Valid s.homes me.1 a × Half (stepped s (state_word q) x id me.1 w a) × half found (w, carried_after me.1 a) in
+      let unserved : is_nothing r.desk.serving = subst is_nothing (sym nothing ∙ b.serving) tt in
+      let answer : F found = dite (ℕ_discrete found 1)
+      (λ hit. (v, keeps, tt, idle history legal own replies n s (state_word q) id v at r, ((λ _. refl), λ other. absurd (other hit))))
+      (λ miss. let deal : IsDealt o.phase = is_dealt q o.phase r.desk.serving unserved (λ e. miss (rec.word ∙ e)) rec.phase.taken_is in (
+        dealt q v,
+        keeps,
+        tt,
+        subst (λ (ws : List ℕ). Serves history legal own replies n ws s.homes (set s.views id (dealt q v))) (sym (set-get_or s.words (state_word q) 0)) (view_step history legal own replies n s.words s.homes s.views r id (dealt q v) record {
+          maker = k.maker;
+          client = λ i is. let d = k.client i is in record {
+            made_it = d.made_it;
+            live = d.live;
+            seat_is = d.seat_is;
+            stage = d.stage;
+            entered = d.entered;
+            got = d.got;
+            posts = d.posts;
+            begun = d.begun;
+            past = λ h. ⊎_elim d.past (λ (e : i ≡ q). subst (λ (z : ℕ). IsDealt (r.truth z).phase) (sym e) deal) (past_is i q v.stage v.past is h);
+            found = d.found;
+            holds = d.holds;
+            waits = d.waits;
+          };
+          token = k.token;
+          combines = λ h. let c = k.combines h in record { client = c.client; seen = c.seen; before = c.before; paid = c.paid; serving = c.serving };
+          saw = k.saw;
+          was_told = k.was_told;
+          met = k.met;
+          heard = k.heard;
+          passed = λ i j m. ⊎_elim (λ (h : (i ≡ q) × IsMarked i j v.heard). let g = k.heard i j h.1 in (g.0, g.1, λ _. subst (λ (z : ℕ). IsDealt (r.truth z).phase) (sym h.0) deal)) (k.passed i j) (marks_are q i j v.heard v.passed m);
+        }),
+        ((λ hit. absurd (miss hit)), λ _. (q, refl, refl)),
+      )) in answer)
       (λ _ _ _ h. h)

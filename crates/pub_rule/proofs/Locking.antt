@@ -58,7 +58,7 @@ module _ {E C R S : Type 0} (history : S → List E) (legal : List E → Type 0)
           posts = c.posts;
           begun = ap (λ (z : ℕ). z + 1) c.begun;
           past = c.past;
-          ready = c.ready;
+          found = c.found;
           holds = λ _. refl;
           waits = λ e. absurd (false≢true (sym e));
         })
@@ -98,7 +98,7 @@ module _ {E C R S : Type 0} (history : S → List E) (legal : List E → Type 0)
         subst (λ (ws : List ℕ). Serves history legal own replies n ws s.homes (set s.views id (meeting c v))) (sym (set-get_or s.words lock_word 0))
             (view_step history legal own replies n s.words s.homes s.views r id (meeting c v) record {
               maker = k.maker;
-              client = λ q is. let d = k.client q is in record { made_it = d.made_it; live = d.live; seat_is = d.seat_is; stage = d.stage; entered = d.entered; got = d.got; posts = d.posts; begun = d.begun; past = d.past; ready = d.ready; holds = d.holds; waits = d.waits };
+              client = λ q is. let d = k.client q is in record { made_it = d.made_it; live = d.live; seat_is = d.seat_is; stage = d.stage; entered = d.entered; got = d.got; posts = d.posts; begun = d.begun; past = d.past; found = d.found; holds = d.holds; waits = d.waits };
               token = k.token;
               combines = λ e. let b = k.combines e in record { client = b.client; seen = b.seen; before = b.before; paid = b.paid; serving = b.serving };
               saw = k.saw;
@@ -175,7 +175,7 @@ module _ {E C R S : Type 0} (history : S → List E) (legal : List E → Type 0)
               posts = c.posts;
               begun = c.begun;
               past = c.past;
-              ready = c.ready;
+              found = c.found;
               holds = λ e. absurd (false≢true e);
               waits = λ _ e. absurd (omega arith);
             })

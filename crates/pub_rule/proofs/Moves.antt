@@ -1,6 +1,5 @@
 -- What combiners serve, after a step of one seat.
-use Rattle.std.proofs.Common.{◌≡◌, ◌≢◌, ◌⊎◌, ℕ, Bool, true, false, ◌+◌, ◌<◌, ◌≤◌, List, [], ◌∷◌, ◌++◌, length, get_or, set, sym, refl, ap, ◌∙◌, subst, inl, inr, ⊎_elim, arith, length-set, get_or-set_other, get_or-set_same}
-use Rattle.std.proofs.lemmas.Bool.{false≢true}
+use Rattle.std.proofs.Common.{◌≡◌, ◌≢◌, ◌⊎◌, ℕ, Bool, true, ◌+◌, ◌<◌, ◌≤◌, List, [], ◌∷◌, ◌++◌, length, get_or, set, sym, refl, ap, ◌∙◌, subst, inl, inr, ⊎_elim, arith, length-set, get_or-set_other, get_or-set_same}
 use mathlib.Core.Option.{Option, some}
 use native.Mathlib.Decide.{ℕ_discrete}
 use lib.ListN.{get_elem?}
@@ -128,7 +127,7 @@ module _ {E C R S : Type 0} (history : S → List E) (legal : List E → Type 0)
           posts = c.posts ∙ a.posts;
           begun = c.begun ∙ a.begun;
           past = λ h. a.dealt (c.past h);
-          ready = λ h. a.ready (c.ready h);
+          found = λ h. a.ready (c.found h);
           holds = λ h. (locks r ne).0 (c.holds h);
           waits = λ h. (locks r ne).1 (c.waits h);
         };
@@ -228,10 +227,10 @@ module _ {E C R S : Type 0} (history : S → List E) (legal : List E → Type 0)
   -- A client's step: it changes its own state word and slot, and what is known of itself
   pub client_step : (id q x : ℕ) (y : Option (Slot C R S)) (v : Work E C R) (t : Client E C R) (st : Stage C) (seen : List E) (past : Bool) → get_elem? works id ≡ some v → IsClient q v.stage → IsClient q st → Follows (s.truth q) t → t.begun ≡ (s.truth q).begun
       → x ≡ word_of t.phase → y ≡ home_of t.phase → IsInPhase own replies s.desk q t → IsInStage st t.phase → (past ≡ true → IsDealt t.phase) → GoesOn seen s.desk.hist → (v.holds ≡ true → seen ≡ s.desk.hist)
-      → (w : Work E C R) → w ≡ record v { stage = st; seen = seen; entered = t.entered; got = t.got; posts = t.posts; past = past; ready = false }
+      → (w : Work E C R) → w ≡ record v { stage = st; seen = seen; entered = t.entered; got = t.got; posts = t.posts; past = past; found = 0 }
       → Serves history legal own replies n (set words (state_word q) x) (set homes q y) (set works id w)
   client_step id q x y v t st seen past at was is f begun number slot phase stage dealt saw still w same = let k = s.each_seat id v at in let c = k.client q was in let few = s.few in let small = c.made_it in let inside : q < n = omega arith in
-      let w' : Work E C R = record v { stage = st; seen = seen; entered = t.entered; got = t.got; posts = t.posts; past = past; ready = false } in
+      let w' : Work E C R = record v { stage = st; seen = seen; entered = t.entered; got = t.got; posts = t.posts; past = past; found = 0 } in
       subst (λ (z : Work E C R). Serves history legal own replies n (set words (state_word q) x) (set homes q y) (set works id z)) (sym same)
       (steps id q t f (λ other. absurd (other c.seat_is)) (get_or words lock_word 0) s.desk ([], nil_behind s.desk.hist) (λ _ _. (λ e. e, λ e. e)) (λ _ _ _ _ _ h. h) (set words (state_word q) x) (set homes q y) w'
       (lock_else q x) (length-set words (state_word q) x ∙ s.wide) (length-set homes q y ∙ s.deep) s.is_legal (lock_same q t y f small) s.taken_below small
@@ -249,7 +248,7 @@ module _ {E C R S : Type 0} (history : S → List E) (legal : List E → Type 0)
         posts = refl;
         begun = c.begun ∙ sym begun;
         past = dealt;
-        ready = λ h. absurd (false≢true h);
+        found = λ h. absurd (omega arith);
         holds = c.holds;
         waits = c.waits;
       })
@@ -293,7 +292,7 @@ module _ {E C R S : Type 0} (history : S → List E) (legal : List E → Type 0)
         posts = c.posts ∙ a.posts;
         begun = c.begun ∙ a.begun;
         past = λ h. ⊎_elim (λ b. a.dealt (c.past b)) (λ (d : (p ≡ q) × IsDealt t.phase). put_case (λ b. IsDealt b.phase) s.truth q t p (λ _. d.1) (λ other. absurd (other d.0))) (pasts h);
-        ready = λ h. a.ready (c.ready h);
+        found = λ h. a.ready (c.found h);
         holds = c.holds;
         waits = c.waits;
       }

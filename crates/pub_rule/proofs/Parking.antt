@@ -29,14 +29,14 @@ left_parked R c (stages.Asking q k) h = h
 left_parked R c (stages.Token q) h = tt
 
 module _ {E C R S : Type 0} (history : S → List E) (legal : List E → Type 0) (own : List E → ℕ → List C) (replies : List E → ℕ → List R) (n : ℕ) (client : E → ℕ) (call : E → C)
-    (own_call : AddsCall own client call) (own_other : AddsNoOther own client) (one_more : AddsAtMostOneReply legal replies) (no_more : HasNoMoreReplies legal own replies) where
+    (own_call : AddsCall legal own client call) (own_other : AddsNoOther legal own client) (one_more : AddsAtMostOneReply legal replies) (no_more : HasNoMoreReplies legal own replies) where
   abbrev Half : State (Slot C R S) (Work E C R) → Type 0
   Half = Served n (Serves history legal own replies n)
 
   -- with one reply fewer than calls, the event brought none
-  none_brought : (h : List E) (e : E) (q : ℕ) (c : C) (calls : List C) (got : List R) → legal (h ++ e ∷ []) → own (h ++ e ∷ []) q ≡ calls ++ c ∷ [] → replies h q ≡ got → length calls ≡ length got → length (replies (h ++ e ∷ []) q) + 1 ≡ length (own (h ++ e ∷ []) q) → replies (h ++ e ∷ []) q ≡ got
-  none_brought h e q c calls got law o g even fewer = ⊎_elim (λ same. same ∙ g)
-      (λ y. let x : R = y.0 in let a = ap length o in let b = length-append calls (c ∷ []) in let d = ap length (y.1 ∙ ap (λ (l : List R). l ++ x ∷ []) g) in let f = length-append got (x ∷ []) in absurd (omega arith)) (one_more h e q law)
+  none_brought : (h : List E) (e : E) (q : ℕ) (c : C) (calls : List C) (got : List R) → legal h → legal (h ++ e ∷ []) → own (h ++ e ∷ []) q ≡ calls ++ c ∷ [] → replies h q ≡ got → length calls ≡ length got → length (replies (h ++ e ∷ []) q) + 1 ≡ length (own (h ++ e ∷ []) q) → replies (h ++ e ∷ []) q ≡ got
+  none_brought h e q c calls got was law o g even fewer = ⊎_elim (λ same. same ∙ g)
+      (λ y. let x : R = y.0 in let a = ap length o in let b = length-append calls (c ∷ []) in let d = ap length (y.1 ∙ ap (λ (l : List R). l ++ x ∷ []) g) in let f = length-append got (x ∷ []) in absurd (omega arith)) (one_more h e q was law)
 
   park_half : (size id p q : ℕ) (c : C) (e : E) (h : List E) (v : Work E C R) (hands : List (ℕ × Slot C R S)) → IsClient p v.stage → v.holds ≡ true → v.serving ≡ Posted q c → client e ≡ q → call e ≡ c → h ≡ v.seen ++ e ∷ [] → legal h
       → length (replies h q) + 1 ≡ length (own h q) → ((i : ℕ) → i < n → (replies v.seen i ≡ replies v.before i) ⊎ IsOn i v.paid)
@@ -44,8 +44,8 @@ module _ {E C R S : Type 0} (history : S → List E) (legal : List E → Type 0)
   park_half size id p q c e h v hands was holds posts whose what is law fewer owes s r sz at _ = let o : Client E C R = r.truth q in let hist : List E = r.desk.hist in
       let g = taken_record history legal own replies n client call own_call own_other one_more no_more s.words s.homes s.views r id q v c at holds posts in
       let now : h ≡ hist ++ e ∷ [] = is ∙ ap (λ (l : List E). l ++ e ∷ []) g.2 in let law' : legal (hist ++ e ∷ []) = subst legal now law in
-      let calls : own (hist ++ e ∷ []) q ≡ o.entered ++ c ∷ [] = subst (λ (z : ℕ). own (hist ++ e ∷ []) z ≡ own hist z ++ call e ∷ []) whose (own_call hist e) ∙ (λ i. g.3 i ++ what i ∷ []) in
-      let still : replies (hist ++ e ∷ []) q ≡ o.got = none_brought hist e q c o.entered o.got law' calls g.4 g.5 (subst (λ (z : List E). length (replies z q) + 1 ≡ length (own z q)) now fewer) in (
+      let calls : own (hist ++ e ∷ []) q ≡ o.entered ++ c ∷ [] = subst (λ (z : ℕ). own (hist ++ e ∷ []) z ≡ own hist z ++ call e ∷ []) whose (own_call hist e r.is_legal law') ∙ (λ i. g.3 i ++ what i ∷ []) in
+      let still : replies (hist ++ e ∷ []) q ≡ o.got = none_brought hist e q c o.entered o.got r.is_legal law' calls g.4 g.5 (subst (λ (z : List E). length (replies z q) + 1 ≡ length (own z q)) now fewer) in (
         leaving q h v,
         gives,
         tt,

@@ -14,7 +14,8 @@ use Rattle.pub_rule.specs.declared.served.Slot.TheVariants as slots
 use Rattle.pub_rule.specs.Words.{lock_word, state_word, word_count}
 use Rattle.pub_rule.specs.Rule.{LetsSplit, LetsMerge, slots_of}
 use Rattle.pub_rule.specs.Deaf.{opening_work}
-use Rattle.pub_rule.specs.Served.{StartsEmpty, HasNoMoreReplies}
+use Rattle.pub_rule.proofs.Clientwork.{all_of}
+use Rattle.pub_rule.specs.Served.{HasNoMoreReplies}
 use Rattle.pub_rule.specs.Work.{IsMarked, unmade, IsClient, Tells, IsNobodys, Trusts, Serves}
 use Rattle.pub_rule.specs.WorkSplits.{owner_of, seats_of, is_marked, more_seats, new_client, telling, taught, spent_work, maker_after, client_made, token_made, view_taught, view_spent, Opens, KeptByClientSplit, KeptByTokenSplit, KeptByTokenMerge}
 use Rattle.pub_rule.specs.Lists.{IsOn}
@@ -127,7 +128,7 @@ module _ {E C R S : Type 0} (history : S → List E) (legal : List E → Type 0)
         begun = t.begun;
         past = λ e. ⊎_elim t.past (λ m. (let mark = marked (owner_of v.stage) v.posts w.passed m in let mine : IsMarked p v.posts w.passed = subst (λ (z : ℕ). IsMarked z v.posts w.passed) (owner_is p v.stage h) mark in (f.passed p v.posts mine).2 (sym t.posts)))
             (or_true v.past (is_marked (owner_of v.stage) v.posts w.passed) e);
-        ready = t.ready;
+        found = t.found;
         holds = t.holds;
         waits = t.waits;
       };
@@ -213,7 +214,7 @@ module _ {E C R S : Type 0} (history : S → List E) (legal : List E → Type 0)
         posts = c.posts;
         begun = c.begun;
         past = c.past;
-        ready = c.ready;
+        found = c.found;
         holds = c.holds;
         waits = c.waits;
       };
@@ -253,13 +254,13 @@ module _ {E C R S : Type 0} (history : S → List E) (legal : List E → Type 0)
             posts = refl;
             begun = refl;
             past = λ e. absurd (false≢true e);
-            ready = λ e. absurd (false≢true e);
+            found = λ e. absurd (omega arith);
             holds = λ e. absurd (false≢true e);
             waits = λ _. unlocked;
           });
       token = λ r e. absurd (subst is_token (sym e) tt);
       combines = λ e. absurd (false≢true e);
-      saw = (s.desk.hist, refl);
+      saw = (s.each_seat id v at).saw;
       was_told = (s.desk.hist, refl);
       met = λ q h. absurd h;
       heard = λ q m h. absurd h;
@@ -312,10 +313,10 @@ module _ {E C R S : Type 0} (history : S → List E) (legal : List E → Type 0)
   lets_make id k v is room words homes works s at = makes_client words homes works s id k v at is room
 
   -- the start
-  pub starts_at_rest : (state : S) → history state ≡ [] → legal [] → ((r : ℕ) → own [] r ≡ []) → ((r : ℕ) → replies [] r ≡ []) → Half (replicate (word_count n) 0) (map some (slots_of n state)) (opening_work ∷ [])
-  starts_at_rest state new law none unreplied = record {
+  pub starts_at_rest : (state : S) → legal (history state) → ((r : ℕ) → own (history state) r ≡ []) → ((r : ℕ) → replies (history state) r ≡ []) → Half (replicate (word_count n) 0) (map some (slots_of n state)) (opening_work (history state) ∷ [])
+  starts_at_rest state law none unreplied = record {
     truth = λ _. unmade;
-    desk = record { hist = []; before = []; paid = []; serving = Nothing };
+    desk = record { hist = history state; before = history state; paid = []; serving = Nothing };
     made = 0;
     done = [];
     seat = λ _. 0;
@@ -324,7 +325,7 @@ module _ {E C R S : Type 0} (history : S → List E) (legal : List E → Type 0)
     wide = length-replicate (word_count n) 0;
     deep = deep_at_start;
     is_legal = law;
-    lock = inl record { zero = all_zero (word_count n) lock_word; state = state; home = state_at; is = new; before = refl; paid = refl; nothing = refl };
+    lock = inl record { zero = all_zero (word_count n) lock_word; state = state; home = state_at; is = refl; before = refl; paid = refl; nothing = refl };
     taken_below = λ r h. absurd h;
     unmade_are = λ r _. refl;
     each_client = λ r small. record {
@@ -351,23 +352,27 @@ module _ {E C R S : Type 0} (history : S → List E) (legal : List E → Type 0)
       state_at : get_elem? (map some (slots_of {C = C} {R = R} n state)) n ≡ some (some (slots.State state))
       state_at = at_map (λ x. some x) (slots_of n state) n (slots.State state) (at_last (replicate n slots.Empty) (slots.State state) n (length-replicate n slots.Empty))
 
-      first_true : (j : ℕ) (v : Work E C R) → get_elem? (opening_work ∷ []) j ≡ some v → Trusts 0 [] (λ _. 0) (λ _. unmade) (get_or (replicate (word_count n) 0) lock_word 0) record { hist = []; before = []; paid = []; serving = Nothing } j v
+      first_true : (j : ℕ) (v : Work E C R) → get_elem? (opening_work (history state) ∷ []) j ≡ some v → Trusts 0 [] (λ _. 0) (λ _. unmade) (get_or (replicate (word_count n) 0) lock_word 0) record { hist = history state; before = history state; paid = []; serving = Nothing } j v
       first_true (suc j) v e = absurd (some-ne-none v (sym e))
-      first_true zero v e = subst (Trusts 0 [] (λ _. 0) (λ _. unmade) (get_or (replicate (word_count n) 0) lock_word 0) record { hist = []; before = []; paid = []; serving = Nothing } 0) (some-injective opening_work v e) record {
+      first_true zero v e = subst (Trusts 0 [] (λ _. 0) (λ _. unmade) (get_or (replicate (word_count n) 0) lock_word 0) record { hist = history state; before = history state; paid = []; serving = Nothing } 0) (some-injective (opening_work (history state)) v e) record {
         maker = (refl, refl);
         client = λ r h. absurd h;
         token = λ r e. absurd (subst is_token (sym e) tt);
         combines = λ e. absurd (false≢true e);
-        saw = ([], refl);
-        was_told = ([], refl);
+        saw = all_of (history state);
+        was_told = (history state, refl);
         met = λ q h. absurd h;
         heard = λ q m h. absurd h;
         passed = λ q m h. absurd h;
       }
 
   -- the whole of both halves
-  pub opens : legal [] → ((r : ℕ) → own [] r ≡ []) → ((r : ℕ) → replies [] r ≡ []) → Opens history legal own replies n
-  opens law none unreplied state new = record { walks = starts n; works = starts_at_rest state new law none unreplied }
+  pub opens : HasNoMoreReplies legal own replies → Opens history legal own replies n
+  opens no_more state law none = record { walks = starts n; works = starts_at_rest state law none (λ r. no_replies (replies (history state) r) (let less = no_more (history state) r law in let size = ap length (none r) in omega arith)) }
+    where
+      no_replies : (l : List R) → length l ≡ 0 → l ≡ []
+      no_replies [] e = refl
+      no_replies (x ∷ l) e = absurd (omega arith)
 
   pub make_client : KeptByClientSplit history legal own replies n
   make_client id k v is stage room = split_client n Half id k v (maker_after v) (client_made v) is room refl refl (lets_make id k v.work stage room)
@@ -377,10 +382,3 @@ module _ {E C R S : Type 0} (history : S → List E) (legal : List E → Type 0)
 
   pub take_in : KeptByTokenMerge history legal own replies n
   take_in id q other r v w client token stage = merge_token n Half id other v w (view_taught v w) view_spent token refl refl (lets_teach id q other r v.work w.work client stage)
-
-  pub opens_of : StartsEmpty legal own → HasNoMoreReplies legal own replies → Opens history legal own replies n
-  opens_of e no_more = opens e.0 e.1 (λ r. no_replies (replies [] r) (let less = no_more [] r e.0 in let none = ap length (e.1 r) in omega arith))
-    where
-      no_replies : (l : List R) → length l ≡ 0 → l ≡ []
-      no_replies [] e = refl
-      no_replies (x ∷ l) e = absurd (omega arith)

@@ -8,12 +8,12 @@ use Rattle.pub_rule.specs.Words.{head_word, lock_word, state_word, next_word}
 use Rattle.pub_rule.specs.Rule.{IsListWord, IsDeaf, IsDeep}
 use Rattle.pub_rule.specs.Work.{IsUnheld, IsHeld, Trusts, Serves}
 
--- the first seat, which has made none
-abbrev pub opening_work : {E C R : Type 0} → Work E C R
-opening_work = record {
+-- the first seat, which has made none, and saw this history
+abbrev pub opening_work : {E C R : Type 0} → List E → Work E C R
+opening_work h = record {
   stage = Maker 0;
   holds = false;
-  seen = [];
+  seen = h;
   hearsay = [];
   before = [];
   paid = [];
@@ -26,7 +26,7 @@ opening_work = record {
   heard = [];
   passed = [];
   past = false;
-  ready = false;
+  found = 0;
   closed = [];
 }
 

@@ -1,22 +1,18 @@
 -- The laws of a served state, on the calls and the replies of a history.
 use Rattle.std.specs.Prelude.{◌≡◌, ◌≢◌, ◌⊎◌, ℕ, ◌≤◌, List, [], ◌∷◌, ◌++◌, length}
 
--- an event is one more call of its client
-abbrev pub AddsCall : {E C : Type 0} → (List E → ℕ → List C) → (E → ℕ) → (E → C) → Type 0
-AddsCall {E} own client call = (h : List E) (e : E) → own (h ++ e ∷ []) (client e) ≡ own h (client e) ++ call e ∷ []
+-- an event by which a legal history goes on is one more call of its client
+abbrev pub AddsCall : {E C : Type 0} → (List E → Type 0) → (List E → ℕ → List C) → (E → ℕ) → (E → C) → Type 0
+AddsCall {E} legal own client call = (h : List E) (e : E) → legal h → legal (h ++ e ∷ []) → own (h ++ e ∷ []) (client e) ≡ own h (client e) ++ call e ∷ []
 
--- an event is no call of another client
-abbrev pub AddsNoOther : {E C : Type 0} → (List E → ℕ → List C) → (E → ℕ) → Type 0
-AddsNoOther {E} own client = (h : List E) (e : E) (r : ℕ) → r ≢ client e → own (h ++ e ∷ []) r ≡ own h r
+-- and no call of another
+abbrev pub AddsNoOther : {E C : Type 0} → (List E → Type 0) → (List E → ℕ → List C) → (E → ℕ) → Type 0
+AddsNoOther {E} legal own client = (h : List E) (e : E) (r : ℕ) → legal h → legal (h ++ e ∷ []) → r ≢ client e → own (h ++ e ∷ []) r ≡ own h r
 
--- an event of a legal history adds at most one reply for each client
+-- and adds at most one reply for each client
 abbrev pub AddsAtMostOneReply : {E R : Type 0} → (List E → Type 0) → (List E → ℕ → List R) → Type 0
-AddsAtMostOneReply {E} {R} legal replies = (h : List E) (e : E) (r : ℕ) → legal (h ++ e ∷ []) → (replies (h ++ e ∷ []) r ≡ replies h r) ⊎ ((x : R) × (replies (h ++ e ∷ []) r ≡ replies h r ++ x ∷ []))
+AddsAtMostOneReply {E} {R} legal replies = (h : List E) (e : E) (r : ℕ) → legal h → legal (h ++ e ∷ []) → (replies (h ++ e ∷ []) r ≡ replies h r) ⊎ ((x : R) × (replies (h ++ e ∷ []) r ≡ replies h r ++ x ∷ []))
 
 -- in a legal history no client has more replies than calls
 abbrev pub HasNoMoreReplies : {E C R : Type 0} → (List E → Type 0) → (List E → ℕ → List C) → (List E → ℕ → List R) → Type 0
 HasNoMoreReplies {E} legal own replies = (h : List E) (r : ℕ) → legal h → length (replies h r) ≤ length (own h r)
-
--- that there was no event can come about, and then nobody has called
-abbrev pub StartsEmpty : {E C : Type 0} → (List E → Type 0) → (List E → ℕ → List C) → Type 0
-StartsEmpty legal own = legal [] × ((r : ℕ) → own [] r ≡ [])

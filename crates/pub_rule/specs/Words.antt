@@ -11,12 +11,12 @@ lock_word = 16
 
 -- what client r asks
 unfoldable pub state_word : ℕ → ℕ
-state_word r = 16 * r + 32
+state_word r = 32 * r + 32
 
 -- which client stands behind client r
 unfoldable pub next_word : ℕ → ℕ
-next_word r = 16 * r + 33
+next_word r = 32 * r + 48
 
 -- how many words the table of n clients has
 unfoldable pub word_count : ℕ → ℕ
-word_count n = 16 * n + 32
+word_count n = 32 * n + 32

@@ -10,6 +10,7 @@ use Rattle.pub_rule.specs.declared.work.Serving.{Serving}
 use Rattle.pub_rule.specs.declared.work.Serving.TheVariants.{Nothing, Posted, Parked}
 use Rattle.pub_rule.specs.declared.served.Slot.{Slot}
 use Rattle.pub_rule.specs.declared.served.Slot.TheVariants as slots
+use Rattle.pub_rule.specs.declared.words.TheConstants.{FREE, POSTED, TAKEN, PARKED, ANSWERED}
 use Rattle.pub_rule.specs.Words.{lock_word, state_word, word_count}
 use Rattle.pub_rule.specs.Lists.{IsOn, Distinct}
 
@@ -60,14 +61,14 @@ IsTaken r (Parked q c) = r ≡ q
 
 module _ {C R : Type 0} where
   abbrev pub word_of : Phase C R → ℕ
-  word_of away = 0
-  word_of free = 0
-  word_of (posted c) = 1
-  word_of (taken c) = 2
-  word_of (parked c) = 3
-  word_of (resumed c) = 2
-  word_of (refused c) = 4
-  word_of (replied c x) = 4
+  word_of away = FREE
+  word_of free = FREE
+  word_of (posted c) = POSTED
+  word_of (taken c) = TAKEN
+  word_of (parked c) = PARKED
+  word_of (resumed c) = TAKEN
+  word_of (refused c) = ANSWERED
+  word_of (replied c x) = ANSWERED
 
   -- the calls entered, and the one in flight where it is in the history
   abbrev pub calls_of : List C → Phase C R → List C
@@ -206,7 +207,7 @@ module _ {E C R : Type 0} where
     pub posts : v.posts ≡ t.posts
     pub begun : v.begun ≡ t.begun
     pub past : v.past ≡ true → IsDealt t.phase
-    pub ready : v.ready ≡ true → word_of t.phase ≡ 4
+    pub found : v.found ≡ ANSWERED → word_of t.phase ≡ ANSWERED
     pub holds : v.holds ≡ true → lock ≡ r + 1
     pub waits : v.holds ≡ false → lock ≢ r + 1
 

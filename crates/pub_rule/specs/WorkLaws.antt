@@ -9,27 +9,33 @@ use Rattle.pub_rule.specs.declared.work.Stage.TheVariants.{Away, Free}
 use Rattle.pub_rule.specs.declared.work.Serving.TheVariants.{Nothing, Posted, Parked}
 use Rattle.pub_rule.specs.declared.served.Slot.{Slot}
 use Rattle.pub_rule.specs.declared.served.Slot.TheVariants as slots
+use Rattle.pub_rule.specs.declared.words.TheConstants.{FREE, POSTED, TAKEN, PARKED, ANSWERED}
 use Rattle.pub_rule.specs.Words.{lock_word, state_word}
 use Rattle.pub_rule.specs.Lists.{IsOn}
 use Rattle.pub_rule.specs.Rule.{Ruled}
 use Rattle.pub_rule.specs.Work.{Serves, IsClient}
-use Rattle.pub_rule.specs.WorkSteps.{call_posted, reply_collected, call_taken, state_seized, slot_fetched, slot_given, word_seen, own_looked, state_released, call_answered, call_parked, call_refused, call_resumed, reply_handed}
+use Rattle.pub_rule.specs.WorkSteps.{call_posted, reply_collected, call_taken, state_seized, slot_fetched, slot_given, word_seen, record_peeked, own_looked, state_released, call_answered, call_parked, call_refused, call_resumed, reply_handed}
 
 module _ {E C R S : Type 0} (history : S → List E) (legal : List E → Type 0) (own : List E → ℕ → List C) (replies : List E → ℕ → List R) (n : ℕ) where
-  -- a client that has its slot in its hands, with its call, makes its state word 1
+  -- a client that has its slot in its hands, with its call, posts it
   abbrev pub KeptByPost : Type 0
   KeptByPost = (size id q : ℕ) (c : C) (me : Me (Slot C R S) (View (Work E C R))) → me.0.work.stage ≡ Free q → me.1 ≡ (q, slots.Call c) ∷ rest me.1
-      → Allows (Ruled n (Serves history legal own replies n)) size id me (state_word q) (λ _. 1) (λ _. call_posted (step size (state_word q) 1 0 none) me 1)
+      → Allows (Ruled n (Serves history legal own replies n)) size id me (state_word q) (λ _. POSTED) (λ _. call_posted (step size (state_word q) POSTED 0 none) me POSTED)
 
-  -- a client makes its state word 0 where it is 4
+  -- a client makes its state word free where it is answered
   abbrev pub KeptByCollect : Type 0
   KeptByCollect = (size id q : ℕ) (me : Me (Slot C R S) (View (Work E C R))) → IsClient q me.0.work.stage
-      → Allows (Ruled n (Serves history legal own replies n)) size id me (state_word q) (λ k. either (k == 4) 0 k) (λ k m'. reply_collected (step size (state_word q) 4 0 none) me k m' legal own replies)
+      → Allows (Ruled n (Serves history legal own replies n)) size id me (state_word q) (λ k. either (k == ANSWERED) FREE k) (λ k m'. reply_collected (step size (state_word q) ANSWERED FREE none) me k m' legal own replies)
 
-  -- the holder, which has taken no record, makes the state word of client r 2 where it is 1
+  -- the holder, which has taken no record, takes the record of client r where it is posted
   abbrev pub KeptByTake : Type 0
   KeptByTake = (size id p r : ℕ) (me : Me (Slot C R S) (View (Work E C R))) → IsClient p me.0.work.stage → me.0.work.holds ≡ true → me.0.work.serving ≡ Nothing → r < n
-      → Allows (Ruled n (Serves history legal own replies n)) size id me (state_word r) (λ k. either (k == 1) 2 k) (λ k m'. call_taken (step size (state_word r) 1 2 none) me k m' own replies)
+      → Allows (Ruled n (Serves history legal own replies n)) size id me (state_word r) (λ k. either (k == POSTED) TAKEN k) (λ k m'. call_taken (step size (state_word r) POSTED TAKEN none) me k m' own replies)
+
+  -- the holder, which has taken no record, reads the state word of client r
+  abbrev pub KeptByPeek : Type 0
+  KeptByPeek = (size id p r : ℕ) (me : Me (Slot C R S) (View (Work E C R))) → IsClient p me.0.work.stage → me.0.work.holds ≡ true → me.0.work.serving ≡ Nothing → r < n
+      → Allows (Ruled n (Serves history legal own replies n)) size id me (state_word r) (λ k. k) (λ k m'. record_peeked (step size (state_word r) 0 0 none) me k m')
 
   -- a client that doesn't combine makes the lock word its own number + 1 where it is 0
   abbrev pub KeptBySeize : Type 0
@@ -61,33 +67,33 @@ module _ {E C R S : Type 0} (history : S → List E) (legal : List E → Type 0)
       → ((r : ℕ) → r < n → (replies me.0.work.seen r ≡ replies me.0.work.before r) ⊎ IsOn r me.0.work.paid) → me.1 ≡ (n, slots.State x) ∷ rest me.1
       → Allows (Ruled n (Serves history legal own replies n)) size id me lock_word (λ _. 0) (state_released (step size lock_word 0 0 none) me)
 
-  -- the holder, which has taken a posted record and owes nothing, makes its state word 4 with the reply of the call's event, the last in the history
+  -- the holder, which has taken a posted record and owes nothing, answers it with the reply of the call's event, the last in the history
   abbrev pub KeptByAnswer : (E → ℕ) → (E → C) → Type 0
   KeptByAnswer client call = (size id p r : ℕ) (c : C) (e : E) (x : S) (y : R) (me : Me (Slot C R S) (View (Work E C R))) → IsClient p me.0.work.stage → me.0.work.holds ≡ true → me.0.work.serving ≡ Posted r c
       → client e ≡ r → call e ≡ c → history x ≡ me.0.work.seen ++ e ∷ [] → legal (history x) → replies (history x) r ≡ replies me.0.work.seen r ++ y ∷ []
       → ((i : ℕ) → i < n → (replies me.0.work.seen i ≡ replies me.0.work.before i) ⊎ IsOn i me.0.work.paid) → me.1 ≡ (r, slots.Reply y) ∷ rest me.1
-      → Allows (Ruled n (Serves history legal own replies n)) size id me (state_word r) (λ _. 4) (λ k m'. call_answered (step size (state_word r) 4 0 (some (slots.State x))) me k m' history)
+      → Allows (Ruled n (Serves history legal own replies n)) size id me (state_word r) (λ _. ANSWERED) (λ k m'. call_answered (step size (state_word r) ANSWERED 0 (some (slots.State x))) me k m' history)
 
-  -- the holder, which has taken a posted record and owes nothing, makes its state word 3 with the call's event, which brings its client no reply: it has one reply fewer than calls
+  -- the holder, which has taken a posted record and owes nothing, leaves it parked with the call's event, which brings its client no reply: it has one reply fewer than calls
   abbrev pub KeptByPark : (E → ℕ) → (E → C) → Type 0
   KeptByPark client call = (size id p r : ℕ) (c : C) (e : E) (x : S) (me : Me (Slot C R S) (View (Work E C R))) → IsClient p me.0.work.stage → me.0.work.holds ≡ true → me.0.work.serving ≡ Posted r c
       → client e ≡ r → call e ≡ c → history x ≡ me.0.work.seen ++ e ∷ [] → legal (history x) → length (replies (history x) r) + 1 ≡ length (own (history x) r)
       → ((i : ℕ) → i < n → (replies me.0.work.seen i ≡ replies me.0.work.before i) ⊎ IsOn i me.0.work.paid) → me.1 ≡ (r, slots.Empty) ∷ rest me.1
-      → Allows (Ruled n (Serves history legal own replies n)) size id me (state_word r) (λ _. 3) (λ k m'. call_parked (step size (state_word r) 3 0 (some (slots.State x))) me k m' history)
+      → Allows (Ruled n (Serves history legal own replies n)) size id me (state_word r) (λ _. PARKED) (λ k m'. call_parked (step size (state_word r) PARKED 0 (some (slots.State x))) me k m' history)
 
-  -- the holder, which has taken a posted record, makes its state word 4, with Memory in its slot
+  -- the holder, which has taken a posted record, answers it with Memory in its slot
   abbrev pub KeptByRefuse : Type 0
   KeptByRefuse = (size id p r : ℕ) (c : C) (me : Me (Slot C R S) (View (Work E C R))) → IsClient p me.0.work.stage → me.0.work.holds ≡ true → me.0.work.serving ≡ Posted r c → me.1 ≡ (r, slots.Memory) ∷ rest me.1
-      → Allows (Ruled n (Serves history legal own replies n)) size id me (state_word r) (λ _. 4) (call_refused (step size (state_word r) 4 0 none) me)
+      → Allows (Ruled n (Serves history legal own replies n)) size id me (state_word r) (λ _. ANSWERED) (call_refused (step size (state_word r) ANSWERED 0 none) me)
 
-  -- the holder, which has taken no record, makes the state word of a client that is owed a reply 2: it was 3
+  -- the holder, which has taken no record, takes the record of a client that is owed a reply: it was parked
   abbrev pub KeptByResume : Type 0
   KeptByResume = (size id p r : ℕ) (me : Me (Slot C R S) (View (Work E C R))) → IsClient p me.0.work.stage → me.0.work.holds ≡ true → me.0.work.serving ≡ Nothing → r < n
       → ¬ (replies me.0.work.seen r ≡ replies me.0.work.before r) → ¬ IsOn r me.0.work.paid
-      → Allows (Ruled n (Serves history legal own replies n)) size id me (state_word r) (λ k. either (k == 3) 2 k) (call_resumed (step size (state_word r) 3 2 none) me)
+      → Allows (Ruled n (Serves history legal own replies n)) size id me (state_word r) (λ k. either (k == PARKED) TAKEN k) (call_resumed (step size (state_word r) PARKED TAKEN none) me)
 
-  -- the holder, which has taken a parked record, makes its state word 4, with the last of its client's replies in the history
+  -- the holder, which has taken a parked record, answers it with the last of its client's replies in the history
   abbrev pub KeptByHand : Type 0
   KeptByHand = (size id p r : ℕ) (c : C) (front : List R) (y : R) (me : Me (Slot C R S) (View (Work E C R))) → IsClient p me.0.work.stage → me.0.work.holds ≡ true → me.0.work.serving ≡ Parked r c
       → replies me.0.work.seen r ≡ front ++ y ∷ [] → me.1 ≡ (r, slots.Reply y) ∷ rest me.1
-      → Allows (Ruled n (Serves history legal own replies n)) size id me (state_word r) (λ _. 4) (reply_handed (step size (state_word r) 4 0 none) me)
+      → Allows (Ruled n (Serves history legal own replies n)) size id me (state_word r) (λ _. ANSWERED) (reply_handed (step size (state_word r) ANSWERED 0 none) me)

@@ -32,16 +32,20 @@ is_marked r k [] = false
 is_marked r k (x ∷ xs) = (r == x.0 && k == x.1) || is_marked r k xs
 
 module _ {E C R : Type 0} where
+  -- nothing is known but whose seat it is, and the history at the start
+  abbrev pub starting : Stage C → List E → Work E C R
+  starting stage h = record (opening_work h) { stage = stage }
+
   -- nothing is known but whose seat it is
   abbrev pub blank_work : Stage C → Work E C R
-  blank_work stage = record (opening_work) { stage = stage }
+  blank_work stage = starting stage []
 
   -- split: the first seat makes the next client's
   abbrev pub more_seats : Work E C R → Work E C R
   more_seats v = record v { stage = Maker (seats_of v.stage + 1) }
 
   abbrev pub new_client : Work E C R → Work E C R
-  new_client v = blank_work (Away (seats_of v.stage))
+  new_client v = starting (Away (seats_of v.stage)) v.seen
 
   -- split: a client tells the history that it saw, the number of its posts, and the posts that a combiner is known to have dealt with
   abbrev pub telling : Work E C R → Work E C R
@@ -76,9 +80,9 @@ module _ {E C R : Type 0} where
   view_spent = record { walk = spent; work = spent_work }
 
 module _ {E C R S : Type 0} (history : S → List E) (legal : List E → Type 0) (own : List E → ℕ → List C) (replies : List E → ℕ → List R) (n : ℕ) where
-  -- the table at the start: nobody has joined, no client has a seat, and the state has no event
+  -- the table at the start: nobody has joined, no client has a seat, and nobody's call is in the state's history
   abbrev pub Opens : Type 0
-  Opens = (state : S) → history state ≡ [] → Ruled n (Serves history legal own replies n) (opening (replicate (word_count n) 0) (slots_of n state) (opening_view opening_work))
+  Opens = (state : S) → legal (history state) → ((r : ℕ) → own (history state) r ≡ []) → Ruled n (Serves history legal own replies n) (opening (replicate (word_count n) 0) (slots_of n state) (opening_view (opening_work (history state))))
 
   -- the first seat, which has made those of the clients below k, makes that of client k
   abbrev pub KeptByClientSplit : Type 0

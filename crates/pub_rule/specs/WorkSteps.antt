@@ -9,6 +9,7 @@ use Rattle.pub_rule.specs.declared.work.Stage.TheVariants.{Away, Free, Asking}
 use Rattle.pub_rule.specs.declared.work.Serving.TheVariants.{Nothing, Posted, Parked}
 use Rattle.pub_rule.specs.declared.served.Slot.{Slot}
 use Rattle.pub_rule.specs.declared.served.Slot.TheVariants as slots
+use Rattle.pub_rule.specs.declared.words.TheConstants.{FREE, POSTED, PARKED, ANSWERED}
 use Rattle.pub_rule.specs.Words.{state_word}
 use Rattle.pub_rule.specs.Work.{GoesOn, IsClient, IsAtHome}
 
@@ -35,27 +36,27 @@ IsIdle _ = ⊥
 module _ {E C R : Type 0} where
   -- the client has its slot in its hands
   abbrev pub fetched : ℕ → Work E C R → Work E C R
-  fetched q w = record w { stage = Free q; ready = false }
+  fetched q w = record w { stage = Free q; found = 0 }
 
   -- it posted
   abbrev pub asking : ℕ → C → Work E C R → Work E C R
-  asking q c w = record w { stage = Asking q c; posts = w.posts + 1; past = false; ready = false }
+  asking q c w = record w { stage = Asking q c; posts = w.posts + 1; past = false; found = 0 }
 
   -- it has the reply to its call, by this history
   abbrev pub answered : ℕ → C → R → List E → Work E C R → Work E C R
-  answered q c x h w = record w { stage = Free q; seen = h; entered = w.entered ++ c ∷ []; got = w.got ++ x ∷ []; past = false; ready = false }
+  answered q c x h w = record w { stage = Free q; seen = h; entered = w.entered ++ c ∷ []; got = w.got ++ x ∷ []; past = false; found = 0 }
 
   -- its call was refused for memory
   abbrev pub refused : ℕ → List E → Work E C R → Work E C R
-  refused q h w = record w { stage = Free q; seen = h; past = false; ready = false }
+  refused q h w = record w { stage = Free q; seen = h; past = false; found = 0 }
 
   -- it gave its slot back
   abbrev pub given : ℕ → Work E C R → Work E C R
-  given q w = record w { stage = Away q; ready = false }
+  given q w = record w { stage = Away q; found = 0 }
 
-  -- it saw this history, and whether its state word is 4
-  abbrev pub seeing : List E → Bool → Work E C R → Work E C R
-  seeing h b w = record w { seen = h; ready = b }
+  -- it saw this history, and found its state word to be k
+  abbrev pub seeing : List E → ℕ → Work E C R → Work E C R
+  seeing h k w = record w { seen = h; found = k }
 
   -- client q's call c waits: the history has it, and a beginning of the history has it without its reply
   abbrev pub IsWaiting : (List E → ℕ → List C) → (List E → ℕ → List R) → ℕ → C → List E → Work E C R → Type 0
@@ -116,30 +117,34 @@ module _ {E C R S : Type 0} (st : Step (Slot C R S)) (m : Me (Slot C R S) (View 
   call_posted = (q : ℕ) × (c : C) × (m.0.work.stage ≡ Free q) × (m.1 ≡ (q, slots.Call c) ∷ rest m.1) × (m' ≡ (with_work (asking q c m.0.work) m.0, rest m.1))
 
   module _ (legal : List E → Type 0) (own : List E → ℕ → List C) (replies : List E → ℕ → List R) where
-    -- read state of the own record, while a call is in flight: the history is seen; where the word is 3, or a combiner is known to have dealt with the call that isn't answered, the call waits
+    -- read state of the own record, while a call is in flight: the history is seen; where the call is parked, or a combiner is known to have dealt with the call that isn't answered, the call waits
     abbrev pub own_seen : Type 0
-    own_seen = (q : ℕ) × (c : C) × (h : List E) × (m.0.work.stage ≡ Asking q c) × (m' ≡ (with_work (seeing h (k == 4) m.0.work) m.0, m.1)) × GoesOn m.0.work.seen h × legal h × (0 < k) × (k < 5)
-        × (m.0.work.past ≡ true → k ≢ 1) × (m.0.work.ready ≡ true → k ≡ 4) × ((k ≡ 3) ⊎ ((m.0.work.past ≡ true) × (k ≢ 4)) → IsWaiting own replies q c h m.0.work) × GoesOn m.0.work.hearsay h
+    own_seen = (q : ℕ) × (c : C) × (h : List E) × (m.0.work.stage ≡ Asking q c) × (m' ≡ (with_work (seeing h k m.0.work) m.0, m.1)) × GoesOn m.0.work.seen h × legal h × (0 < k) × (k < 5)
+        × (m.0.work.past ≡ true → k ≢ POSTED) × (m.0.work.found ≡ ANSWERED → k ≡ ANSWERED) × ((k ≡ PARKED) ⊎ ((m.0.work.past ≡ true) × (k ≢ ANSWERED)) → IsWaiting own replies q c h m.0.work) × GoesOn m.0.work.hearsay h
 
     -- and where none is: the history that is seen has just the calls entered and the replies got
     abbrev pub idle_seen : Type 0
-    idle_seen = (q : ℕ) × (h : List E) × IsClient q m.0.work.stage × IsIdle m.0.work.stage × (m' ≡ (with_work (seeing h (k == 4) m.0.work) m.0, m.1)) × GoesOn m.0.work.seen h × legal h × (k ≡ 0) × (own h q ≡ m.0.work.entered) × (replies h q ≡ m.0.work.got) × GoesOn m.0.work.hearsay h
+    idle_seen = (q : ℕ) × (h : List E) × IsClient q m.0.work.stage × IsIdle m.0.work.stage × (m' ≡ (with_work (seeing h k m.0.work) m.0, m.1)) × GoesOn m.0.work.seen h × legal h × (k ≡ FREE) × (own h q ≡ m.0.work.entered) × (replies h q ≡ m.0.work.got) × GoesOn m.0.work.hearsay h
 
     abbrev pub own_looked : Type 0
     own_looked = own_seen ⊎ idle_seen
 
-    -- collect: the own word was 4, so the reply comes into the client's hands, and the history has its call and its reply at the end of those entered and got; or the call was refused for memory; or the word was another one, and the client saw it
+    -- collect: the call was answered, so the reply comes into the client's hands, and the history has its call and its reply at the end of those entered and got; or the call was refused for memory; or the word was another one, and the client saw it
     abbrev pub reply_collected : Type 0
-    reply_collected = (k ≡ 4 → (q : ℕ) × (c : C) × (h : List E) × (m.0.work.stage ≡ Asking q c) × GoesOn m.0.work.seen h × legal h
+    reply_collected = (k ≡ ANSWERED → (q : ℕ) × (c : C) × (h : List E) × (m.0.work.stage ≡ Asking q c) × GoesOn m.0.work.seen h × legal h
         × (((m' ≡ (with_work (refused q h m.0.work) m.0, (q, slots.Memory) ∷ m.1)) × (own h q ≡ m.0.work.entered) × (replies h q ≡ m.0.work.got))
         ⊎ ((x : R) × (m' ≡ (with_work (answered q c x h m.0.work) m.0, (q, slots.Reply x) ∷ m.1)) × (own h q ≡ m.0.work.entered ++ c ∷ []) × (replies h q ≡ m.0.work.got ++ x ∷ []))))
-        × (k ≢ 4 → own_looked)
+        × (k ≢ ANSWERED → own_looked)
 
   module _ (own : List E → ℕ → List C) (replies : List E → ℕ → List R) where
-    -- take from posted, by the holder: the record's word was 1, so its call comes into the holder's hands, each of its client's calls in the history has its reply there, and where the client is its own, it asks just this; or it was another one, so a combiner dealt with its last post
+    -- take from posted, by the holder: the record was posted, so its call comes into the holder's hands, each of its client's calls in the history has its reply there, and where the client is its own, it asks just this; or it was another one, so a combiner dealt with its last post
     abbrev pub call_taken : Type 0
-    call_taken = (k ≡ 1 → (r : ℕ) × (c : C) × (st.word ≡ state_word r) × (length (own m.0.work.seen r) ≡ length (replies m.0.work.seen r)) × (IsClient r m.0.work.stage → m.0.work.stage ≡ Asking r c) × (m' ≡ (with_work (taking r c m.0.work) m.0, (r, slots.Call c) ∷ m.1)))
-        × (k ≢ 1 → (r : ℕ) × (st.word ≡ state_word r) × (m' ≡ (with_work (dealt r m.0.work) m.0, m.1)))
+    call_taken = (k ≡ POSTED → (r : ℕ) × (c : C) × (st.word ≡ state_word r) × (length (own m.0.work.seen r) ≡ length (replies m.0.work.seen r)) × (IsClient r m.0.work.stage → m.0.work.stage ≡ Asking r c) × (m' ≡ (with_work (taking r c m.0.work) m.0, (r, slots.Call c) ∷ m.1)))
+        × (k ≢ POSTED → (r : ℕ) × (st.word ≡ state_word r) × (m' ≡ (with_work (dealt r m.0.work) m.0, m.1)))
+
+  -- peek at a record, by the holder: it is posted; or its word is another one, so a combiner dealt with its last post
+  abbrev pub record_peeked : Type 0
+  record_peeked = (k ≡ POSTED → m' ≡ m) × (k ≢ POSTED → (r : ℕ) × (st.word ≡ state_word r) × (m' ≡ (with_work (dealt r m.0.work) m.0, m.1)))
 
   -- seize: nobody combined, so the state comes into the client's hands with the history; or another client combines
   abbrev pub state_seized : (S → List E) → (List E → Type 0) → Type 0
@@ -162,9 +167,9 @@ module _ {E C R S : Type 0} (st : Step (Slot C R S)) (m : Me (Slot C R S) (View 
   abbrev pub call_refused : Type 0
   call_refused = (r : ℕ) × (st.word ≡ state_word r) × (m' ≡ (with_work (refusing r m.0.work) m.0, rest m.1))
 
-  -- take from parked, by the holder: the record's word was 3, and its empty slot comes into the holder's hands
+  -- take from parked, by the holder: the record was parked, and its empty slot comes into the holder's hands
   abbrev pub call_resumed : Type 0
-  call_resumed = (k ≡ 3) × (r : ℕ) × (c : C) × (st.word ≡ state_word r) × (m' ≡ (with_work (resuming r c m.0.work) m.0, (r, slots.Empty) ∷ m.1))
+  call_resumed = (k ≡ PARKED) × (r : ℕ) × (c : C) × (st.word ≡ state_word r) × (m' ≡ (with_work (resuming r c m.0.work) m.0, (r, slots.Empty) ∷ m.1))
 
   -- answer from parked, by the holder: the reply goes home, and the history stays, which has it
   abbrev pub reply_handed : Type 0

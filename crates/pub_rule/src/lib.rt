@@ -21,10 +21,12 @@ pub use rule::{Combining, Half, Listed};
 pub use served::{Served, Slot};
 pub use steps::{ExchangeHead, LoadHead, LoadNext, MergeToken, SplitClient, SplitToken, StoreNext};
 pub use walk::{Role, View, Walk};
-pub use words::{head_word, lock_word, next_word, state_word, word_count};
+pub use words::{
+    ANSWERED, FREE, PARKED, POSTED, TAKEN, head_word, lock_word, next_word, state_word, word_count,
+};
 pub use work::{Closed, Serving, Stage, Work};
 pub use work_joins::{EnterCloser, MergeClient};
 pub use work_steps::{
-    AnswerCall, CollectReply, FetchSlot, GiveSlot, LookAt, LookOwn, ParkCall, PostCall, RefuseCall,
-    ReleaseState, SeizeState, TakeParked, TakePosted,
+    AnswerCall, CollectReply, FetchSlot, GiveSlot, LookAt, LookOwn, ParkCall, PeekAt, PostCall,
+    RefuseCall, ReleaseState, SeizeState, TakeParked, TakePosted,
 };

@@ -8,16 +8,17 @@ use crate::walk::View;
 use crate::work::Work;
 use atomic_table::TableRule;
 use std::marker::PhantomData;
+use std::snapshot::Snapshot;
 
 /// The half of a rule that speaks of what is served: of the words that aren't the list's, of what lies in the
 /// slots, and of what seats know of it. The laws of the list hold beside any such half. It is the project's
 /// own.
-pub trait Half<T, W> {
+pub trait Half<T, W, H> {
     // what it says for so many clients of the words, of the slots at home and of what the seats know
     ghost serves: { ℕ → List ℕ → List (Option T) → List W → Type 0 };
 
-    // what the first seat knows
-    ghost first: { W };
+    // what the first seat knows, by what is known at the start
+    ghost first: { H → W };
 
     // it doesn't look at the words of the list
     ghost deaf: { (n : ℕ) → IsDeaf n (serves n) };
@@ -26,19 +27,20 @@ pub trait Half<T, W> {
     ghost deep: { (n : ℕ) → IsDeep n (serves n) };
 }
 
-/// The rule of a publication list beside the half `P`; its key is the number of clients. From the head word
+/// The rule of a publication list beside the half `P`; its key is the number of clients, and what the half
+/// knows at the start. From the head word
 /// the next words give a list of distinct clients, exactly those that joined (flat combining: Hendler, Incze,
 /// Shavit, Tzafrir 2010).
 pub struct Listed<P> {
     half: PhantomData<P>,
 }
 
-impl<T, W, P: Half<T, W>> TableRule<T, View<W>, u64> for Listed<P> {
+impl<T, W, H, P: Half<T, W, H>> TableRule<T, View<W>, (u64, H)> for Listed<P> {
     ghost use Rattle.pub_rule.specs.Rule.{Ruled, opening_view};
 
-    ghost holds = { λ n. Ruled n (P.serves n) };
+    ghost holds = { λ k. Ruled k.0 (P.serves k.0) };
 
-    ghost first = { λ n. opening_view P.first };
+    ghost first = { λ k. opening_view (P.first k.1) };
 }
 
 /// A state is served by whoever combines: the publication records, the lock word and the slots are as the
@@ -48,14 +50,14 @@ pub struct Combining<S> {
     served: PhantomData<S>,
 }
 
-impl<S: Served> Half<Slot<S::Call, S::Reply, S>, Work<S::Event, S::Call, S::Reply>>
+impl<S: Served> Half<Slot<S::Call, S::Reply, S>, Work<S::Event, S::Call, S::Reply>, Snapshot<S>>
     for Combining<S> {
     ghost use Rattle.pub_rule.specs.Work.{Serves};
     ghost use Rattle.pub_rule.specs.Deaf.{opening_work, deaf, deep};
 
     ghost serves = { λ n. Serves S.history S.legal S.own S.replies n };
 
-    ghost first = { opening_work };
+    ghost first = { λ s. opening_work (S.history s.value) };
 
     ghost deaf = { deaf S.history S.legal S.own S.replies };
 

@@ -1,11 +1,10 @@
 //! What a publication list serves, and what its slots hold.
-ghost use Rattle.std.specs.Prelude.{◌≡◌, ℕ, List, length};
+ghost use Rattle.std.specs.Prelude.{ℕ, List};
 ghost use Rattle.pub_rule.specs.Served.{
   AddsCall,
   AddsNoOther,
   AddsAtMostOneReply,
   HasNoMoreReplies,
-  StartsEmpty,
 };
 
 /// A state that combiners serve: it means a history of events, each of them a call of one client. Whose reply
@@ -38,20 +37,13 @@ pub trait Served: Drop {
     // a client's replies in a history, in their order
     ghost replies: { List Self.Event → ℕ → List Self.Reply };
 
-    /// The number of events in the history.
-    fn events(&self) -> u64
-        ensures { result ≡ length (history self.now) };
-
-    // the history without an event is legal, and nobody's call is in it
-    ghost starts_empty: { StartsEmpty legal own };
-
-    // an event is one more call of its client
-    ghost own_call: { AddsCall own client call };
+    // an event by which a legal history goes on is one more call of its client
+    ghost own_call: { AddsCall legal own client call };
 
     // and of no other
-    ghost own_other: { AddsNoOther own client };
+    ghost own_other: { AddsNoOther legal own client };
 
-    // an event of a legal history adds at most one reply for each client
+    // and adds at most one reply for each client
     ghost one_more: { AddsAtMostOneReply legal replies };
 
     // in a legal history no client has more replies than calls

@@ -81,8 +81,9 @@ pub struct Work<E, C, R> {
     pub passed: LinkedList<(u64, u64)>,
     /// Whether a combiner is known to have dealt with the client's last post.
     pub past: bool,
-    /// Whether the client found its own state word to be 4.
-    pub ready: bool,
+    /// What the client found its own state word to be when it looked last; 0 where it hasn't looked since it
+    /// posted or collected.
+    pub found: u64,
     /// What the clients told whose seats were merged into this one.
     pub closed: LinkedList<Closed<E, C, R>>,
 }

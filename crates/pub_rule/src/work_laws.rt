@@ -9,6 +9,7 @@ ghost use Rattle.pub_rule.specs.WorkLaws.{
   KeptByCollect,
   KeptBySeize,
   KeptByTake,
+  KeptByPeek,
   KeptByAnswer,
   KeptByRelease,
   KeptByPark,
@@ -36,6 +37,12 @@ pub fn collect<S: Served>()
 /// Take: the holder, which has taken no record, makes the state word of a client 2 where it is 1.
 pub fn take<S: Served>()
     ensures { (n : ℕ) → KeptByTake S.history S.legal S.own S.replies n }
+{}
+
+/// Peek: the holder, which has taken no record, reads the state word of a client. Another word than 1 tells
+/// what a `take` tells that fails.
+pub fn peek<S: Served>()
+    ensures { (n : ℕ) → KeptByPeek S.history S.legal S.own S.replies n }
 {}
 
 /// Seize: a client that doesn't combine makes the lock word its own number + 1 where it is 0.

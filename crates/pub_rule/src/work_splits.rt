@@ -7,8 +7,8 @@ ghost use Rattle.pub_rule.specs.WorkSplits.{Opens, KeptByClientSplit, KeptByToke
 
 use crate::served::Served;
 
-/// The start: the rule holds of a table whose words are 0, whose slots are empty but for the last, and whose
-/// state has no event.
+/// The start: the rule holds of a table whose words are 0, whose slots are empty but for the last, and in the
+/// history of whose state nobody has called.
 pub fn opening<S: Served>()
     ensures { (n : ℕ) → Opens S.history S.legal S.own S.replies n }
 {}

@@ -58,6 +58,16 @@ impl<S: Served> Play<Slot<S::Call, S::Reply, S>, View<Work<S::Event, S::Call, S:
     ghost then = { λ st m k m'. call_taken st m k m' S.own S.replies };
 }
 
+/// Peek: the combiner sees whether a record is posted; where it isn't, a combiner has dealt with its client's
+/// last post. It is the project's own.
+pub struct PeekAt;
+
+impl<E, C, R, S> Play<Slot<C, R, S>, View<Work<E, C, R>>> for PeekAt {
+    ghost use Rattle.pub_rule.specs.WorkSteps.{record_peeked};
+
+    ghost then = { λ st m k m'. record_peeked st m k m' };
+}
+
 /// Take from parked: a parked record whose client is owed a reply comes into the combiner's hands. It is the
 /// project's own.
 pub struct TakeParked;

@@ -3,7 +3,7 @@ use Rattle.pub_rule.proofs.Numbers.{head_within, next_within, state_within}
 use Rattle.pub_rule.specs.Lists.{link_to, head_of, IsListOf}
 use Rattle.pub_rule.specs.declared.walk.Walk.{Walk}
 use Rattle.pub_list.proofs.Seats.{head_loads, next_stores, head_exchanges, slot_fetches}
-use Rattle.pub_list.proofs.Joining.{fewer, begins, tries_again, wins, walk_still, knows_now, is_joined, knows_itself, few_tries}
+use Rattle.pub_list.proofs.Tries.{fewer, begins, tries_again, wins, walk_still, knows_now, is_joined, knows_itself, few_tries}
 use Rattle.pub_list.proofs.fresh.Fresh.join.Goals as goal
 
 pub load-head-requires : goal.load-head-requires
@@ -37,7 +37,7 @@ invariant_of-result g c = let list = c.args.list.now in let did = c.compare_exch
     let w = wins c.args.self.client list.clients _ c.head_word-in-loop-head.result c.loop-head.head (c.from-number.result + 1) c.compare_exchange-found.result c.loop-head.seat c.store.new.seat c.compare_exchange-found.new.seat t.1 list.sized.1 put.2 did.2 c.if-found-head.true (ap (λ z. z.slots) (did.0 ∙ (put.0 ∙ (t.0 ∙ c.requires)))) in let now = c.load.ensures in record { own = is_joined c.args.self.client (list.clients + 1) c.state_word.result c.load.result c.compare_exchange-found.new.seat c.load.new.seat w now.0 now.2 }
 
 pub returns-then-found-head-clause-client : goal.returns-then-found-head-clause-client
-returns-then-found-head-clause-client g c = let did = c.compare_exchange-found.ensures in let put = c.store.ensures in let t = c.loop-head.invariant in (refl, c.load.ensures.0 ∙ (did.0 ∙ (put.0 ∙ t.0)))
+returns-then-found-head-clause-client g c = let did = c.compare_exchange-found.ensures in let put = c.store.ensures in let t = c.loop-head.invariant in (refl, c.load.ensures.0 ∙ (did.0 ∙ (put.0 ∙ (t.0 ∙ c.requires))))
 
 pub returns-then-found-head-clause-tries : goal.returns-then-found-head-clause-tries
 returns-then-found-head-clause-tries g c = let list = c.args.list.now in let did = c.compare_exchange-found.ensures in let put = c.store.ensures in let t = c.loop-head.invariant in

@@ -11,14 +11,14 @@ compare_exchange-found-requires g c = let self = c.args.self.now in let list = c
 
 pub invariant_of-self : goal.invariant_of-self
 invariant_of-self g c = let self = c.args.self.now in let did = c.compare_exchange-found.ensures in record {
-  own = still_asks g.S.Served.legal g.S.Served.own g.S.Served.replies self.client c.compare_exchange-found.result self.seat c.compare_exchange-found.new.seat self.own c.requires.unheld did.2 c.if-found-ne4.true did.0;
+  own = still_asks g.S.Served.legal g.S.Served.own g.S.Served.replies self.client c.compare_exchange-found.result self.seat c.compare_exchange-found.new.seat self.own c.requires.unheld did.2 c.if-found-ne-ANSWERED.true did.0;
 }
 
 pub exchange-requires : goal.exchange-requires
 exchange-requires g c = let self = c.args.self.now in let did = c.compare_exchange-found.ensures in
-    (did.0 ∙ c.requires.list, holds_one g.S.Served.legal g.S.Served.own g.S.Served.replies self.client c.compare_exchange-found.result self.seat c.compare_exchange-found.new.seat self.own c.requires.unheld did.2 c.if-found-ne4.false)
+    (did.0 ∙ c.requires.list, holds_one g.S.Served.legal g.S.Served.own g.S.Served.replies self.client c.compare_exchange-found.result self.seat c.compare_exchange-found.new.seat self.own c.requires.unheld did.2 c.if-found-ne-ANSWERED.false)
 
 pub invariant_of-self-2 : goal.invariant_of-self-2
 invariant_of-self-2 g c = let self = c.args.self.now in let did = c.compare_exchange-found.ensures in let put = c.exchange.ensures in record {
-  own = collected_joined g.S.Served.legal g.S.Served.own g.S.Served.replies self.client c.compare_exchange-found.result self.seat c.compare_exchange-found.new.seat self.own c.requires.unheld did.2 c.if-found-ne4.false c.exchange.new.seat _ put.2 put.3 (put.0 ∙ did.0);
+  own = collected_joined g.S.Served.legal g.S.Served.own g.S.Served.replies self.client c.compare_exchange-found.result self.seat c.compare_exchange-found.new.seat self.own c.requires.unheld did.2 c.if-found-ne-ANSWERED.false c.exchange.new.seat _ put.2 put.3 (put.0 ∙ did.0);
 }

@@ -28,18 +28,10 @@ invariant_of-self g c = let self = c.args.self.now in let other = c.args.other.n
   own = has_learned self.client other.client self.seat c.join_seat.new.seat other.seat c.split_seat-token.result self.own other.own _ c.requires.own c.requires.other did.0 told.4 did.2;
 }
 
-pub returns-clause-told : goal.returns-clause-told
-returns-clause-told g c = let self = c.args.self.now in let other = c.args.other.now in let told = c.split_seat-token.ensures in let did = c.join_seat.ensures in let look = c.look_own.ensures.own in
-    ap (λ v. v.walk.known) look.4 ∙ told_more self.client other.client self.seat c.join_seat.new.seat other.seat c.split_seat-token.result self.own other.own _ c.requires.own c.requires.other did.0 told.4 did.2
-
-pub returns-clause-seen : goal.returns-clause-seen
-returns-clause-seen g c = let self = c.args.self.now in let other = c.args.other.now in let told = c.split_seat-token.ensures in let did = c.join_seat.ensures in let look = c.look_own.ensures.own in
-    ap (λ v. v.walk.list) look.4 ∙ ap (λ m. m.0.walk.list) did.2
-
-pub returns-clause-tries : goal.returns-clause-tries
-returns-clause-tries g c = let self = c.args.self.now in let other = c.args.other.now in let told = c.split_seat-token.ensures in let did = c.join_seat.ensures in let look = c.look_own.ensures.own in
-    ap (λ v. v.walk.tries) look.4 ∙ ap (λ m. m.0.walk.tries) did.2
-
-pub returns-clause-taught : goal.returns-clause-taught
-returns-clause-taught g c = let self = c.args.self.now in let other = c.args.other.now in let told = c.split_seat-token.ensures in let did = c.join_seat.ensures in let look = c.look_own.ensures.own in
-    is_taught self.client other.client self.seat c.join_seat.new.seat other.seat c.split_seat-token.result self.own other.own _ c.requires.own c.requires.other did.0 told.4 did.2 g.S.Served.legal g.S.Served.own g.S.Served.replies c.look_own.new.self.seat c.look_own.result look
+pub returns-clause-learns : goal.returns-clause-learns
+returns-clause-learns g c = let self = c.args.self.now in let other = c.args.other.now in let told = c.split_seat-token.ensures in let did = c.join_seat.ensures in let look = c.look_own.ensures.own in (
+  ap (λ v. v.walk.known) look.4 ∙ told_more self.client other.client self.seat c.join_seat.new.seat other.seat c.split_seat-token.result self.own other.own _ c.requires.own c.requires.other did.0 told.4 did.2,
+  ap (λ v. v.walk.list) look.4 ∙ ap (λ m. m.0.walk.list) did.2,
+  ap (λ v. v.walk.tries) look.4 ∙ ap (λ m. m.0.walk.tries) did.2,
+  is_taught self.client other.client self.seat c.join_seat.new.seat other.seat c.split_seat-token.result self.own other.own _ c.requires.own c.requires.other did.0 told.4 did.2 g.S.Served.legal g.S.Served.own g.S.Served.replies c.look_own.new.self.seat c.look_own.result look,
+)

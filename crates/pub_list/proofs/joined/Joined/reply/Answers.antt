@@ -14,7 +14,7 @@ pub compare_exchange_with-requires : goal.compare_exchange_with-requires
 compare_exchange_with-requires g c = let self = c.args.self.now in let list = c.args.list.now in let put = c.exchange.ensures in let sized = list.sized.0 in let word = c.state_word.ensures in let within = state_within c.args.client list.clients (below_all self.client c.args.client self.seat self.own c.requires.combines (taken_of g.S.Served.history g.S.Served.legal g.S.Served.client g.S.Served.call list.clients c.args.client self.seat.me.0 c.args.state g.S.Served.replies c.args.reply c.requires.answer) _ list.clients (ap (λ z. z.slots) c.requires.list) list.sized.1) in let still = sym (ap (λ m. m.0) put.3) in (
   put.0 ∙ c.requires.list,
   omega arith,
-  word_replies g.S.Served.history g.S.Served.legal g.S.Served.own g.S.Served.replies _ _ _ _ _ self.client c.args.client list.clients word list.sized.2 (subst (λ v. IsClient self.client v.work.stage) still (is_client self.client _ _ _ self.own.working)) (ap (λ v. v.work.holds) (ap (λ m. m.0) put.3) ∙ c.requires.combines) g.S.Served.client g.S.Served.call g.met.S.Served.own_call g.met.S.Served.own_other g.met.S.Served.one_more g.met.S.Served.no_more c.args.state c.args.reply
+  word_replies g.S.Served.history g.S.Served.legal g.S.Served.own g.S.Served.replies _ _ _ _ _ self.client c.args.client list.clients word list.sized.2 (subst (λ v. IsClient self.client v.work.stage) still (is_client self.client _ _ _ self.own.working)) (ap (λ v. v.work.holds) (ap (λ m. m.0) put.3) ∙ c.requires.combines) g.S.Served.client g.S.Served.call g.S.Served.own_call g.S.Served.own_other g.S.Served.one_more g.S.Served.no_more c.args.state c.args.reply
       (subst (λ v. MayAnswer g.S.Served.history g.S.Served.legal g.S.Served.client g.S.Served.call list.clients c.args.client v c.args.state g.S.Served.replies (answers.Reply c.args.reply)) still c.requires.answer)
       (hands_put self.client c.args.client self.seat self.own c.requires.combines (taken_of g.S.Served.history g.S.Served.legal g.S.Served.client g.S.Served.call list.clients c.args.client self.seat.me.0 c.args.state g.S.Served.replies c.args.reply c.requires.answer) c.exchange.new.seat _ put.3),
 )

@@ -1,8 +1,8 @@
-use Rattle.std.proofs.Common.{ℕ, ◌≤◌, List, length, sym, ap, ◌∙◌, subst, inl, arith}
+use Rattle.std.proofs.Common.{ℕ, ◌<◌, ◌≤◌, All, List, length, sym, ap, ◌∙◌, subst, inl, arith}
 use Rattle.pub_rule.specs.Lists.{IsOn, IsListOf, EndsWith}
 use Rattle.pub_rule.proofs.Clients.{at_most}
 use Rattle.pub_list.specs.Joined.{seen, told}
-use Rattle.pub_list.proofs.Walking.{at_client, goes_on, ends}
+use Rattle.pub_list.proofs.Walks.{at_client, goes_on, ends, all_below}
 use Rattle.pub_list.proofs.joined.Joined.walk.Goals as goal
 
 pub bounds-met-count : goal.bounds-met-count
@@ -26,6 +26,10 @@ loop-at-preserved g c = let l = c.loop-at in let i = l.invariant in let did = c.
 
 pub returns-clause-met : goal.returns-clause-met
 returns-clause-met g c = let l = c.loop-at in let i = l.invariant in let end = ends _ l.count l.at l.met _ i.3 c.in_default.is in end.0
+
+pub returns-clause-below : goal.returns-clause-below
+returns-clause-below g c = let l = c.loop-at in let i = l.invariant in let end = ends _ l.count l.at l.met _ i.3 c.in_default.is in
+    subst (All (λ q. q < c.args.list.now.clients)) (sym end.0) (all_below c.args.list.now.clients (seen l.self.seat) i.2.1.1)
 
 pub returns-clause-rest : goal.returns-clause-rest
 returns-clause-rest g c = let l = c.loop-at in let i = l.invariant in let end = ends _ l.count l.at l.met _ i.3 c.in_default.is in end.1

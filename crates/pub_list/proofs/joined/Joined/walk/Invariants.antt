@@ -1,7 +1,7 @@
 use Rattle.std.proofs.Common.{◌≡◌, ◌-◌, length}
 use Rattle.pub_rule.specs.Lists.{IsListOf}
 use Rattle.pub_list.specs.Joined.{IsStill, SeesAll, seen}
-use Rattle.pub_list.proofs.Walking.{Walked}
+use Rattle.pub_list.proofs.Walks.{Walked}
 use Rattle.pub_list.proofs.joined.Joined.walk.Given as goal
 
 abbrev pub invariant-loop-at : goal.invariant-loop-at

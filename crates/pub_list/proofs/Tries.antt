@@ -17,11 +17,12 @@ use Rattle.pub_rule.specs.declared.served.Slot.{Slot}
 use Rattle.pub_rule.specs.declared.served.Slot.TheVariants as slots
 use Rattle.pub_rule.specs.declared.work.Work.{Work}
 use Rattle.pub_rule.specs.declared.work.Stage.TheVariants.{Away, Free}
+use Rattle.pub_rule.specs.Work.{IsMarked}
 use Rattle.pub_rule.specs.WorkSteps.{with_work, fetched, slot_fetched}
-use Rattle.pub_rule.specs.WorkSplits.{blank_work, owner_of}
+use Rattle.pub_rule.specs.WorkSplits.{starting, owner_of}
 
-pub record Trying {T E C R : Type 0} (client clients head : ℕ) (seat : Seat T (View (Work E C R))) : Type 0 where
-  pub knows : seat.me.0.work ≡ blank_work (Away client)
+pub record Trying {T E C R : Type 0} (client clients head : ℕ) (h : List E) (seat : Seat T (View (Work E C R))) : Type 0 where
+  pub knows : seat.me.0.work ≡ starting (Away client) h
   pub role : seat.me.0.walk.role ≡ roles.Fresh client
   pub empty : seat.me.1 ≡ []
   pub told : told seat ≡ []
@@ -32,23 +33,23 @@ pub record Trying {T E C R : Type 0} (client clients head : ℕ) (seat : Seat T 
   pub small : client < clients
 
 -- it has joined, but hasn't its slot yet
-pub record Won {T E C R : Type 0} (client : ℕ) (seat : Seat T (View (Work E C R))) : Type 0 where
+pub record Won {T E C R : Type 0} (client : ℕ) (h : List E) (seat : Seat T (View (Work E C R))) : Type 0 where
   pub role : seat.me.0.walk.role ≡ roles.Joined client
-  pub knows : seat.me.0.work ≡ blank_work (Away client)
+  pub knows : seat.me.0.work ≡ starting (Away client) h
   pub empty : seat.me.1 ≡ []
   pub small : client + 1 < seat.table_id.slots
   pub listed : (c : ℕ) → IsOn c (seen seat) → c < seat.table_id.slots - 1
   pub told : told seat ≡ []
 
 -- so the list that it loaded has fewer than all clients
-pub fewer : {T E C R : Type 0} (client clients head : ℕ) (seat : Seat T (View (Work E C R))) → Trying client clients head seat → tries seat < clients
+pub fewer : {T E C R : Type 0} {h : List E} (client clients head : ℕ) (seat : Seat T (View (Work E C R))) → Trying client clients head h seat → tries seat < clients
 fewer client clients head seat t = let tried = t.tried in let small = t.small in
     let all = at_most clients (client ∷ seen seat) ((t.off, t.listed.0), λ c h. ⊎_elim (λ e. omega arith) (t.listed.1 c) h) in omega arith
 
 -- the first load
 module _ {T E C R : Type 0} where
   pub begins : (client clients slots word k : ℕ) (old new : Seat T (View (Work E C R))) → IsFresh client old → old.table_id.slots ≡ slots → slots ≡ clients + 1
-      → head_loaded (step slots word 0 0 none) old.me k new.me → Trying client clients k new
+      → head_loaded (step slots word 0 0 none) old.me k new.me → Trying client clients k old.me.0.work.seen new
   begins client clients slots word k old new fresh at sized did = let was : old.me.0.walk ≡ blank (roles.Fresh client) = fresh.0 in let view : new.me.0.walk ≡ with_list did.0 old.me.0.walk = ap (λ (m : Me T (View (Work E C R))). m.0.walk) did.1 in
       let now : seen new ≡ did.0 = ap (λ (v : Walk). v.list) view in let still = λ (v : Walk). v.role in let role : old.me.0.walk.role ≡ roles.Fresh client = ap still was in let none_tried : old.me.0.walk.tries ≡ 0 = ap (λ (v : Walk). v.tries) was in
       let small = fresh.3 in record {
@@ -64,7 +65,7 @@ module _ {T E C R : Type 0} where
       }
 
 -- one try: the seat was old, mid after the store, and is new
-module _ {T E C R : Type 0} (client clients slots word head number found : ℕ) (old mid new : Seat T (View (Work E C R))) (t : Trying client clients head old) (sized : slots ≡ clients + 1)
+module _ {T E C R : Type 0} {h : List E} (client clients slots word head number found : ℕ) (old mid new : Seat T (View (Work E C R))) (t : Trying client clients head h old) (sized : slots ≡ clients + 1)
     (stored : mid.me ≡ (with_walk (with_stored head old.me.0.walk) old.me.0, old.me.1)) (did : head_exchanged (step slots word head number none) mid.me found new.me) where
   abbrev before : mid.me.0.walk ≡ with_stored head old.me.0.walk
   before = ap (λ (m : Me T (View (Work E C R))). m.0.walk) stored
@@ -72,7 +73,7 @@ module _ {T E C R : Type 0} (client clients slots word head number found : ℕ) 
   abbrev was_fresh : mid.me.0.walk.role ≡ roles.Fresh client
   was_fresh = ap (λ (v : Walk). v.role) before ∙ t.role
 
-  pub tries_again : found ≢ head → Trying client clients found new × (tries new ≡ tries old + 1)
+  pub tries_again : found ≢ head → Trying client clients found h new × (tries new ≡ tries old + 1)
   tries_again other = let went = did.1 other in let view : new.me.0.walk ≡ failed went.0 mid.me.0.walk = ap (λ (m : Me T (View (Work E C R))). m.0.walk) went.1 in let now : seen new ≡ went.0 = ap (λ (v : Walk). v.list) view in
       let count : tries new ≡ tries old + 1 = ap (λ (v : Walk). v.tries) view ∙ ap (λ (v : Walk). v.tries + 1) before in
       let saw = went.3 in let tried = saw.tried in let size = ap length now in let same = ap (λ (v : Walk). v.tries) view in (
@@ -103,13 +104,13 @@ module _ {T E C R : Type 0} (client clients slots word head number found : ℕ) 
     abbrev listed_now : IsListOf clients (seen new)
     listed_now = subst (IsListOf clients) (sym (ap (λ (v : Walk). v.list) view_now)) (subst (λ (z : ℕ). IsListOf z (joined mid.me.0.walk).list) (omega arith) (did.0 hit).1.clients)
 
-    pub wins : new.table_id.slots ≡ slots → Won client new
+    pub wins : new.table_id.slots ≡ slots → Won client h new
     wins at = let small = t.small in record {
       role = ap (λ (v : Walk). v.role) view_now ∙ ap (λ (c : ℕ). roles.Joined c) itself;
       knows = ap (λ (m : Me T (View (Work E C R))). m.0.work) (did.0 hit).0 ∙ (ap (λ (m : Me T (View (Work E C R))). m.0.work) stored ∙ t.knows);
       empty = ap (λ (m : Me T (View (Work E C R))). m.1) (did.0 hit).0 ∙ (ap (λ (m : Me T (View (Work E C R))). m.1) stored ∙ t.empty);
       small = omega arith;
-      listed = λ c h. let below = listed_now.1 c h in omega arith;
+      listed = λ c on. let below = listed_now.1 c on in omega arith;
       told = ap (λ (v : Walk). v.known) view_now ∙ (ap (λ (v : Walk). v.known) before ∙ t.told);
     }
 
@@ -121,7 +122,7 @@ module _ {T E C R : Type 0} (client clients slots word head number found : ℕ) 
         let size : length (seen new) ≡ length (joined mid.me.0.walk).list = ap (λ (v : Walk). length v.list) view_now in (omega arith, omega arith)
 
 -- the client takes its slot then
-module _ {E C R S : Type 0} (client count word k : ℕ) (won new : Seat (Slot C R S) (View (Work E C R))) (w : Won client won) (same : new.table_id ≡ won.table_id) (did : slot_fetched (step count word 0 0 none) won.me k new.me) where
+module _ {E C R S : Type 0} {h : List E} (client count word k : ℕ) (won new : Seat (Slot C R S) (View (Work E C R))) (w : Won client h won) (same : new.table_id ≡ won.table_id) (did : slot_fetched (step count word 0 0 none) won.me k new.me) where
   abbrev owns_it : did.0 ≡ client
   owns_it = sym (ap owner_of did.1) ∙ ap (λ (v : Work E C R). owner_of v.stage) w.knows
 
@@ -131,7 +132,7 @@ module _ {E C R S : Type 0} (client count word k : ℕ) (won new : Seat (Slot C 
   pub walk_still : new.me.0.walk ≡ won.me.0.walk
   walk_still = ap (λ (m : Me (Slot C R S) (View (Work E C R))). m.0.walk) did.2
 
-  pub knows_now : work new ≡ blank_work (Free client)
+  pub knows_now : work new ≡ starting (Free client) h
   knows_now = ap (λ (m : Me (Slot C R S) (View (Work E C R))). m.0.work) me_now ∙ ap (fetched client) w.knows
 
   pub is_joined : IsJoined client new
@@ -139,6 +140,7 @@ module _ {E C R S : Type 0} (client count word k : ℕ) (won new : Seat (Slot C 
     role = ap (λ (v : Walk). v.role) walk_still ∙ w.role;
     working = subst (λ (m : Work E C R × List (ℕ × Slot C R S)). IsWorking client (new.table_id.slots - 1) m.0 m.1) (λ i. (sym knows_now i, sym (ap (λ (m : Me (Slot C R S) (View (Work E C R))). m.1) me_now) i)) record { own = refl; live = refl; hands_are = refl; quiet = λ _. refl; below = λ r h. absurd h };
     small = subst (λ (z : TableId). client + 1 < z.slots) (sym same) w.small;
-    listed = λ c h. subst (λ (z : TableId). c < z.slots - 1) (sym same) (w.listed c (subst (IsOn c) (ap (λ (v : Walk). v.list) walk_still) h));
-    others = λ c h. absurd (subst (IsOn c) (ap (λ (v : Walk). v.known) walk_still ∙ w.told) h);
+    listed = λ c on. subst (λ (z : TableId). c < z.slots - 1) (sym same) (w.listed c (subst (IsOn c) (ap (λ (v : Walk). v.list) walk_still) on));
+    others = λ c on. absurd (subst (IsOn c) (ap (λ (v : Walk). v.known) walk_still ∙ w.told) on);
+    heard = λ r m marked. absurd (subst (λ (v : Work E C R). IsMarked r m v.heard) knows_now marked);
   }

@@ -1,8 +1,9 @@
 -- A walk over a list of distinct clients.
-use Rattle.std.proofs.Common.{◌≡◌, ℕ, zero, suc, ◌+◌, ◌<◌, ◌≤◌, List, [], ◌∷◌, ◌++◌, length, take, drop, set, sym, refl, ap, ◌∙◌, subst, inl, inr, arith, Option, Some, None, length-set, length-drop, drop-drop}
+use Rattle.std.proofs.Common.{◌≡◌, ℕ, zero, suc, ◌+◌, ◌<◌, ◌≤◌, List, [], ◌∷◌, ◌++◌, length, take, drop, set, sym, refl, ap, ◌∙◌, subst, inl, inr, arith, All, Option, Some, None, length-set, length-drop, drop-drop}
 use Rattle.std.specs.Option.{unwrap_or}
 use Rattle.std.proofs.lemmas.Option.{none-some}
 use Rattle.std.proofs.lemmas.List.{take_more_set, drop-set-lt, take_all}
+use Rattle.std.proofs.lemmas.List.Elements.{All-nil, All-cons}
 use Rattle.pub_rule.specs.Lists.{IsOn, Distinct, IsListOf, head_of, after}
 use Rattle.pub_rule.proofs.Clients.{by_equal, at_most}
 use mathlib.Core.Bool.{cond}
@@ -47,6 +48,10 @@ goes_on list again count c at met before d room w same e = let t = after_drop li
   rest = drop-set-lt (count + 1) met count c (omega arith) ∙ (sym (drop-drop 1 count met) ∙ (ap (drop 1) w.rest ∙ drop-drop 1 count before));
   long = length-set met count c ∙ w.long;
 }
+
+pub all_below : (n : ℕ) (list : List ℕ) → ((c : ℕ) → IsOn c list → c < n) → All (λ c. c < n) list
+all_below n [] h = All-nil (λ c. c < n)
+all_below n (x ∷ xs) h = All-cons (λ c. c < n) x xs (h x (inl refl)) (all_below n xs (λ c on. h c (inr on)))
 
 none_left : (list : List ℕ) → None ≡ head_of list → length list ≡ 0
 none_left [] e = refl

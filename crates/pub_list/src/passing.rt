@@ -1,0 +1,117 @@
+//! A client passes over the list: it seizes the state, serves each posted record, and releases the state.
+ghost use Rattle.std.specs.Prelude.{◌≡◌, ◌≢◌, ℕ, List as Sequence, ◌<◌, ◌≤◌, false, OnOk, IfErr};
+ghost use Rattle.pub_rule.specs.WorkSteps.{with_work, meeting};
+ghost use Rattle.pub_list.specs.Clients.{view, work, told, BelongsTo, IsSame};
+ghost use Rattle.pub_list.specs.Passing.{IsAsFar, HasDealt, KeepsMarks, HasPassed, IsServing, HasTaken, Stays};
+
+use crate::combining::Took;
+use crate::joined::Joined;
+use crate::lists::List;
+use crate::records::WordState;
+use pub_rule::Served;
+
+/// A state whose calls a combiner knows how to serve (flat combining: Hendler, Incze, Shavit, Tzafrir 2010).
+pub trait Serves: Served {
+    // what is known of a history of n clients; a pass asks it of the history that the combiner saw
+    ghost admits: { ℕ → Sequence Self.Event → Type 0 };
+
+    // it stays so
+    ghost stays: { Stays admits };
+
+    /// Serves the call of `client`, whose posted record the combiner took, and gives the state back: the
+    /// record is answered or left parked, and each other client that is owed a reply by it gets it.
+    fn serve(
+        combiner: &mut Joined<Self>,
+        list: &List<Self>,
+        client: u32,
+        call: Self::Call,
+        state: Self,
+    ) -> Self
+        requires list { BelongsTo list.now combiner.old }
+        requires taken { HasTaken Self.history Self.legal Self.replies Self.own admits list.now.clients client call (view combiner.old) state }
+        ensures client { IsSame combiner.old combiner.new }
+        ensures serving { IsServing Self.history Self.legal Self.replies list.now.clients (view combiner.new) result }
+        ensures far { IsAsFar (view combiner.old) (view combiner.new) }
+        ensures dealt { HasDealt client (view combiner.old) (view combiner.new) };
+}
+
+/// What happens between two records of a pass. It is for tests, in which a combiner stands still inside one.
+pub trait PassGate {
+    /// Is called after `visited` records of a pass, at least one, and before the next.
+    fn between(&self, visited: u32)
+        requires { (1 ≤ visited) × (visited < 64) };
+}
+
+/// Nothing happens between two records.
+pub struct OpenGate;
+
+impl PassGate for OpenGate {
+    fn between(&self, _visited: u32) {}
+}
+
+impl<S: Serves> Joined<S> {
+    /// Tries once to seize the state; then serves each record on the list, and releases the state (flat
+    /// combining: Hendler, Incze, Shavit, Tzafrir 2010). The error is the client that combines.
+    pub fn combine(&mut self, list: &List<S>) -> Result<(), u32>
+        requires list { BelongsTo list.now self.old }
+        requires unheld { (work self.old).holds ≡ false }
+        requires admitted { S.admits list.now.clients (work self.old).seen }
+        ensures client { IsSame self.old self.new }
+        ensures unheld { (work self.new).holds ≡ false }
+        ensures far { IsAsFar (view self.old) (view self.new) }
+        ensures marks { KeepsMarks (view self.old) (view self.new) }
+        ensures told { told self.new ≡ told self.old }
+        ensures passed { OnOk result (HasPassed self.old.client (view self.old) (view self.new)) }
+        ensures legal { OnOk result (S.legal (work self.new).seen) }
+        ensures busy { IfErr result (λ c. (c < list.now.clients) × (c ≢ self.old.client) × (view self.new ≡ with_work (meeting c (work self.old)) (view self.old))) }
+    {
+        self.combine_with(list, &OpenGate)
+    }
+
+    /// The same, with a gate between two records. It is the project's own.
+    pub fn combine_with<G: PassGate>(&mut self, list: &List<S>, gate: &G) -> Result<(), u32>
+        requires list { BelongsTo list.now self.old }
+        requires unheld { (work self.old).holds ≡ false }
+        requires admitted { S.admits list.now.clients (work self.old).seen }
+        ensures client { IsSame self.old self.new }
+        ensures unheld { (work self.new).holds ≡ false }
+        ensures far { IsAsFar (view self.old) (view self.new) }
+        ensures marks { KeepsMarks (view self.old) (view self.new) }
+        ensures told { told self.new ≡ told self.old }
+        ensures passed { OnOk result (HasPassed self.old.client (view self.old) (view self.new)) }
+        ensures legal { OnOk result (S.legal (work self.new).seen) }
+        ensures busy { IfErr result (λ c. (c < list.now.clients) × (c ≢ self.old.client) × (view self.new ≡ with_work (meeting c (work self.old)) (view self.old))) }
+    {
+        let mut state = self.seize(list)?;
+        let mut met = [0; 64];
+        let count = self.walk(list, &mut met);
+        for i in 0..count {
+            if i > 0 {
+                gate.between(i as u32);
+            }
+            state = self.visit(list, met[i], state);
+        }
+        self.release(list, state);
+        Ok(())
+    }
+
+    // Serves the record of a client, if it is posted.
+    fn visit(&mut self, list: &List<S>, client: u32, state: S) -> S
+        requires list { BelongsTo list.now self.old }
+        requires client { client < list.now.clients }
+        requires serving { IsServing S.history S.legal S.replies list.now.clients (view self.old) state }
+        requires admitted { S.admits list.now.clients (work self.old).seen }
+        ensures client { IsSame self.old self.new }
+        ensures serving { IsServing S.history S.legal S.replies list.now.clients (view self.new) result }
+        ensures far { IsAsFar (view self.old) (view self.new) }
+        ensures dealt { HasDealt client (view self.old) (view self.new) }
+    {
+        if !self.is_posted(list, client) {
+            return state;
+        }
+        match self.take(list, client, WordState::Posted) {
+            Took::FromPosted(call) => S::serve(self, list, client, call, state),
+            _ => state,
+        }
+    }
+}
