@@ -1,12 +1,18 @@
 //! A namespace of System V IPC objects that serves its clients' calls one at a time, and the journal
-//! of what it was asked and what it answered.
+//! of what it was asked and what it answered. A program that uses a namespace names this crate alone:
+//! the types of calls, replies and credentials are re-exported here.
 #![tactic(auto)]
 
 mod journal;
 pub mod laws;
 mod spaces;
 
-pub use ipc_call::JournalRow;
+pub use bitflags::Flags;
+pub use ipc_call::{
+    Answer, Call, IPC_CREAT, IPC_EXCL, IPC_NOWAIT, Items, JournalRow, Kind, Limits, MSG_EXCEPT,
+    MSG_NOERROR, Memory, Outcome, QueueStatus, Reply, Rule, Status, errno, error_name, rule_name,
+};
+pub use ipc_creds::{Caps, Creds, GROUPS_MAX};
 pub use spaces::{Effects, Space};
 
 #[cfg(test)]

@@ -1,0 +1,71 @@
+# What the parts of ./check share. `scratch` is a folder that goes when the run ends.
+
+# attempt NAME COMMAND..: one check, which passes where the command does. The command says why not in `why`, and may
+# leave lines to be shown in $scratch/shown.
+attempt() {
+    name=$1
+    why='it failed'
+    : >"$scratch/shown"
+    shift
+    if "$@"; then
+        passed=$((passed + 1))
+    else
+        fail "$name"
+    fi
+}
+
+# fail NAME: counts and prints a failure.
+fail() {
+    failed=$((failed + 1))
+    printf 'FAILED %s: %s\n' "$1" "$why"
+    sed 's/^/    /' "$scratch/shown"
+}
+
+# same WHAT WANTED PRINTED: two files are alike. Where they aren't, their first lines that differ are shown.
+same() {
+    why="$1 differs: - wanted, + printed"
+    ! diff -U 1 "$2" "$3" >"$scratch/diff" || return 0
+    sed -n '3,12p' "$scratch/diff" >"$scratch/shown"
+    return 1
+}
+
+# in_group COMMAND..: runs a command that takes minutes, with all that it starts in a process group of its own, so that a
+# signal to this script ends it.
+in_group() {
+    setsid "$@" &
+    group=$!
+    result=0
+    wait "$group" || result=$?
+    group=
+    return "$result"
+}
+
+end_group() {
+    [ -z "$group" ] || kill -TERM -- "-$group" 2>/dev/null || :
+}
+
+# built CRATE: its program is current, after a build where need be, of which a run makes one at most.
+tried=
+built() {
+    ! is_current "$1" || return 0
+    why="it is not proved and built; the whole log is out/$1.log"
+    case " $tried " in
+    *" $1 "*) ;;
+    *)
+        tried="$tried $1"
+        in_group sh -c 'top=$1 && . "$top/lib/build.sh" && prove_and_build "$2"' sh "$top" "$1" && return 0
+        ;;
+    esac
+    tail -n 5 "out/$1.log" >"$scratch/shown"
+    return 1
+}
+
+# with_program COMMAND..: the checks of a part that runs ./ipcsh. Without the program that is one failure.
+with_program() {
+    : >"$scratch/shown"
+    if built ipcsh_cli; then
+        "$@"
+    else
+        fail ipcsh
+    fi
+}

@@ -1,0 +1,119 @@
+# The documents: what stands in their blocks between lines of ``` is true. A block's first line names its kind:
+#
+#   console      commands, each after `$ `, with what it prints on standard output and standard error. A command with
+#                the comment `# about TIME` takes long and isn't run.
+#   ipcsh        a script. The next block, of kind `rows`, is what ./ipcsh prints for it.
+#   KIND FILE    lines that stand in this file as they are.
+#   text         anything else, as a picture or a grammar.
+
+documents='README.md docs/*.md'
+
+check_docs() { with_program docs_checks; }
+
+docs_checks() {
+    mkdir "$scratch/blocks"
+    cut_blocks $documents
+    script=
+    for block in "$scratch"/blocks/*.kind; do
+        block=${block%.kind}
+        read -r kind file <"$block.kind" || :
+        attempt "$(cat "$block.place")" holds
+        script=
+        [ "$kind" != ipcsh ] || script=$block.body
+    done
+    attempt 'docs/PROFILE.md' names_each_refusal
+}
+
+# cut_blocks FILE..: of each block a file NUMBER.place, NUMBER.kind and NUMBER.body in $scratch/blocks.
+cut_blocks() {
+    awk -v folder="$scratch/blocks" '
+        function begin(kind) {
+            block = sprintf("%s/%04d", folder, ++count)
+            print FILENAME ":" FNR >(block ".place")
+            print kind >(block ".kind")
+            printf "" >(block ".body")
+        }
+        function end() {
+            close(block ".place"); close(block ".kind"); close(block ".body")
+        }
+        FNR == 1 { inside = 0; blank = 1 }
+        /^```/ {
+            inside = !inside
+            if (inside) begin(substr($0, 4)); else end()
+            next
+        }
+        inside { print >(block ".body"); next }
+        blank && /^    / { begin("indented"); end() }
+        { blank = /^$/ }' "$@"
+}
+
+# holds: what stands in the block is true.
+holds() {
+    case $kind in
+    console)
+        transcribe "$block.body" >"$scratch/transcript"
+        same 'what the commands print' "$block.body" "$scratch/transcript"
+        ;;
+    ipcsh) follows_rows ;;
+    rows) prints_the_rows ;;
+    text | rust | sh) [ -z "$file" ] || stands_in ;;
+    *)
+        why="'$kind' is no kind of block"
+        return 1
+        ;;
+    esac
+}
+
+follows_rows() {
+    why='no rows follow this script'
+    next=$(printf '%s/%04d' "${block%/*}" "$(expr "${block##*/}" + 1)")
+    [ "$(cat "$next.kind" 2>/dev/null)" = rows ]
+}
+
+prints_the_rows() {
+    why='no script stands before these rows'
+    [ -n "$script" ] || return 1
+    timeout 60 ./ipcsh <"$script" >"$scratch/out" 2>&1 || :
+    same 'what the script prints' "$block.body" "$scratch/out"
+}
+
+# stands_in: the block's lines stand in its file, one after the other.
+stands_in() {
+    why="$file is not there"
+    [ -f "$file" ] || return 1
+    why="its lines do not stand in $file; the first that is not one of its lines:"
+    grep -n -v -x -F -f "$file" "$block.body" | sed -n 1p >"$scratch/shown" || :
+    awk 'NR == FNR { part = part $0 "\n"; next } { whole = whole $0 "\n" } END { exit !index("\n" whole, "\n" part) }' \
+        "$block.body" "$file"
+}
+
+# transcribe FILE: the commands of a block, each followed by what it prints; $? is the status of the one before it.
+transcribe() {
+    status=0
+    kept=yes
+    while IFS= read -r line; do
+        case $line in
+        '$ '*) printf '%s\n' "$line" ;;
+        *) [ "$kept" = no ] || printf '%s\n' "$line" ;;
+        esac
+        case $line in
+        '$ '*'# about '*) kept=yes ;;
+        '$ '*)
+            kept=no
+            timeout 60 sh -c "(exit $status); ${line#??}" </dev/null >"$scratch/out" 2>&1 && status=0 || status=$?
+            cat "$scratch/out"
+            ;;
+        esac
+    done <"$1"
+}
+
+# The table of rules has each refusal that a stored row tells.
+names_each_refusal() {
+    why='its table of rules lacks a refusal of the stored rows:'
+    cat crates/rows/data/*.out examples/*.out |
+        sed -n 's/^[-0-9.]* [a-z0-9]* error \([0-9]*\) \([A-Z0-9]*\) \([a-z-]*\)$/| \1 | \2 | `\3` |/p' | sort -u >"$scratch/told"
+    while IFS= read -r row; do
+        grep -q -F "$row" docs/PROFILE.md || printf '%s\n' "$row"
+    done <"$scratch/told" >"$scratch/shown"
+    [ ! -s "$scratch/shown" ]
+}

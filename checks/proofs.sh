@@ -1,0 +1,48 @@
+# Proofs and times.
+
+check_bench() { attempt bench measures; }
+
+measures() {
+    built ipc_bench || return 1
+    ./bench 1000 >"$scratch/out" || return 1
+    why='it prints no table of 52 rows'
+    [ "$(grep -c '\.' "$scratch/out")" = 52 ]
+}
+
+# rt ci, with what it counts. It builds the programs.
+check_proofs() {
+    mkfifo "$scratch/ci.pipe"
+    tee "$scratch/ci" <"$scratch/ci.pipe" &
+    before=$(sources_of ipcsh_cli)$(sources_of ipc_bench)
+    touch "$scratch/began"
+    status=0
+    in_group rt ci </dev/null >"$scratch/ci.pipe" || status=$?
+    wait
+    count_proofs "$(tail -n 1 "$scratch/ci")" "$status"
+    [ "$before" != "$(sources_of ipcsh_cli)$(sources_of ipc_bench)" ] || note_programs
+}
+
+# count_proofs LINE STATUS: adds what the last line of rt ci counts.
+count_proofs() {
+    case $1 in
+    [0-9]*' passed, '[0-9]*' failed')
+        passed=$((passed + ${1%% passed,*}))
+        counted=${1##* passed, }
+        failed=$((failed + ${counted%% failed}))
+        [ "$2" = 0 ] || [ "${counted%% failed}" != 0 ] || failed=$((failed + 1))
+        ;;
+    *)
+        failed=$((failed + 1))
+        echo 'FAILED rt ci: it ended without a count'
+        ;;
+    esac
+}
+
+# The programs that rt ci has built are current.
+note_programs() {
+    for crate in ipcsh_cli ipc_bench; do
+        if [ -n "$(find "$(program_of "$crate")" -newer "$scratch/began" 2>/dev/null)" ]; then
+            note "$crate"
+        fi
+    done
+}
