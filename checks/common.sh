@@ -41,7 +41,7 @@ in_group() {
 }
 
 end_group() {
-    [ -z "$group" ] || kill -TERM -- "-$group" 2>/dev/null || :
+    [ -z "$group" ] || kill -s TERM -- "-$group" 2>/dev/null || :
 }
 
 # built CRATE: its program is current, after a build where need be, of which a run makes one at most.
