@@ -29,7 +29,10 @@ count_proofs() {
         passed=$((passed + ${1%% passed,*}))
         counted=${1##* passed, }
         failed=$((failed + ${counted%% failed}))
-        [ "$2" = 0 ] || [ "${counted%% failed}" != 0 ] || failed=$((failed + 1))
+        if [ "$2" != 0 ] && [ "${counted%% failed}" = 0 ]; then
+            failed=$((failed + 1))
+            printf 'FAILED rt ci: status %s\n' "$2"
+        fi
         ;;
     *)
         failed=$((failed + 1))
