@@ -3,8 +3,8 @@
 #   console      commands, each after `$ `, with what it prints on standard output and standard error. A command with
 #                the comment `# about TIME` takes long and isn't run.
 #   ipcsh        a script. The next block, of kind `rows`, is what ./ipcsh prints for it.
-#   KIND FILE    lines that stand in this file as they are.
-#   text         anything else, as a picture or a grammar.
+#   KIND FILE    lines that stand in this file as they are; of kind `rust` always.
+#   sh, text     what has no output: commands to be copied, a picture, a grammar.
 
 documents='README.md docs/*.md'
 
@@ -56,7 +56,8 @@ holds() {
         ;;
     ipcsh) follows_rows ;;
     rows) prints_the_rows ;;
-    text | rust | sh) [ -z "$file" ] || stands_in ;;
+    rust) stands_in ;;
+    sh | text) [ -z "$file" ] || stands_in ;;
     *)
         why="'$kind' is no kind of block"
         return 1
@@ -79,7 +80,7 @@ prints_the_rows() {
 
 # stands_in: the block's lines stand in its file, one after the other.
 stands_in() {
-    why="$file is not there"
+    why="there is no file '$file' in which they stand"
     [ -f "$file" ] || return 1
     why="its lines do not stand in $file; the first that is not one of its lines:"
     grep -n -v -x -F -f "$file" "$block.body" | sed -n 1p >"$scratch/shown" || :
