@@ -3,7 +3,6 @@
 
 use ipc_space::{
     Answer, Call, Caps, Creds, Effects, Flags, IPC_CREAT, Items, Limits, Reply, Space, errno,
-    rule_name,
 };
 use std::io;
 
@@ -18,13 +17,7 @@ fn show(rt: &HostRuntime, client: u32, reply: &Reply) -> io::Result<()> {
             println!(rt; "client {client}: type {mtype}, {} bytes", text.len())
         }
         Ok(_) => println!(rt; "client {client}: ok"),
-        Err(rule) => {
-            println!(rt;
-                "client {client}: error {} {}",
-                errno(*rule),
-                rule_name(*rule)
-            )
-        }
+        Err(rule) => println!(rt; "client {client}: error {} {rule:?}", errno(*rule)),
     }
 }
 
