@@ -48,15 +48,15 @@ end_group() {
 tried=
 built() {
     ! is_current "$1" || return 0
-    why="it is not proved and built; the whole log is out/$1.log"
+    why="it is not proved and built; the whole log is out/$1.failed.log"
     case " $tried " in
     *" $1 "*) ;;
     *)
         tried="$tried $1"
-        in_group sh -c 'top=$1 && . "$top/lib/build.sh" && prove_and_build "$2"' sh "$top" "$1" && return 0
+        in_group sh -c "$build_apart" sh "$top" "$1" && return 0
         ;;
     esac
-    tail -n 5 "out/$1.log" >"$scratch/shown"
+    tail -n 5 "out/$1.failed.log" >"$scratch/shown" 2>&1 || :
     return 1
 }
 
