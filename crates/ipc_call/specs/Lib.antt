@@ -1,2 +1,4 @@
+pub mod Errors
+pub mod Flags
 pub mod Limits
 pub mod Rules

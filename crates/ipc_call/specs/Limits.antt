@@ -1,37 +1,49 @@
--- The limits of a namespace, their defaults and their ranges (proc_sys_kernel(5); slots and sequence numbers are the project's own).
+-- The limits of a namespace (proc_sys_kernel(5), or proc(5); slots and sequence numbers are the project's own).
 use Rattle.std.specs.Prelude.{ℕ, Bool, ◌&&◌, nat_le}
 use Rattle.ipc_call.specs.declared.limits.Limits.{Limits}
 use Rattle.ipc_call.specs.declared.limits.Limit.{Limit}
 use Rattle.ipc_call.specs.declared.limits.Limit.TheVariants.{Slots, FirstSeq, MsgMax, MsgMnb, SemMsl, SemOpm, ShmMax}
 
+-- the least value, the greatest, and the one that holds where none is set
+pub record Range : Type 0 where
+  pub least : ℕ
+  pub most : ℕ
+  pub default : ℕ
+
+abbrev pub range_of : Limit → Range
+range_of Slots = record { least = 1; most = 32768; default = 128 }
+range_of FirstSeq = record { least = 0; most = 65535; default = 0 }
+range_of MsgMax = record { least = 1; most = 65536; default = 8192 }
+range_of MsgMnb = record { least = 1; most = 2147483647; default = 16384 }
+range_of SemMsl = record { least = 1; most = 32000; default = 32000 }
+range_of SemOpm = record { least = 1; most = 500; default = 500 }
+range_of ShmMax = record { least = 1; most = 1073741824; default = 33554432 }
+
 abbrev pub least : Limit → ℕ
-least Slots = 1
-least FirstSeq = 0
-least MsgMax = 1
-least MsgMnb = 1
-least SemMsl = 1
-least SemOpm = 1
-least ShmMax = 1
+least limit = (range_of limit).least
 
 abbrev pub most : Limit → ℕ
-most Slots = 32768
-most FirstSeq = 65535
-most MsgMax = 65536
-most MsgMnb = 2147483647
-most SemMsl = 32000
-most SemOpm = 500
-most ShmMax = 1073741824
+most limit = (range_of limit).most
 
 abbrev pub is_in_range : Limit → ℕ → Bool
 is_in_range limit n = nat_le (least limit) n && nat_le n (most limit)
 
--- a sequence number is of 16 bits, so each is in its range
+-- the sequence number isn't asked: each number of its 16 bits is in range
 abbrev pub are_in_range : Limits → Bool
 are_in_range l =
-    is_in_range Slots l.slots && is_in_range MsgMax l.msg_max && is_in_range MsgMnb l.msg_mnb && is_in_range SemMsl l.sem_msl && is_in_range SemOpm l.sem_opm && is_in_range ShmMax l.shm_max
+    is_in_range Slots l.slots && is_in_range MsgMax l.msg_max && is_in_range MsgMnb l.msg_mnb
+    && is_in_range SemMsl l.sem_msl && is_in_range SemOpm l.sem_opm && is_in_range ShmMax l.shm_max
 
 abbrev pub default_limits : Limits
-default_limits = record { slots = 128; first_seq = 0; msg_max = 8192; msg_mnb = 16384; sem_msl = 32000; sem_opm = 500; shm_max = 33554432 }
+default_limits = record {
+  slots = (range_of Slots).default;
+  first_seq = (range_of FirstSeq).default;
+  msg_max = (range_of MsgMax).default;
+  msg_mnb = (range_of MsgMnb).default;
+  sem_msl = (range_of SemMsl).default;
+  sem_opm = (range_of SemOpm).default;
+  shm_max = (range_of ShmMax).default;
+}
 
 -- the limits with one of them set
 abbrev pub with_limit : Limits → Limit → ℕ → Limits

@@ -1,67 +1,41 @@
--- The error number and the printed names of each rule (errno(3); the names of rules are the project's own).
+-- The rules by which calls are refused, each with its error and its printed name.
 use Rattle.std.specs.Prelude.{ℕ, List, codes}
 use Rattle.ipc_call.specs.declared.rules.Rule.{Rule}
-use Rattle.ipc_call.specs.declared.rules.Rule.TheVariants.{NotOwner, NeedsResource, NotSameUser, NoKey, NoProcess, Interrupted, MessageTooLong, QueueFull, OwnerBits, GroupBits, OtherBits, KeyExists, BadId, BadType, TextTooLong, BadArgument, NoSlot, NoMessage, Removed}
+use Rattle.ipc_call.specs.declared.rules.Rule.TheVariants.{NotOwner, NeedsResource, NotSameUser, NoKey, NoProcess}
+use Rattle.ipc_call.specs.declared.rules.Rule.TheVariants.{Interrupted, MessageTooLong, QueueFull, OwnerBits}
+use Rattle.ipc_call.specs.declared.rules.Rule.TheVariants.{GroupBits, OtherBits, KeyExists, BadId, BadType}
+use Rattle.ipc_call.specs.declared.rules.Rule.TheVariants.{TextTooLong, BadArgument, NoSlot, NoMessage, Removed}
+use Rattle.ipc_call.specs.Errors as errors
+use Rattle.ipc_call.specs.declared.error.Errno.{Errno}
+use Rattle.ipc_call.specs.declared.error.Errno.TheVariants.{EPERM, ENOENT, ESRCH, EINTR, E2BIG, EAGAIN}
+use Rattle.ipc_call.specs.declared.error.Errno.TheVariants.{EACCES, EEXIST, EINVAL, ENOSPC, ENOMSG, EIDRM}
 
-unfoldable pub number_of : Rule → ℕ
-number_of NotOwner = 1
-number_of NeedsResource = 1
-number_of NotSameUser = 1
-number_of NoKey = 2
-number_of NoProcess = 3
-number_of Interrupted = 4
-number_of MessageTooLong = 7
-number_of QueueFull = 11
-number_of OwnerBits = 13
-number_of GroupBits = 13
-number_of OtherBits = 13
-number_of KeyExists = 17
-number_of BadId = 22
-number_of BadType = 22
-number_of TextTooLong = 22
-number_of BadArgument = 22
-number_of NoSlot = 28
-number_of NoMessage = 42
-number_of Removed = 43
+unfoldable pub row_of : Rule → Errno × List ℕ
+row_of NotOwner = (EPERM, codes "not-owner")
+row_of NeedsResource = (EPERM, codes "needs-resource")
+row_of NotSameUser = (EPERM, codes "not-same-user")
+row_of NoKey = (ENOENT, codes "no-key")
+row_of NoProcess = (ESRCH, codes "no-process")
+row_of Interrupted = (EINTR, codes "interrupted")
+row_of MessageTooLong = (E2BIG, codes "message-too-long")
+row_of QueueFull = (EAGAIN, codes "queue-full")
+row_of OwnerBits = (EACCES, codes "owner-bits")
+row_of GroupBits = (EACCES, codes "group-bits")
+row_of OtherBits = (EACCES, codes "other-bits")
+row_of KeyExists = (EEXIST, codes "key-exists")
+row_of BadId = (EINVAL, codes "bad-id")
+row_of BadType = (EINVAL, codes "bad-type")
+row_of TextTooLong = (EINVAL, codes "text-too-long")
+row_of BadArgument = (EINVAL, codes "bad-argument")
+row_of NoSlot = (ENOSPC, codes "no-slot")
+row_of NoMessage = (ENOMSG, codes "no-message")
+row_of Removed = (EIDRM, codes "removed")
 
-unfoldable pub name_of_error : Rule → List ℕ
-name_of_error NotOwner = codes "EPERM"
-name_of_error NeedsResource = codes "EPERM"
-name_of_error NotSameUser = codes "EPERM"
-name_of_error NoKey = codes "ENOENT"
-name_of_error NoProcess = codes "ESRCH"
-name_of_error Interrupted = codes "EINTR"
-name_of_error MessageTooLong = codes "E2BIG"
-name_of_error QueueFull = codes "EAGAIN"
-name_of_error OwnerBits = codes "EACCES"
-name_of_error GroupBits = codes "EACCES"
-name_of_error OtherBits = codes "EACCES"
-name_of_error KeyExists = codes "EEXIST"
-name_of_error BadId = codes "EINVAL"
-name_of_error BadType = codes "EINVAL"
-name_of_error TextTooLong = codes "EINVAL"
-name_of_error BadArgument = codes "EINVAL"
-name_of_error NoSlot = codes "ENOSPC"
-name_of_error NoMessage = codes "ENOMSG"
-name_of_error Removed = codes "EIDRM"
+abbrev pub error_of : Rule → Errno
+error_of rule = (row_of rule).0
 
-unfoldable pub name_of_rule : Rule → List ℕ
-name_of_rule NotOwner = codes "not-owner"
-name_of_rule NeedsResource = codes "needs-resource"
-name_of_rule NotSameUser = codes "not-same-user"
-name_of_rule NoKey = codes "no-key"
-name_of_rule NoProcess = codes "no-process"
-name_of_rule Interrupted = codes "interrupted"
-name_of_rule MessageTooLong = codes "message-too-long"
-name_of_rule QueueFull = codes "queue-full"
-name_of_rule OwnerBits = codes "owner-bits"
-name_of_rule GroupBits = codes "group-bits"
-name_of_rule OtherBits = codes "other-bits"
-name_of_rule KeyExists = codes "key-exists"
-name_of_rule BadId = codes "bad-id"
-name_of_rule BadType = codes "bad-type"
-name_of_rule TextTooLong = codes "text-too-long"
-name_of_rule BadArgument = codes "bad-argument"
-name_of_rule NoSlot = codes "no-slot"
-name_of_rule NoMessage = codes "no-message"
-name_of_rule Removed = codes "removed"
+abbrev pub name_of_rule : Rule → List ℕ
+name_of_rule rule = (row_of rule).1
+
+abbrev pub number_of : Rule → ℕ
+number_of rule = errors.number_of (error_of rule)

@@ -1,26 +1,11 @@
-// What a client asks of the namespace.
+//! What a client asks of the namespace.
 
 ghost use Rattle.std.specs.Prelude.{◌≡◌, IfOk};
 
 use crate::items::Items;
 use crate::replies::Memory;
 
-/// Flag of a get call: make the object where the key has none (msgget(2)).
-pub const IPC_CREAT: u32 = 0o1000;
-
-/// Flag of a get call: with `IPC_CREAT`, fail where the key has an object already (msgget(2)).
-pub const IPC_EXCL: u32 = 0o2000;
-
-/// Flag of msgsnd and msgrcv: fail where the call would wait (msgop(2)).
-pub const IPC_NOWAIT: u32 = 0o4000;
-
-/// Flag of msgrcv: cut a text that is longer than asked for (msgop(2)).
-pub const MSG_NOERROR: u32 = 0o10000;
-
-/// Flag of msgrcv: with a msgtyp above 0, receive a message of another type (msgop(2)).
-pub const MSG_EXCEPT: u32 = 0o20000;
-
-/// The kinds of objects. Each kind has keys, slots and identifiers of its own (sysvipc(7)).
+/// The kinds of objects. Each kind has keys, slots and identifiers of its own.
 #[derive(Clone, Copy, Debug, PartialEq, Eq)]
 pub enum Kind {
     /// Message queues (msgget(2)).
@@ -31,43 +16,41 @@ pub enum Kind {
     Segment,
 }
 
-/// One call of a client, with its arguments, as POSIX.1-2017 XSI IPC has it. Flag bits that a call doesn't
+/// One call of a client with its arguments, as POSIX.1-2017 XSI IPC has it. Flag bits that a call doesn't
 /// know are ignored.
 #[derive(Debug, Drop, PartialEq)]
 pub enum Call {
-    /// The queue of a key (msgget(2)). Key 0 is IPC_PRIVATE and makes a new queue each time. Of the
-    /// flags, `IPC_CREAT` and `IPC_EXCL` are known, the low nine bits are the mode of a new queue,
-    /// and of a queue that is there they ask for read (0444) and alter (0222).
+    /// The queue of a key (msgget(2)). Key 0 is IPC_PRIVATE and creates a queue each time. Of the flags,
+    /// `IPC_CREAT` and `IPC_EXCL` are known; the low nine bits are the mode of a new queue, and of an
+    /// existing one they ask for read (0444) and write (0222).
     MsgGet {
         key: u32,
         flags: u32,
     },
-    /// Sends a message to the queue of an identifier (msgsnd of msgop(2)): its type, at least 1, and its text,
-    /// at most MSGMAX bytes. Of the flags `IPC_NOWAIT` is known.
+    /// Sends a message to a queue (msgsnd of msgop(2)): its type, at least 1, and its text, at most MSGMAX
+    /// bytes. Of the flags `IPC_NOWAIT` is known.
     MsgSnd {
         id: u32,
         mtype: i64,
         text: Items<u8>,
         flags: u32,
     },
-    /// Receives a message of the queue of an identifier (msgrcv of msgop(2)) with a text of at most `size`
-    /// bytes. `msgtyp` 0 asks for the first message, above 0 for the first of this type, below 0 for the
-    /// first of the lowest type that is at most its absolute value. Of the flags `IPC_NOWAIT`,
-    /// `MSG_NOERROR` and `MSG_EXCEPT` are known.
+    /// Receives a message with a text of at most `size` bytes (msgrcv of msgop(2)). `msgtyp` 0 asks for the
+    /// first message, above 0 for the first of this type, below 0 for the first of the lowest type that is
+    /// at most its absolute value. Of the flags `IPC_NOWAIT`, `MSG_NOERROR` and `MSG_EXCEPT` are known.
     MsgRcv {
         id: u32,
         size: u64,
         msgtyp: i64,
         flags: u32,
     },
-    /// Tells the state of the object of an identifier (IPC_STAT of msgctl(2)).
+    /// Reports the state of an object (IPC_STAT of msgctl(2)).
     IpcStat {
         kind: Kind,
         id: u32,
     },
-    /// Sets the owner and the mode of the object of an identifier, and where it is given the `msg_qbytes` of
-    /// a queue, for its owner, its creator or CAP_SYS_ADMIN (IPC_SET of msgctl(2)). Of the mode the low nine
-    /// bits count. That `msg_qbytes` may be left as it is, is the project's own.
+    /// Sets owner, group, the low nine bits of the mode, and where it is given the `msg_qbytes` of a queue
+    /// (IPC_SET of msgctl(2), which always sets that).
     IpcSet {
         kind: Kind,
         id: u32,
@@ -76,56 +59,51 @@ pub enum Call {
         mode: u32,
         qbytes: Option<u64>,
     },
-    /// Removes the object of an identifier, for its owner, its creator or CAP_SYS_ADMIN (IPC_RMID of
-    /// msgctl(2), semctl(2) and shmctl(2)).
+    /// Removes an object (IPC_RMID of msgctl(2), semctl(2) and shmctl(2)).
     IpcRmid {
         kind: Kind,
         id: u32,
     },
-    /// Ends the waiting call of the client of a process, its number plus 1, as a caught signal would (EINTR of
-    /// msgop(2)). The caller has the same effective user, or CAP_SYS_ADMIN. It is the project's own, and stands
-    /// for the signal.
+    /// Ends the waiting call of a process, the number of its client plus 1, as a caught signal would (EINTR of
+    /// msgop(2)). It stands for kill(2).
     Interrupt {
         pid: u32,
     },
 }
 
 impl Call {
-    /// A copy of the call with its arguments. Memory comes only where a growth was refused.
+    /// A copy. The error comes only where an allocation fails.
     pub fn copy(&self) -> Result<Call, Memory>
         ensures { IfOk result (λ copied. copied ≡ self.now) }
     {
-        match self {
-            Call::MsgGet { key, flags } => Ok(Call::MsgGet {
-                key: *key,
-                flags: *flags,
-            }),
+        Ok(match *self {
+            Call::MsgGet { key, flags } => Call::MsgGet { key, flags },
             Call::MsgSnd {
                 id,
                 mtype,
-                text,
+                ref text,
                 flags,
-            } => Ok(Call::MsgSnd {
-                id: *id,
-                mtype: *mtype,
-                text: text.copy()?,
-                flags: *flags,
-            }),
+            } => {
+                let text = text.copy()?;
+                Call::MsgSnd {
+                    id,
+                    mtype,
+                    text,
+                    flags,
+                }
+            }
             Call::MsgRcv {
                 id,
                 size,
                 msgtyp,
                 flags,
-            } => Ok(Call::MsgRcv {
-                id: *id,
-                size: *size,
-                msgtyp: *msgtyp,
-                flags: *flags,
-            }),
-            Call::IpcStat { kind, id } => Ok(Call::IpcStat {
-                kind: *kind,
-                id: *id,
-            }),
+            } => Call::MsgRcv {
+                id,
+                size,
+                msgtyp,
+                flags,
+            },
+            Call::IpcStat { kind, id } => Call::IpcStat { kind, id },
             Call::IpcSet {
                 kind,
                 id,
@@ -133,26 +111,24 @@ impl Call {
                 gid,
                 mode,
                 qbytes,
-            } => Ok(Call::IpcSet {
-                kind: *kind,
-                id: *id,
-                uid: *uid,
-                gid: *gid,
-                mode: *mode,
-                qbytes: *qbytes,
-            }),
-            Call::IpcRmid { kind, id } => Ok(Call::IpcRmid {
-                kind: *kind,
-                id: *id,
-            }),
-            Call::Interrupt { pid } => Ok(Call::Interrupt { pid: *pid }),
-        }
+            } => Call::IpcSet {
+                kind,
+                id,
+                uid,
+                gid,
+                mode,
+                qbytes,
+            },
+            Call::IpcRmid { kind, id } => Call::IpcRmid { kind, id },
+            Call::Interrupt { pid } => Call::Interrupt { pid },
+        })
     }
 }
 
 #[cfg(test)]
 mod tests {
     use super::*;
+    use crate::flags::{IPC_CREAT, IPC_NOWAIT};
     use std::test::Fail;
 
     #[test]

@@ -1,4 +1,4 @@
-// A list that a call carries.
+//! A list that a call carries.
 
 ghost use Rattle.std.specs.Prelude.{◌≡◌, IfOk, length, take};
 
@@ -6,7 +6,7 @@ use crate::replies::Memory;
 use std::marker::Model;
 
 /// A list of plain values that a call or an answer carries: the bytes of a text, operations, groups.
-/// Two of them are equal where their lists are. The type is the project's own.
+/// Two of them are equal where their lists are.
 #[derive(Debug, Drop)]
 pub struct Items<T> {
     items: Vec<T>,
@@ -21,28 +21,29 @@ impl<T> Model for Items<T> {
 }
 
 impl<T> Items<T> {
-    /// The list of the vector's elements, in their order.
+    /// The list of a vector's elements.
     pub fn new(items: Vec<T>) -> Items<T>
         ensures { result ≡ items.items }
     {
         Items { items }
     }
 
-    /// The elements in a vector, in their order.
+    /// The elements in a vector.
     pub fn into_vec(self) -> Vec<T>
         ensures { result.items ≡ self }
     {
-        self.items
+        let Items { items } = self;
+        items
     }
 
-    /// The elements in their order.
+    /// The elements.
     pub fn as_slice(&self) -> &[T]
         ensures { result.now ≡ self.now }
     {
         self.items.as_slice()
     }
 
-    /// How many elements there are.
+    /// The number of elements.
     pub fn len(&self) -> usize
         ensures { result ≡ length self.now }
     {
@@ -51,7 +52,7 @@ impl<T> Items<T> {
 }
 
 impl<T: Drop> Items<T> {
-    /// Keeps the first `len` elements, where there are more; the rest is lost. It takes no memory.
+    /// Keeps the first `len` elements, or all where there are fewer. It doesn't allocate.
     pub fn truncate(&mut self, len: usize)
         ensures { self.new ≡ take len self.old }
     {
@@ -60,7 +61,7 @@ impl<T: Drop> Items<T> {
 }
 
 impl<T: Copy> Items<T> {
-    /// A copy of the list. Memory comes only where a growth was refused.
+    /// A copy. The error comes only where an allocation fails.
     pub fn copy(&self) -> Result<Items<T>, Memory>
         ensures { IfOk result (λ copied. copied ≡ self.now) }
     {

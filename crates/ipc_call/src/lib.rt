@@ -1,17 +1,25 @@
-//! The plain types of the service: what a client asks, what it is answered, and the rules by which
-//! a call is refused, with Linux's error numbers.
+//! The plain types of the service: what a client asks, what it is answered, and the rules by which a call is
+//! refused, with Linux's error numbers. Calls, answers and errors are those of POSIX and Linux. Rules, places,
+//! turns, the journal, slots and the ranges of limits that Linux doesn't bound are the project's own.
 #![tactic(auto)]
 
 mod calls;
+mod error;
+mod flags;
 mod items;
 mod limits;
 mod replies;
 mod rules;
 
-pub use calls::{Call, IPC_CREAT, IPC_EXCL, IPC_NOWAIT, Kind, MSG_EXCEPT, MSG_NOERROR};
+pub use calls::{Call, Kind};
+pub use error::Errno;
+pub use flags::{
+    IPC_CREAT, IPC_EXCL, IPC_NOWAIT, MSG_EXCEPT, MSG_NOERROR, creates, cuts_text, is_exclusive,
+    may_wait, takes_other_types,
+};
 pub use items::Items;
 pub use limits::{Limit, Limits};
 pub use replies::{
     Answer, Ended, JournalRow, Memory, Outcome, QueueStatus, Reply, Status, Waiting,
 };
-pub use rules::{Rule, errno, error_name, rule_name};
+pub use rules::{Rule, errno};

@@ -1,25 +1,32 @@
-// The limits of a namespace.
+//! The limits of a namespace.
 
 ghost use Rattle.std.specs.Prelude.{◌≡◌, IsTrue};
-ghost use Rattle.ipc_call.specs.Limits.{are_in_range, default_limits, is_in_range, least as least_value, most as most_value, with_limit as limits_with};
+ghost use Rattle.ipc_call.specs.Limits.{
+  are_in_range,
+  default_limits,
+  is_in_range,
+  least as least_value,
+  most as most_value,
+  with_limit as limits_with,
+};
 
-/// The limits of a namespace, with the names of Linux where it has them (proc_sys_kernel(5)).
+/// The limits of a namespace, each with the name of Linux where it has one (proc_sys_kernel(5), or proc(5)).
+/// `Limit` has their ranges.
 #[derive(Clone, Copy, Debug, PartialEq, Eq)]
 pub struct Limits {
-    /// Slots for objects of each kind: 1 to 32768, by default 128. The project's own.
+    /// Slots for objects of each kind.
     pub slots: u32,
-    /// The sequence number of a fresh slot, by default 0. The project's own.
+    /// The sequence number of a slot that was never used.
     pub first_seq: u16,
-    /// MSGMAX, the longest message in bytes: 1 to 65536, by default 8192.
+    /// MSGMAX, the longest text of a message in bytes.
     pub msg_max: u32,
-    /// MSGMNB, msg_qbytes of a new queue: 1 to 2147483647, by default 16384.
+    /// MSGMNB, msg_qbytes of a new queue.
     pub msg_mnb: u32,
-    /// SEMMSL, semaphores in a set: 1 to 32000, by default 32000.
+    /// SEMMSL, semaphores in a set.
     pub sem_msl: u32,
-    /// SEMOPM, operations in a semop: 1 to 500, by default 500.
+    /// SEMOPM, operations in a semop.
     pub sem_opm: u32,
-    /// SHMMAX, the largest segment in bytes: 1 to 1073741824, by default 33554432. The range is the
-    /// project's own.
+    /// SHMMAX, the largest segment in bytes.
     pub shm_max: u32,
 }
 
@@ -92,22 +99,22 @@ impl Limits {
     }
 }
 
-/// One of the limits, with its range. The ranges are the project's own where Linux has no bound.
+/// One of the limits.
 #[derive(Clone, Copy, Debug, PartialEq, Eq)]
 pub enum Limit {
-    /// Slots for objects of each kind: 1 to 32768.
+    /// 1 to 32768, by default 128.
     Slots,
-    /// The sequence number of a fresh slot: 0 to 65535.
+    /// 0 to 65535, by default 0.
     FirstSeq,
-    /// MSGMAX: 1 to 65536 bytes.
+    /// 1 to 65536 bytes, by default 8192.
     MsgMax,
-    /// MSGMNB: 1 to 2147483647 bytes.
+    /// 1 to 2147483647 bytes, by default 16384.
     MsgMnb,
-    /// SEMMSL: 1 to 32000.
+    /// 1 to 32000, which is the default.
     SemMsl,
-    /// SEMOPM: 1 to 500.
+    /// 1 to 500, which is the default.
     SemOpm,
-    /// SHMMAX: 1 to 1073741824 bytes.
+    /// 1 to 1073741824 bytes, by default 33554432.
     ShmMax,
 }
 
@@ -116,24 +123,28 @@ impl Limit {
     pub fn least(self) -> u32
         ensures { result ≡ least_value self }
     {
-        match self {
-            Limit::FirstSeq => 0,
-            _ => 1,
-        }
+        self.range().0
     }
 
     /// The greatest value.
     pub fn most(self) -> u32
         ensures { result ≡ most_value self }
     {
+        self.range().1
+    }
+
+    fn range(self) -> (u32, u32)
+        ensures least { result.0 ≡ least_value self }
+        ensures most { result.1 ≡ most_value self }
+    {
         match self {
-            Limit::Slots => 32768,
-            Limit::FirstSeq => 65535,
-            Limit::MsgMax => 65536,
-            Limit::MsgMnb => 2_147_483_647,
-            Limit::SemMsl => 32000,
-            Limit::SemOpm => 500,
-            Limit::ShmMax => 1_073_741_824,
+            Limit::Slots => (1, 32768),
+            Limit::FirstSeq => (0, 65535),
+            Limit::MsgMax => (1, 65536),
+            Limit::MsgMnb => (1, 2_147_483_647),
+            Limit::SemMsl => (1, 32000),
+            Limit::SemOpm => (1, 500),
+            Limit::ShmMax => (1, 1_073_741_824),
         }
     }
 
@@ -141,6 +152,7 @@ impl Limit {
     pub fn admits(self, value: u32) -> bool
         ensures { result ≡ is_in_range self value }
     {
-        self.least() <= value && value <= self.most()
+        let (least, most) = self.range();
+        least <= value && value <= most
     }
 }

@@ -1,11 +1,11 @@
-// What a call is answered, and the rows of the journal.
+//! What a call is answered, and the rows of the journal.
 
 use crate::calls::Call;
 use crate::items::Items;
 use crate::rules::Rule;
 use std::alloc::AllocError;
 
-/// Memory was refused (ENOMEM 12). It is no rule: what answers it has changed nothing.
+/// An allocation failed (ENOMEM). What answers it has changed nothing.
 pub type Memory = AllocError;
 
 /// The state of a queue (msqid_ds of msgctl(2)).
@@ -32,7 +32,7 @@ pub struct QueueStatus {
     pub stime: u64,
     /// When a client received last.
     pub rtime: u64,
-    /// When the queue was made or set last.
+    /// When the queue was created or set last.
     pub ctime: u64,
 }
 
@@ -43,12 +43,12 @@ pub enum Status {
     Queue(QueueStatus),
 }
 
-/// What a served call gives (the return values of msgget(2), msgop(2) and msgctl(2)).
+/// What a granted call returns (msgget(2), msgop(2), msgctl(2)).
 #[derive(Debug, Drop, PartialEq)]
 pub enum Answer {
     /// The identifier of an object, at most 2147483647.
     Id(u32),
-    /// The call was carried out, and there is nothing to tell.
+    /// Nothing: the call returns 0.
     Done,
     /// The message that was received: its type, at least 1, and its text.
     Message { mtype: i64, text: Items<u8> },
@@ -56,10 +56,10 @@ pub enum Answer {
     Status(Status),
 }
 
-/// How a call ended: served with an answer, or refused by a rule.
+/// How a call ended: granted with an answer, or refused by a rule.
 pub type Outcome = Result<Answer, Rule>;
 
-/// What the client of a call is told. Places and turns are the project's own.
+/// What the client of a call receives.
 #[derive(Debug, Drop, PartialEq)]
 pub enum Reply {
     /// The call was entered in the journal. `place` is the place, from 1, of the event that ended it;
@@ -69,11 +69,11 @@ pub enum Reply {
         turn: u32,
         outcome: Outcome,
     },
-    /// Memory was refused, and nothing has changed.
+    /// An allocation failed, and nothing has changed.
     Memory,
 }
 
-/// A call that waits. That all waiting calls stand in one list is the project's own.
+/// A call that waits.
 #[derive(Debug, Drop, PartialEq)]
 pub struct Waiting {
     /// The client that waits, counted from 0.
@@ -91,18 +91,18 @@ pub struct Ended {
     pub outcome: Outcome,
 }
 
-/// A row of the journal, which is the project's own. The rows of one event stand together: `Called`, then
-/// an `Answered` for each of its replies in order of turn.
+/// A row of the journal. The rows of one event stand together: `Called`, then an `Answered` for each of its
+/// replies in order of turn.
 #[derive(Debug, Drop, PartialEq)]
 pub enum JournalRow {
-    /// A client, counted from 0, called at a moment in seconds.
+    /// A client, counted from 0, called at a time in seconds.
     Called {
         client: u32,
         now: u64,
         call: Call,
     },
-    /// A client was answered by the event at this place, with this turn. `rule` is None where the
-    /// call was served.
+    /// A client was answered by the event at this place, with this turn. `rule` is None where the call was
+    /// granted.
     Answered {
         client: u32,
         place: u64,

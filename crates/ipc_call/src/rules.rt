@@ -1,17 +1,18 @@
-// The named rules by which calls are refused, and their error numbers.
+//! The rules by which calls are refused.
 
 ghost use Rattle.std.specs.Prelude.{◌≡◌};
-ghost use Rattle.ipc_call.specs.Rules.{number_of, name_of_error, name_of_rule};
+ghost use Rattle.ipc_call.specs.Rules.{error_of, name_of_rule, number_of};
 
-/// Why a call was refused. The numbers are those of POSIX.1-2017 XSH msgget, msgsnd, msgrcv and
-/// msgctl, and Linux's; the rules and their names are the project's own.
+use crate::error::Errno;
+
+/// Why a call was refused. Each error is that of POSIX.1-2017 XSH msgget, msgsnd, msgrcv or msgctl, and of Linux.
 #[derive(Clone, Copy, Debug, PartialEq, Eq)]
 pub enum Rule {
-    /// The caller neither owns nor made the object and lacks CAP_SYS_ADMIN.
+    /// The caller neither owns nor created the object, and lacks CAP_SYS_ADMIN.
     NotOwner,
-    /// A `msg_qbytes` above MSGMNB is asked for, and the caller lacks CAP_SYS_RESOURCE.
+    /// A `msg_qbytes` above MSGMNB is given, and the caller lacks CAP_SYS_RESOURCE.
     NeedsResource,
-    /// The caller has another effective user than the process and lacks CAP_SYS_ADMIN.
+    /// The caller has another effective user than the process, and lacks CAP_SYS_ADMIN.
     NotSameUser,
     /// The key has no object, and `IPC_CREAT` isn't given.
     NoKey,
@@ -23,16 +24,15 @@ pub enum Rule {
     MessageTooLong,
     /// The queue is full for the message.
     QueueFull,
-    /// The caller is in the owner class, and the owner digit lacks a right that is asked.
+    /// The caller is in the owner class, and the owner's permission bits lack one that is asked.
     OwnerBits,
-    /// The caller is in the group class, and the group digit lacks a right that is asked.
+    /// The caller is in the group class, and the group's permission bits lack one that is asked.
     GroupBits,
-    /// The caller is in neither class, and the other digit lacks a right that is asked.
+    /// The caller is in neither class, and the others' permission bits lack one that is asked.
     OtherBits,
     /// The key has an object, and both `IPC_CREAT` and `IPC_EXCL` are given.
     KeyExists,
-    /// The identifier names no object now. That one of a removed object is told so too, and not EIDRM, is
-    /// the project's own.
+    /// The identifier names no object, or names none any more. For one that was removed POSIX allows EIDRM too.
     BadId,
     /// The type of a message is below 1.
     BadType,
@@ -48,82 +48,53 @@ pub enum Rule {
     Removed,
 }
 
+impl Rule {
+    /// The error that its caller receives.
+    pub fn error(self) -> Errno
+        ensures { result ≡ error_of self }
+    {
+        self.row().0
+    }
+
+    /// Its name as it is printed, as `other-bits`.
+    pub fn name(self) -> &'static str
+        ensures { result.now ≡ name_of_rule self }
+    {
+        self.row().1
+    }
+
+    #[tactic(auto, unfolding(crate::specs::Rules::row_of))]
+    fn row(self) -> (Errno, &'static str)
+        ensures error { result.0 ≡ error_of self }
+        ensures name { result.1.now ≡ name_of_rule self }
+    {
+        match self {
+            Rule::NotOwner => (Errno::EPERM, "not-owner"),
+            Rule::NeedsResource => (Errno::EPERM, "needs-resource"),
+            Rule::NotSameUser => (Errno::EPERM, "not-same-user"),
+            Rule::NoKey => (Errno::ENOENT, "no-key"),
+            Rule::NoProcess => (Errno::ESRCH, "no-process"),
+            Rule::Interrupted => (Errno::EINTR, "interrupted"),
+            Rule::MessageTooLong => (Errno::E2BIG, "message-too-long"),
+            Rule::QueueFull => (Errno::EAGAIN, "queue-full"),
+            Rule::OwnerBits => (Errno::EACCES, "owner-bits"),
+            Rule::GroupBits => (Errno::EACCES, "group-bits"),
+            Rule::OtherBits => (Errno::EACCES, "other-bits"),
+            Rule::KeyExists => (Errno::EEXIST, "key-exists"),
+            Rule::BadId => (Errno::EINVAL, "bad-id"),
+            Rule::BadType => (Errno::EINVAL, "bad-type"),
+            Rule::TextTooLong => (Errno::EINVAL, "text-too-long"),
+            Rule::BadArgument => (Errno::EINVAL, "bad-argument"),
+            Rule::NoSlot => (Errno::ENOSPC, "no-slot"),
+            Rule::NoMessage => (Errno::ENOMSG, "no-message"),
+            Rule::Removed => (Errno::EIDRM, "removed"),
+        }
+    }
+}
+
 /// The error number of a rule, as Linux has it (errno(3)).
-#[tactic(auto, unfolding(crate::specs::Rules::number_of))]
 pub fn errno(rule: Rule) -> u16
     ensures { result ≡ number_of rule }
 {
-    match rule {
-        Rule::NotOwner => 1,
-        Rule::NeedsResource => 1,
-        Rule::NotSameUser => 1,
-        Rule::NoKey => 2,
-        Rule::NoProcess => 3,
-        Rule::Interrupted => 4,
-        Rule::MessageTooLong => 7,
-        Rule::QueueFull => 11,
-        Rule::OwnerBits | Rule::GroupBits | Rule::OtherBits => 13,
-        Rule::KeyExists => 17,
-        Rule::BadId => 22,
-        Rule::BadType => 22,
-        Rule::TextTooLong => 22,
-        Rule::BadArgument => 22,
-        Rule::NoSlot => 28,
-        Rule::NoMessage => 42,
-        Rule::Removed => 43,
-    }
-}
-
-/// The name of a rule's error number, as `EACCES` (errno(3)).
-#[tactic(auto, unfolding(crate::specs::Rules::name_of_error))]
-pub fn error_name(rule: Rule) -> &'static str
-    ensures { result.now ≡ name_of_error rule }
-{
-    match rule {
-        Rule::NotOwner => "EPERM",
-        Rule::NeedsResource => "EPERM",
-        Rule::NotSameUser => "EPERM",
-        Rule::NoKey => "ENOENT",
-        Rule::NoProcess => "ESRCH",
-        Rule::Interrupted => "EINTR",
-        Rule::MessageTooLong => "E2BIG",
-        Rule::QueueFull => "EAGAIN",
-        Rule::OwnerBits | Rule::GroupBits | Rule::OtherBits => "EACCES",
-        Rule::KeyExists => "EEXIST",
-        Rule::BadId => "EINVAL",
-        Rule::BadType => "EINVAL",
-        Rule::TextTooLong => "EINVAL",
-        Rule::BadArgument => "EINVAL",
-        Rule::NoSlot => "ENOSPC",
-        Rule::NoMessage => "ENOMSG",
-        Rule::Removed => "EIDRM",
-    }
-}
-
-/// The name of a rule as it is printed, as `other-bits`. The names are the project's own.
-#[tactic(auto, unfolding(crate::specs::Rules::name_of_rule))]
-pub fn rule_name(rule: Rule) -> &'static str
-    ensures { result.now ≡ name_of_rule rule }
-{
-    match rule {
-        Rule::NotOwner => "not-owner",
-        Rule::NeedsResource => "needs-resource",
-        Rule::NotSameUser => "not-same-user",
-        Rule::NoKey => "no-key",
-        Rule::NoProcess => "no-process",
-        Rule::Interrupted => "interrupted",
-        Rule::MessageTooLong => "message-too-long",
-        Rule::QueueFull => "queue-full",
-        Rule::OwnerBits => "owner-bits",
-        Rule::GroupBits => "group-bits",
-        Rule::OtherBits => "other-bits",
-        Rule::KeyExists => "key-exists",
-        Rule::BadId => "bad-id",
-        Rule::BadType => "bad-type",
-        Rule::TextTooLong => "text-too-long",
-        Rule::BadArgument => "bad-argument",
-        Rule::NoSlot => "no-slot",
-        Rule::NoMessage => "no-message",
-        Rule::Removed => "removed",
-    }
+    rule.error().number()
 }

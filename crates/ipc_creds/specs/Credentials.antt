@@ -9,6 +9,10 @@ pub record Credentials : Type 0 where
   pub groups : List ℕ
   pub caps : ℕ
 
+-- how many supplementary groups there are at most (the project's own)
+abbrev pub groups_max : ℕ
+groups_max = 32
+
 -- the group is the effective one or a supplementary one
 abbrev pub is_in_group : Credentials → ℕ → Bool
 is_in_group c gid = list_any (λ group. group == gid) (c.egid ∷ c.groups)

@@ -1,6 +1,7 @@
-// The capabilities that the service knows.
+//! The capabilities that the service knows.
 
 ghost use Rattle.std.specs.Prelude.{⊤, [], ◌∷◌, codes};
+ghost use Rattle.ipc_creds.specs.Credentials.{cap_ipc_owner, cap_sys_admin, cap_sys_resource};
 
 use bitflags::{Flag, Flags, bitflag_items};
 
@@ -21,7 +22,10 @@ impl Flags for Caps {
 
     ghost exact = { ⊤ };
 
-    ghost table = { (codes "IPC_OWNER", 1) ∷ (codes "SYS_ADMIN", 2) ∷ (codes "SYS_RESOURCE", 4) ∷ [] };
+    ghost table = { (codes "IPC_OWNER", cap_ipc_owner)
+        ∷ (codes "SYS_ADMIN", cap_sys_admin)
+        ∷ (codes "SYS_RESOURCE", cap_sys_resource)
+        ∷ [] };
 
     ghost set_of = { λ c. c.0 };
 

@@ -1,17 +1,16 @@
-// The credentials of a client.
+//! The credentials of a client.
 
-ghost use Rattle.std.specs.Prelude.{◌≡◌, ◌≤◌, IfOk, vec_len};
+ghost use Rattle.std.specs.Prelude.{◌≡◌, ◌≤◌, IfOk, length, vec_len};
 ghost use Rattle.ipc_creds.specs.Credentials.{is_in_group};
 
 use crate::caps::Caps;
 use std::alloc::AllocError;
 use std::marker::Model;
 
-/// How many supplementary groups a client may have. The project's own limit.
+/// How many supplementary groups a client may have at most. Linux's NGROUPS_MAX is 65536.
 pub const GROUPS_MAX: usize = 32;
 
-/// The credentials of a client (credentials(7)): effective user and group, at most 32 supplementary
-/// groups, and capabilities.
+/// The credentials of a client (credentials(7)).
 #[derive(Debug, Drop)]
 pub struct Creds {
     euid: u32,
@@ -22,19 +21,19 @@ pub struct Creds {
 
 impl Model for Creds {
     ghost use Rattle.std.specs.Prelude.{◌≤◌, vec_len};
-    ghost use Rattle.ipc_creds.specs.Credentials.{Credentials};
+    ghost use Rattle.ipc_creds.specs.Credentials.{Credentials, groups_max};
 
     ghost Value = { Credentials };
 
     ghost view = { λ c. record { euid = c.euid; egid = c.egid; groups = c.groups.items; caps = c.caps.0 } };
 
-    ghost invariant = { λ c. vec_len c.groups ≤ 32 };
+    ghost invariant = { λ c. vec_len c.groups ≤ groups_max };
 }
 
 impl Creds {
     /// Credentials of these parts.
     pub fn new(euid: u32, egid: u32, groups: Vec<u32>, caps: Caps) -> Creds
-        requires { vec_len groups ≤ 32 }
+        requires { vec_len groups ≤ GROUPS_MAX }
         ensures { result ≡ record { euid = euid; egid = egid; groups = groups.items; caps = caps.0 } }
     {
         Creds {
@@ -59,9 +58,10 @@ impl Creds {
         self.egid
     }
 
-    /// The supplementary groups, as they were handed in.
+    /// The supplementary groups, in the order in which they were given.
     pub fn groups(&self) -> &[u32]
-        ensures { result.now ≡ self.now.groups }
+        ensures groups { result.now ≡ self.now.groups }
+        ensures few { length result.now ≤ GROUPS_MAX }
     {
         self.groups.as_slice()
     }
@@ -80,7 +80,7 @@ impl Creds {
         gid == self.egid() || self.groups.contains(&gid)
     }
 
-    /// A copy of the credentials. Memory comes only where a growth was refused.
+    /// A copy. The error comes only where an allocation fails.
     pub fn copy(&self) -> Result<Creds, AllocError>
         ensures { IfOk result (λ copied. copied ≡ self.now) }
     {

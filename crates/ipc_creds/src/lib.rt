@@ -1,5 +1,5 @@
 //! The credentials of a client: its effective user and group, its supplementary groups and its
-//! capabilities.
+//! capabilities. That there are at most 32 groups is the project's own.
 #![tactic(auto)]
 
 mod caps;

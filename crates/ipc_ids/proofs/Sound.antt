@@ -118,7 +118,7 @@ module _ {X : Type 0} (t : Table X) (sound : IsSound t) where
         (cases_eq j id);
   }
 
-  -- the removed object's slot goes on with the next sequence number, the others with theirs
+  -- the removed object's slot continues with the next sequence number, the others with theirs
   seq-removed : (id j : ℕ) → j % 32768 ≡ id % 32768 → seq_of (without_object t id) (j % 32768) ≡ id / 32768 + 1
   seq-removed id j same = ap (λ n. seq_of (without_object t id) n) same ∙ ap (λ o. unwrap_or o t.first_seq) (get-insert-same t.seqs (id % 32768) (id / 32768 + 1))
 

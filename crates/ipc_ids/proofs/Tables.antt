@@ -1,4 +1,4 @@
--- What a table says of the slots that it is made of.
+-- What a table says of its slots.
 use Rattle.std.proofs.Common.{◌≡◌, ℕ, ◌<◌, ◌≤◌, Bool, true, false, cond, List, length, get_or, refl, sym, ap, ◌∙◌, arith, Option, Some, None, ⊎_elim}
 use Rattle.std.specs.Prelude.{nat_lt, not, ◌&&◌, is_none, slice_get, option_map, unwrap_or, if◌then◌else◌}
 use Rattle.std.specs.FinMap as map

@@ -1,5 +1,6 @@
 -- How a table lays out its slots. No public clause cites this module.
-use Rattle.std.specs.Prelude.{◌≡◌, ℕ, ◌+◌, ◌<◌, ◌≤◌, Bool, true, false, cond, List, [], ◌∷◌, length, Option, Some, None, nat_lt, nat_eq, count_by, slice_get, ⊤}
+use Rattle.std.specs.Prelude.{◌≡◌, ℕ, ◌+◌, ◌<◌, ◌≤◌, nat_lt, nat_eq, Bool, true, false, cond, ⊤}
+use Rattle.std.specs.Prelude.{List, [], ◌∷◌, length, count_by, slice_get, Option, Some, None}
 use Rattle.std.specs.declared.cmp.Ordering.{Ordering}
 use Rattle.std.specs.Ordering.{nat_cmp}
 use Rattle.std.specs.BinaryHeap.{IsHeap}
@@ -55,7 +56,9 @@ module _ {X : Type 0} where
   unfoldable pub seqs_from : ℕ → ℕ → List (Slot X) → map.FinMap nat_cmp ℕ
   seqs_from first slot [] = map.empty
   seqs_from first slot (e ∷ es) =
-      cond (nat_lt first (seq_in e)) (map.insert (seqs_from first (slot + 1) es) slot (seq_in e)) (seqs_from first (slot + 1) es)
+      cond (nat_lt first (seq_in e))
+      (map.insert (seqs_from first (slot + 1) es) slot (seq_in e))
+      (seqs_from first (slot + 1) es)
 
   abbrev pub put_some : map.FinMap nat_cmp X → ℕ → Option X → map.FinMap nat_cmp X
   put_some m id None = m
@@ -67,7 +70,12 @@ module _ {X : Type 0} where
   objects_from slot (e ∷ es) = put_some (objects_from (slot + 1) es) (id_of (seq_in e) slot) (held_in e)
 
   abbrev pub table_of : ℕ → ℕ → List (Slot X) → Table X
-  table_of slots first es = record { slots = slots; first_seq = first; seqs = seqs_from first 0 es; objects = objects_from 0 es }
+  table_of slots first es = record {
+    slots = slots;
+    first_seq = first;
+    seqs = seqs_from first 0 es;
+    objects = objects_from 0 es;
+  }
 
   -- its sequence number isn't below the first one, and fits 16 bits
   abbrev pub IsSoundSlot : ℕ → Slot X → Type 0
@@ -88,7 +96,8 @@ abbrev pub count_of : ℕ → List (Reverse ℕ) → ℕ
 count_of slot free = count_by (λ r. nat_eq r.0 slot) free
 
 -- the heap holds each vacant slot once and no other, and it has room for each slot that was used
-pub record IsLayout {X : Type 0} (slots first : ℕ) (es : List (Slot X)) (free : List (Reverse ℕ)) (len capacity : ℕ) : Type 0 where
+pub record IsLayout {X : Type 0} (slots first : ℕ) (es : List (Slot X)) (free : List (Reverse ℕ))
+    (len capacity : ℕ) : Type 0 where
   pub few : slots ≤ 32768
   pub small : first < 65536
   pub within : length es ≤ slots

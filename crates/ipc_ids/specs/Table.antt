@@ -1,5 +1,7 @@
--- The objects of one kind, by identifier (identifiers, slots and their sequence numbers are the project's own choice).
-use Rattle.std.specs.Prelude.{◌≡◌, ℕ, zero, suc, ◌+◌, ◌*◌, ◌/◌, ◌%◌, ◌<◌, ◌≤◌, ◌⊎◌, Bool, true, false, not, ◌&&◌, Option, Some, None, is_none, unwrap_or, option_map, option_and_then, if◌then◌else◌, nat_lt}
+-- The objects of one kind, by identifier.
+use Rattle.std.specs.Prelude.{◌≡◌, ℕ, zero, suc, ◌+◌, ◌*◌, ◌/◌, ◌%◌, ◌<◌, ◌≤◌, nat_lt, ◌⊎◌}
+use Rattle.std.specs.Prelude.{Bool, true, false, not, ◌&&◌}
+use Rattle.std.specs.Prelude.{Option, Some, None, is_none, unwrap_or, option_map, option_and_then, if◌then◌else◌}
 use Rattle.std.specs.Ordering.{nat_cmp}
 use Rattle.std.specs.FinMap as map
 
@@ -11,7 +13,7 @@ pub record Table (X : Type 0) : Type 0 where
   pub seqs : map.FinMap nat_cmp ℕ
   pub objects : map.FinMap nat_cmp X
 
--- the least number that passes, of so many from a start
+-- the least of `left` numbers from a start that passes
 abbrev pub least_from : (ℕ → Bool) → ℕ → ℕ → Option ℕ
 least_from test zero start = None
 least_from test (suc left) start = if test start then Some start else least_from test left (start + 1)
@@ -55,7 +57,8 @@ holds_at test t slot = unwrap_or (option_map test (object_at t slot)) false
 -- the object that passes, with its identifier: the one in the lowest slot
 abbrev pub find_object : {X : Type 0} → (X → Bool) → Table X → Option (ℕ × X)
 find_object test t =
-    option_and_then (λ slot. option_map (λ x. (id_at t slot, x)) (object_at t slot)) (least_from (λ slot. holds_at test t slot) t.slots 0)
+    option_and_then (λ slot. option_map (λ x. (id_at t slot, x)) (object_at t slot))
+    (least_from (λ slot. holds_at test t slot) t.slots 0)
 
 -- the object comes to the identifier, in place of the one that may be there
 abbrev pub with_object : {X : Type 0} → Table X → ℕ → X → Table X
@@ -63,13 +66,17 @@ with_object t id x = record t { objects = map.insert t.objects id x }
 
 -- the object of the identifier leaves, and the sequence number of its slot goes up by one
 abbrev pub without_object : {X : Type 0} → Table X → ℕ → Table X
-without_object t id = record t { seqs = map.insert t.seqs (id % 32768) (id / 32768 + 1); objects = map.remove t.objects id }
+without_object t id = record t {
+  seqs = map.insert t.seqs (id % 32768) (id / 32768 + 1);
+  objects = map.remove t.objects id;
+}
 
--- what is true of each table that such changes lead to: each object is in one of the slots, which isn't retired, and has
--- the sequence number of that slot
+-- what is true of each table that such changes lead to: each object is in one of the slots, which isn't retired,
+-- and has the sequence number of that slot
 pub record IsSound {X : Type 0} (t : Table X) : Type 0 where
   pub few : t.slots ≤ 32768
-  pub held : (id : ℕ) (x : X) → map.get t.objects id ≡ Some x → (id % 32768 < t.slots) × (id / 32768 ≤ 65535) × (seq_of t (id % 32768) ≡ id / 32768)
+  pub held : (id : ℕ) (x : X) → map.get t.objects id ≡ Some x
+      → (id % 32768 < t.slots) × (id / 32768 ≤ 65535) × (seq_of t (id % 32768) ≡ id / 32768)
 
 -- the identifier names an object now, or named one that was removed
 abbrev pub WasUsed : {X : Type 0} → Table X → ℕ → Type 0

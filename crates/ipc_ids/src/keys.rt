@@ -1,4 +1,4 @@
-// Keys and the identifiers that they are bound to.
+//! Keys and the identifiers that they are bound to.
 
 ghost use Rattle.std.specs.Prelude.{◌≡◌, ◌≢◌, OnOk, OnErr, Some, None};
 ghost use Rattle.std.specs.FinMap as map;
@@ -8,8 +8,8 @@ use std::collections::HashMap;
 use std::hash::{BuildHasherDefault, FoldHasher};
 use std::marker::Model;
 
-/// The identifier of each key that is bound. A key is the bits of a key_t. Key 0, IPC_PRIVATE, never is
-/// bound (msgget(2)).
+/// The identifier of each key that is bound. A key is the bits of a key_t. Key 0, IPC_PRIVATE, is never bound
+/// (msgget(2)).
 #[derive(Debug, Drop)]
 pub struct Keys {
     ids: HashMap<u32, u32, BuildHasherDefault<FoldHasher>, Global>,
@@ -31,7 +31,7 @@ impl Model for Keys {
 }
 
 impl Keys {
-    /// No key is bound. Nothing is allocated.
+    /// No key is bound.
     pub fn new(alloc: Global) -> Keys
         ensures { result ≡ map.empty }
     {
@@ -40,7 +40,7 @@ impl Keys {
         }
     }
 
-    /// The identifier that the key is bound to. None for key 0. Takes no memory.
+    /// The identifier that the key is bound to.
     pub fn find(&self, key: u32) -> Option<u32>
         ensures id { result ≡ map.get self.now key }
         ensures private { map.get self.now 0 ≡ None }
@@ -48,8 +48,7 @@ impl Keys {
         self.ids.get(&key).copied()
     }
 
-    /// Binds a key, which isn't 0 and isn't bound. The error comes where a growth was refused, and then
-    /// nothing has changed.
+    /// Binds a key. The error comes only where an allocation fails.
     pub fn bind(&mut self, key: u32, id: u32) -> Result<(), AllocError>
         requires key { key ≢ 0 }
         requires free { map.get self.old key ≡ None }
@@ -60,7 +59,7 @@ impl Keys {
         Ok(())
     }
 
-    /// The key is bound no longer. A key that isn't bound stays so. Takes no memory.
+    /// Unbinds a key, or nothing where it isn't bound.
     pub fn unbind(&mut self, key: u32)
         ensures { self.new ≡ map.remove self.old key }
     {

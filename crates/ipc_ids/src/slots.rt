@@ -1,4 +1,4 @@
-// Slots and the objects in them.
+//! Slots and the objects in them.
 
 ghost use Rattle.std.specs.Prelude.{
   ◌≡◌,
@@ -48,8 +48,7 @@ use std::collections::BinaryHeap;
 use std::marker::Model;
 use std::mem;
 
-/// How many slots a table has at most, and so by how much two sequence numbers of one slot set its
-/// identifiers apart.
+/// The most slots of a table, and so the distance between two identifiers of one slot.
 const SLOTS: u32 = 32768;
 
 /// Why an object got no identifier. It is handed back.
@@ -57,12 +56,12 @@ const SLOTS: u32 = 32768;
 pub enum InsertFault<T> {
     /// Each slot holds an object or is retired.
     NoSlot(T),
-    /// A growth was refused.
+    /// An allocation failed.
     Memory(T),
 }
 
-/// The identifier of an object in a slot, 0 to 32767, with a sequence number: it is 0 to 2147483647, and
-/// no other slot or sequence number has it. The numbering is the project's own.
+/// The identifier of an object in a slot, 0 to 32767, with a sequence number: it is 0 to 2147483647, and no
+/// other slot or sequence number has it.
 pub fn id_of(seq: u16, slot: u16) -> u32
     requires { slot < 32768 }
     ensures { result ≡ identifier seq slot }
@@ -143,7 +142,7 @@ impl<T> Slot<T> {
         }
     }
 
-    /// Puts an object into a vacant slot, and tells its sequence number.
+    /// Puts an object into a vacant slot, and answers its sequence number.
     fn fill(&mut self, object: T) -> u16
         requires { vacant self.old ≡ true }
         ensures before { self.old ≡ Slot.Vacant result }
@@ -173,7 +172,7 @@ impl<T> Slot<T> {
     }
 }
 
-/// Objects in slots, each found by its identifier. Slots and their sequence numbers are the project's own.
+/// Objects in slots, each found by its identifier.
 #[derive(Debug, Drop)]
 pub struct Slots<T> {
     slots: u32,
@@ -210,8 +209,7 @@ impl<T> Model for Slots<T> {
 impl<T> Slots<T> {
     ghost use Rattle.ipc_ids.specs.Lends.{lends_get, lends_object};
 
-    /// A table of this many slots, at most 32768, with no object, and with this sequence number in each.
-    /// Nothing is allocated.
+    /// No object, in this many slots, each of which begins at this sequence number.
     pub fn new(alloc: Global, slots: u32, first_seq: u16) -> Slots<T>
         requires { slots ≤ 32768 }
         ensures { result ≡ empty_table slots first_seq }
@@ -224,9 +222,8 @@ impl<T> Slots<T> {
         }
     }
 
-    /// Puts an object into the lowest usable slot, and tells its identifier, which is that of `next_id`.
-    /// `NoSlot` comes exactly where that is None, and `Memory` where a growth was refused. Then nothing
-    /// has changed.
+    /// Puts an object into the lowest usable slot, and answers its identifier. `Memory` comes only where an
+    /// allocation fails.
     pub fn try_insert(&mut self, value: T) -> Result<u32, InsertFault<T>>
         ensures id { IfOk result (λ id. id_of_next self.old ≡ Some id) }
         ensures inserted { IfOk result (λ id. self.new ≡ with_object self.old id value) }
@@ -251,8 +248,8 @@ impl<T> Slots<T> {
         Ok(id_of(seq, fresh as u16))
     }
 
-    /// The identifier that `try_insert` would give, None where it would answer `NoSlot`: that of the lowest
-    /// slot that has no object and isn't retired. Takes no memory.
+    /// The identifier that `try_insert` would answer: that of the lowest slot that has no object and isn't
+    /// retired.
     pub fn next_id(&self) -> Option<u32>
         ensures { result ≡ id_of_next self.now }
     {
@@ -268,7 +265,7 @@ impl<T> Slots<T> {
         }
     }
 
-    /// The object of an identifier, None where it names nothing, or nothing any more. Takes no memory.
+    /// The object of an identifier, None where it names nothing, or nothing any more.
     pub fn get(&self, id: u32) -> Option<&T>
         ensures { option_copied result ≡ map.get self.now.objects id }
     {
@@ -277,7 +274,7 @@ impl<T> Slots<T> {
             .object(id / SLOTS)
     }
 
-    /// The object of an identifier, for writing. None where `get` answers so. Takes no memory.
+    /// The object of an identifier, to be changed.
     pub fn get_mut(&mut self, id: u32) -> Option<&mut T>
         ensures* writes_back { sem 𝓛 (lends_get T.row self.entry id result) }
         ensures value { option_copied_mut result ≡ map.get self.old.objects id }
@@ -297,9 +294,8 @@ impl<T> Slots<T> {
         self.entries[usize::from(slot_of(id))].object_mut()
     }
 
-    /// Takes out the object of an identifier. The sequence number of its slot goes up by one, so the
-    /// identifier names nothing from then on; where it was 65535 the slot is retired. Nothing changes where
-    /// there is no such object. Takes no memory.
+    /// Takes out the object of an identifier. The sequence number of its slot goes up by one, so the identifier
+    /// names nothing from then on; where it was 65535 the slot is retired.
     pub fn remove(&mut self, id: u32) -> Option<T>
         ensures value { result ≡ map.get self.old.objects id }
         ensures removed { IfSome result (λ x. self.new ≡ without_object self.old id) }
@@ -318,7 +314,7 @@ impl<T> Slots<T> {
         Some(object)
     }
 
-    /// The identifier of the object in a slot, None where there is none. Takes no memory.
+    /// The identifier of the object in a slot.
     pub fn id_at(&self, slot: u16) -> Option<u32>
         ensures { result ≡ id_in self.now slot }
     {
@@ -326,8 +322,7 @@ impl<T> Slots<T> {
         Some(id_of(seq, slot))
     }
 
-    /// Whether a slot is never used again: its object of sequence number 65535 was removed. Takes no
-    /// memory.
+    /// Whether a slot is never used again: its object of sequence number 65535 was removed.
     pub fn retired(&self, slot: u16) -> bool
         ensures { result ≡ is_retired self.now slot }
     {

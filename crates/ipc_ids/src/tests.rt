@@ -1,4 +1,4 @@
-// Worked tables of slots and of keys.
+//! Worked tables of slots and of keys.
 
 ghost use Rattle.std.specs.Prelude.{◌≡◌, IfSome, IfNone};
 ghost use Rattle.std.specs.FinMap as map;

@@ -1,11 +1,11 @@
-// Who may do what to an object.
+//! Who may do what to an object.
 
 ghost use Rattle.std.specs.Prelude.{◌≡◌};
 ghost use Rattle.ipc_creds.specs.Credentials.{is_in_group};
 ghost use Rattle.ipc_perm.specs.Access.{
   rights,
   class_of,
-  digit_of,
+  bits_of,
   rule_of,
   ground_of,
   is_subset,
@@ -29,35 +29,40 @@ use bitflags::Flags;
 use ipc_call::Rule;
 use ipc_creds::{Caps, Creds};
 
+/// The read permissions of owner, group and others.
+const READ_BITS: u32 = 0o444;
+
+/// Their write permissions.
+const WRITE_BITS: u32 = 0o222;
+
 /// The class of a caller at an object (POSIX.1-2017 XSH 2.7.1). The first that fits decides alone.
 #[derive(Clone, Copy, Debug, PartialEq, Eq)]
 pub enum Class {
-    /// The effective user owns the object or made it.
+    /// The effective user owns the object or created it.
     Owner,
-    /// The effective group or a supplementary one is the object's group or its maker's.
+    /// The effective group or a supplementary one is the object's group or its creator's.
     Group,
     /// Neither fits.
     Other,
 }
 
-/// A set of rights (POSIX.1-2017 XSH 2.7.1).
+/// A set of permissions (POSIX.1-2017 XSH 2.7.1).
 #[derive(Clone, Copy, Debug, PartialEq, Eq)]
 pub struct Want {
     /// To read.
     pub read: bool,
-    /// To alter.
+    /// To write, which is to alter for a semaphore set.
     pub alter: bool,
 }
 
-/// Why a caller is allowed. Naming it is the project's own. A capability is the ground only where the class
-/// or the ownership fails.
+/// Why a caller is allowed. A capability is the ground only where the class or the ownership fails.
 #[derive(Clone, Copy, Debug, PartialEq, Eq)]
 pub enum Ground {
-    /// The owner digit, or the ownership.
+    /// The owner's permission bits, or the ownership.
     Owner,
-    /// The group digit.
+    /// The group's permission bits.
     Group,
-    /// The other digit.
+    /// The others' permission bits.
     Other,
     /// CAP_IPC_OWNER.
     IpcOwner,
@@ -74,8 +79,8 @@ pub enum Verdict {
     Denied(Rule),
 }
 
-/// Whether a caller has the wanted rights on an object (POSIX.1-2017 XSH 2.7.1, sysvipc(7)). The
-/// digit of the caller's class decides alone; CAP_IPC_OWNER overrides its denial. A denial names
+/// Whether a caller has the wanted permissions on an object (POSIX.1-2017 XSH 2.7.1, capabilities(7)). The
+/// permission bits of the caller's class decide alone; CAP_IPC_OWNER overrides their denial. A denial names
 /// the class.
 pub fn decide(creds: &Creds, perm: &Perm, want: Want) -> Verdict
     ensures verdict { result ≡ verdict_on creds.now perm.now want }
@@ -83,7 +88,7 @@ pub fn decide(creds: &Creds, perm: &Perm, want: Want) -> Verdict
     ensures denial { denied_rule result ≡ denial creds.now (Permission perm.now want) }
 {
     let class = deciding_class(creds, perm);
-    if is_within(want, rights_in(digit(class, perm.mode.bits()))) {
+    if is_within(want, rights_in(class_bits(class, perm.mode.bits()))) {
         return Verdict::Allowed(class_ground(class));
     }
     if creds.caps().contains(Caps::IPC_OWNER) {
@@ -92,8 +97,8 @@ pub fn decide(creds: &Creds, perm: &Perm, want: Want) -> Verdict
     Verdict::Denied(class_rule(class))
 }
 
-/// Whether a caller may set or remove an object (msgctl(2): EPERM): it owns the object or made it,
-/// or it has CAP_SYS_ADMIN. No permission bit is asked.
+/// Whether a caller may set or remove an object (msgctl(2): EPERM): it owns the object or created it, or has
+/// CAP_SYS_ADMIN. No permission bit is asked.
 pub fn may_control(creds: &Creds, perm: &Perm) -> Verdict
     ensures verdict { result ≡ control_verdict_on creds.now perm.now }
     ensures controls { is_allowed result ≡ controls creds.now perm.now }
@@ -109,7 +114,7 @@ pub fn may_control(creds: &Creds, perm: &Perm) -> Verdict
 }
 
 /// Whether a caller may interrupt a process of this effective user (kill(2): EPERM): it has the same one, or
-/// CAP_SYS_ADMIN. That this capability decides, and not CAP_KILL, is the project's own.
+/// CAP_SYS_ADMIN, where Linux asks CAP_KILL.
 pub fn may_interrupt(creds: &Creds, euid: u32) -> Verdict
     ensures verdict { result ≡ interrupt_verdict_on creds.now euid }
     ensures denial { denied_rule result ≡ denial creds.now (SameUser euid) }
@@ -123,14 +128,14 @@ pub fn may_interrupt(creds: &Creds, euid: u32) -> Verdict
     Verdict::Allowed(Ground::SysAdmin)
 }
 
-/// The rights that the flags of a get ask of an object that is there: read for any bit of 0444,
-/// alter for any bit of 0222 (msgget(2)).
+/// What the flags of a get ask of an existing object (msgget(2)): any of the read bits asks to read, any of
+/// the write bits to write.
 pub fn asked_of_flags(flags: u32) -> Want
     ensures { result ≡ asked_of flags }
 {
     Want {
-        read: flags & 0o444 != 0,
-        alter: flags & 0o222 != 0,
+        read: flags & READ_BITS != 0,
+        alter: flags & WRITE_BITS != 0,
     }
 }
 
@@ -152,8 +157,8 @@ fn deciding_class(creds: &Creds, perm: &Perm) -> Class
     }
 }
 
-fn digit(class: Class, mode: u16) -> u16
-    ensures { result ≡ digit_of class mode }
+fn class_bits(class: Class, mode: u16) -> u16
+    ensures { result ≡ bits_of class mode }
 {
     match class {
         Class::Owner => mode >> 6 & 7,
@@ -162,12 +167,12 @@ fn digit(class: Class, mode: u16) -> u16
     }
 }
 
-fn rights_in(digit: u16) -> Want
-    ensures { result ≡ rights digit }
+fn rights_in(bits: u16) -> Want
+    ensures { result ≡ rights bits }
 {
     Want {
-        read: digit & 4 != 0,
-        alter: digit & 2 != 0,
+        read: bits & 4 != 0,
+        alter: bits & 2 != 0,
     }
 }
 

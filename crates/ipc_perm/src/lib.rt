@@ -1,4 +1,5 @@
-//! The permissions of an object, and the decision on who may do what to it.
+//! The permissions of an object, and the decision on who may do what to it. That a decision names its ground
+//! or its rule is the project's own.
 #![tactic(auto)]
 
 mod access;

@@ -1,10 +1,10 @@
-// The permissions that each object holds.
+//! The permissions of an object.
 
 ghost use Rattle.std.specs.Prelude.{◌≡◌, ◌<◌, ◌%◌};
 
 use std::marker::Model;
 
-/// The nine permission bits of an object, 0 to 0777: a digit each for owner, group and others.
+/// The permission bits of an object, 0 to 0777: read, write and execute for owner, group and others.
 #[derive(Clone, Copy, Debug, PartialEq, Eq)]
 pub struct Mode(u16);
 
@@ -21,14 +21,14 @@ impl Model for Mode {
 }
 
 impl Mode {
-    /// The mode that flags or an argument give: their low nine bits. Other bits are ignored.
+    /// The low nine bits of flags or of an argument. The others are ignored.
     pub fn from_low_bits(bits: u32) -> Mode
         ensures { result ≡ bits % 512 }
     {
         Mode((bits % 512) as u16)
     }
 
-    /// The nine bits.
+    /// The bits as a number.
     pub fn bits(self) -> u16
         ensures value { result ≡ self }
         ensures in_range { result < 512 }
@@ -37,10 +37,10 @@ impl Mode {
     }
 }
 
-/// The permissions of an object, its ipc_perm (sysvipc(7), POSIX.1-2017 XSH 2.7.1).
+/// The permissions of an object, its ipc_perm (msgctl(2), POSIX.1-2017 XSH 2.7.1).
 #[derive(Clone, Copy, Debug, PartialEq, Eq)]
 pub struct Perm {
-    /// The key, 0 for none.
+    /// The key, 0 for IPC_PRIVATE.
     pub key: u32,
     /// The owner.
     pub uid: u32,

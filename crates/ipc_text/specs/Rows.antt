@@ -7,8 +7,10 @@ use Rattle.std.specs.Fmt.{digits, format_spec, padded_integral, signed_decimal}
 use Rattle.hex.specs.Hex.{encode_lower}
 use Rattle.ipc_call.specs.declared.replies.Reply.{Reply}
 use Rattle.ipc_call.specs.declared.replies.Reply.TheVariants.{Entered, Memory}
-use Rattle.ipc_call.specs.declared.rules.Rule.{Rule}
-use Rattle.ipc_call.specs.Rules.{number_of, name_of_error, name_of_rule}
+use Rattle.ipc_call.specs.declared.error.Errno.{Errno}
+use Rattle.ipc_call.specs.declared.error.Errno.TheVariants.{ENOMEM}
+use Rattle.ipc_call.specs.Errors.{number_of, name_of}
+use Rattle.ipc_call.specs.Rules.{error_of, name_of_rule}
 use Rattle.ipc_model.specs.Step.{Outcome}
 use Rattle.ipc_text.specs.declared.reasons.Reason.{Reason}
 use Rattle.ipc_text.specs.declared.reasons.Reason.TheVariants as reasons
@@ -26,9 +28,10 @@ name_of_reason reasons.Busy = codes "busy"
 abbrev pub bad_row : ℕ → Reason → List ℕ
 bad_row line reason = codes "line " ++ (decimal line ++ (codes ": " ++ (name_of_reason reason ++ codes "\n")))
 
-abbrev pub rule_text : Rule → List ℕ
-rule_text rule =
-    codes "error " ++ (decimal (number_of rule) ++ (codes " " ++ (name_of_error rule ++ (codes " " ++ (name_of_rule rule ++ codes "\n")))))
+-- an error with its number, its name, and the rule or the lack of memory that caused it
+abbrev pub error_text : Errno → List ℕ → List ℕ
+error_text error cause =
+    codes "error " ++ (decimal (number_of error) ++ (codes " " ++ (name_of error ++ (codes " " ++ (cause ++ codes "\n")))))
 
 -- a key: 0x and eight hexadecimal digits, as {:08x} writes them
 unfoldable pub key_text : ℕ → List ℕ
@@ -66,7 +69,7 @@ outcome_text (Ok (Id id)) = codes "id " ++ (decimal id ++ codes "\n")
 outcome_text (Ok Done) = codes "ok\n"
 outcome_text (Ok (Message mtype text)) = message_text mtype text
 outcome_text (Ok (Status (Queue status))) = queue_text status
-outcome_text (Err rule) = rule_text rule
+outcome_text (Err rule) = error_text (error_of rule) (name_of_rule rule)
 
 -- PLACE.TURN NAME, with a space behind each
 abbrev pub row_head : ℕ → ℕ → List ℕ → List ℕ
@@ -74,7 +77,7 @@ row_head place turn name = decimal place ++ (codes "." ++ (decimal turn ++ (code
 
 abbrev pub reply_row : List ℕ → Reply → List ℕ
 reply_row name (Entered place turn outcome) = row_head place turn name ++ outcome_text outcome
-reply_row name Memory = codes "- " ++ (name ++ codes " error 12 ENOMEM memory\n")
+reply_row name Memory = codes "- " ++ (name ++ (codes " " ++ error_text ENOMEM (codes "memory")))
 
 -- the call parked
 abbrev pub waits_row : ℕ → List ℕ → List ℕ

@@ -1,14 +1,12 @@
 // The rows that a script prints.
 
 ghost use Rattle.std.specs.Prelude.{◌≡◌, ◌++◌, OnOk, string_bytes};
-ghost use Rattle.ipc_text.specs.Rows.{bad_row, name_of_reason, outcome_text, reply_row, row_head, rule_text, waits_row};
+ghost use Rattle.ipc_text.specs.Rows.{bad_row, error_text, name_of_reason, outcome_text, reply_row, row_head, waits_row};
 ghost use Rattle.ipc_text.specs.Rows.{message_text, queue_text, access_text, key_text, mode_text, owners_text, contents_text, times_text};
 
 use crate::names::Name;
 use crate::reasons::Reason;
-use ipc_call::{
-    Answer, Memory, Outcome, QueueStatus, Reply, Rule, Status, errno, error_name, rule_name,
-};
+use ipc_call::{Answer, Errno, Memory, Outcome, QueueStatus, Reply, Status};
 use std::fmt::Write;
 
 /// Appends the row of a bad line, by its number from 1. `Memory` comes where a growth was refused, and a part
@@ -34,7 +32,10 @@ pub fn print_reply(rows: &mut String, name: &str, reply: &Reply) -> Result<(), M
             print_head(rows, *place, *turn, name)?;
             print_outcome(rows, outcome)
         }
-        Reply::Memory => write!(rows, "- {name} error 12 ENOMEM memory\n"),
+        Reply::Memory => {
+            write!(rows, "- {name} ")?;
+            print_error(rows, Errno::ENOMEM, "memory")
+        }
     }
 }
 
@@ -61,7 +62,7 @@ fn print_outcome(rows: &mut String, outcome: &Outcome) -> Result<(), Memory>
         Ok(Answer::Done) => rows.push_str("ok\n"),
         Ok(Answer::Message { mtype, text }) => print_message(rows, *mtype, text.as_slice()),
         Ok(Answer::Status(Status::Queue(status))) => print_queue(rows, *status),
-        Err(rule) => print_rule(rows, *rule),
+        Err(rule) => print_error(rows, rule.error(), rule.name()),
     }
 }
 
@@ -145,13 +146,12 @@ fn print_times(rows: &mut String, status: QueueStatus) -> Result<(), Memory>
     write!(rows, " stime {stime} rtime {rtime} ctime {ctime}\n")
 }
 
-fn print_rule(rows: &mut String, rule: Rule) -> Result<(), Memory>
-    ensures { OnOk result (string_bytes rows.new ≡ string_bytes rows.old ++ rule_text rule) }
+fn print_error(rows: &mut String, error: Errno, cause: &str) -> Result<(), Memory>
+    ensures { OnOk result (string_bytes rows.new ≡ string_bytes rows.old ++ error_text error cause.now) }
 {
-    let number = errno(rule);
-    let error = error_name(rule);
-    let name = rule_name(rule);
-    write!(rows, "error {number} {error} {name}\n")
+    let number = error.number();
+    let error = error.name();
+    write!(rows, "error {number} {error} {cause}\n")
 }
 
 #[tactic(auto, unfolding(crate::specs::Rows::name_of_reason))]

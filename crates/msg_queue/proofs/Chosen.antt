@@ -1,4 +1,4 @@
--- The place that `choose` tells.
+-- The place that `choose` answers.
 use Rattle.std.proofs.Common.{◌≡◌, ◌↔◌, ℕ, ◌<◌, Bool, List, [], length, slice_get, Option, Some, None, IsNone, IsSome, IfSome, option_map, option_and_then, ℤ, pos, refl, sym, ap, subst, ◌∙◌}
 use Rattle.std.proofs.lemmas.Option.{slice_get-get_or}
 use Rattle.msg_queue.specs.declared.messages.Message.{Message}

@@ -18,7 +18,7 @@ room bytes count b len h = grind (arith, nat_tests)
 pub room_left : (q : QueueState) (ms : List Message) (b r len : ℕ) → queue_of ms b r ≡ q → is_full (contents q) q.qbytes len ≡ false → bytes_of ms + len ≤ b
 room_left q ms b r len e h = room (bytes_of ms) (length ms) b len (sym (full_is q ms b r len e) ∙ h)
 
--- what is left of the bytes and the count is what `fits` tells
+-- what is left of the bytes and the count is what `fits` answers
 pub fits_is : (q : QueueState) (ms : List Message) (b r len bytes count : ℕ) → queue_of ms b r ≡ q → bytes ≡ bytes_of ms → count ≡ length ms → not (ltb b (bytes + len) || ltb b (count + 1)) ≡ not (is_full (contents q) q.qbytes len)
 fits_is q ms b r len bytes count e h k =
     ap (λ (n : ℕ). not (ltb b (n + len) || ltb b (count + 1))) h ∙ ap (λ (n : ℕ). not (ltb b (bytes_of ms + len) || ltb b (n + 1))) k ∙ ap not (sym (full_is q ms b r len e))

@@ -1,4 +1,4 @@
-// The messages of a queue, and which of them a receiver takes.
+//! The messages of a queue, and which of them a receiver takes.
 
 ghost use Rattle.std.specs.Prelude.{◌≡◌, pos};
 ghost use Rattle.msg_queue.specs.Messages.{
@@ -25,7 +25,7 @@ pub struct Message {
 }
 
 impl Message {
-    // Whether it has the type, or with `except` another one.
+    /// Whether it has the type, or with `except` another one.
     fn is_wanted(&self, mtype: i64, except: bool) -> bool
         ensures { result ≡ is_wanted_message mtype except self.now }
     {
@@ -53,7 +53,7 @@ pub(crate) fn choose(
     }
 }
 
-// The position of the message that a receiver takes.
+/// The position of the message that a receiver takes.
 fn select(messages: &VecDeque<Message>, msgtyp: i64, except: bool) -> Option<usize>
     ensures { result ≡ selected_position messages.now.items msgtyp except }
 {
@@ -66,21 +66,21 @@ fn select(messages: &VecDeque<Message>, msgtyp: i64, except: bool) -> Option<usi
     }
 }
 
-// The position of the first message.
+/// The position of the first message.
 fn first(messages: &VecDeque<Message>) -> Option<usize>
     ensures { result ≡ first_position messages.now.items }
 {
     if messages.is_empty() { None } else { Some(0) }
 }
 
-// The position of the first message of a type, or of another one where `except` is given.
+/// The position of the first message of a type, or of another one where `except` is given.
 fn first_of_type(messages: &VecDeque<Message>, mtype: i64, except: bool) -> Option<usize>
     ensures { result ≡ first_position_of_type messages.now.items mtype except }
 {
     messages.iter().position(|m| m.is_wanted(mtype, except))
 }
 
-// The position of the first message of the least type that is at most `bound`.
+/// The position of the first message of the least type that is at most `bound`.
 fn first_of_least_type(messages: &VecDeque<Message>, bound: i64) -> Option<usize>
     ensures { result ≡ first_position_of_least_type messages.now.items bound }
 {
@@ -100,7 +100,7 @@ fn least_type(messages: &VecDeque<Message>, bound: i64) -> Option<i64>
         .min()
 }
 
-// The absolute value; that of `i64::MIN` counts as `i64::MAX`.
+/// The absolute value; that of `i64::MIN` counts as `i64::MAX`.
 fn magnitude(msgtyp: i64) -> i64
     ensures { result ≡ pos (magnitude_of msgtyp) }
 {

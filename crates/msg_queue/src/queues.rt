@@ -1,4 +1,4 @@
-// A queue with its messages, its limit and its reserved places.
+//! A queue with its messages, its limit and its reserved places.
 
 ghost use Rattle.std.specs.Prelude.{◌≡◌, ◌≢◌, ◌↔◌, ◌+◌, ◌-◌, ◌<◌, nat_lt, [], ◌∷◌, ◌++◌, length};
 ghost use Rattle.std.specs.Prelude.{remove, slice_get, false, not, ◌||◌, option_map, AllPairs};
@@ -12,9 +12,8 @@ use std::alloc::Global;
 use std::collections::VecDeque;
 use std::marker::Model;
 
-/// A message queue (msgop(2), msgctl(2)). Contracts see its messages in their order, each with a place,
-/// a number by which `take` finds it; its `msg_qbytes`; and how many places are reserved for messages to
-/// come.
+/// A message queue (msgop(2), msgctl(2)). Contracts see its messages in their order, each with a place, a
+/// number by which `take` finds it; its `msg_qbytes`; and for how many messages to come memory is reserved.
 #[derive(Debug, Drop)]
 pub struct Queue {
     messages: VecDeque<Message>,
@@ -39,7 +38,7 @@ impl Model for Queue {
 }
 
 impl Queue {
-    /// An empty queue with this `msg_qbytes`, and no place reserved. No memory is taken.
+    /// A queue with no message.
     pub fn new(alloc: Global, qbytes: u64) -> Queue
         ensures { result ≡ record { placed = []; qbytes = qbytes; reserved = 0 } }
     {
@@ -51,21 +50,16 @@ impl Queue {
         }
     }
 
-    /// Whether there is room for a message with a text of `len` bytes: neither the bytes of all texts
-    /// nor the number of messages would be above `msg_qbytes` (msgop(2), msgsnd).
+    /// Whether a message with a text of `len` bytes may be sent now (msgop(2), msgsnd): neither the bytes of
+    /// all texts nor the number of messages would be above `msg_qbytes`.
     pub fn fits(&self, len: usize) -> bool
         ensures { result ≡ not (is_full (contents self.now) self.now.qbytes len) }
     {
-        is_room(
-            self.bytes,
-            self.messages.len() as u64,
-            self.qbytes,
-            len as u64,
-        )
+        let count = self.messages.len() as u64;
+        is_room(self.bytes, count, self.qbytes, len as u64)
     }
 
-    /// Reserves a place for a message to come. Memory comes only where a growth was refused, and the
-    /// queue is then as before. Reserving is the project's own.
+    /// Reserves memory for one more message to come. The error comes only where an allocation fails.
     pub fn reserve_one(&mut self) -> Result<(), Memory>
         ensures ok { OnOk result (self.new ≡ record self.old { reserved = self.old.reserved + 1 }) }
         ensures err { OnErr result (self.new ≡ self.old) }
@@ -75,7 +69,7 @@ impl Queue {
         Ok(())
     }
 
-    /// Adds a message at the end, in a place that was reserved (msgop(2), msgsnd). No memory is taken.
+    /// Adds a message at the end, in memory that was reserved (msgop(2), msgsnd).
     pub fn put(&mut self, mtype: i64, text: Items<u8>)
         requires reserved { 0 < self.old.reserved }
         requires room { is_full (contents self.old) self.old.qbytes (length text) ≡ false }
@@ -89,7 +83,7 @@ impl Queue {
         self.messages.push_back(Message { mtype, text }).unwrap();
     }
 
-    /// Gives a reserved place back. The project's own.
+    /// Gives up what was reserved for one message.
     pub fn free_one(&mut self)
         requires { 0 < self.old.reserved }
         ensures { self.new ≡ record self.old { reserved = self.old.reserved - 1 } }
@@ -97,12 +91,11 @@ impl Queue {
         self.reserved -= 1; // no message came for it
     }
 
-    /// The place of the message that a receiver takes, and the length of its text in bytes (msgop(2),
-    /// msgrcv; POSIX.1-2017 XSH msgrcv). `msgtyp` 0 chooses the first message; above 0 the first of that
-    /// type, or with `except`, MSG_EXCEPT, the first of another type; below 0 the first of the lowest type
-    /// that is at most the absolute value. None: no message fits. That the absolute value of `i64::MIN`
-    /// counts as `i64::MAX`, and that `except` is ignored where `msgtyp` isn't above 0, are the project's
-    /// own.
+    /// The place of the message that a receiver takes, and the length of its text in bytes (msgop(2), msgrcv;
+    /// POSIX.1-2017 XSH msgrcv). `msgtyp` 0 chooses the first message; above 0 the first of that type, or with
+    /// `except`, MSG_EXCEPT, the first of another type; below 0 the first of the lowest type that is at most
+    /// the absolute value. That of `i64::MIN` counts as `i64::MAX`, and `except` counts only where `msgtyp` is
+    /// above 0.
     pub fn choose(&self, msgtyp: i64, except: bool) -> Option<(usize, usize)>
         ensures none { IsNone result ↔ IsNone (select (contents self.now) msgtyp except) }
         ensures place { IfSome result (λ c. position_of self.now c.0
@@ -117,8 +110,8 @@ impl Queue {
         choose(&self.messages, msgtyp, except)
     }
 
-    /// Takes the message of a place out: its type, and its text, which is moved (msgop(2), msgrcv). The
-    /// others stay in their order; their places may be others from then on. No memory is taken.
+    /// Takes the message of a place out: its type and its text (msgop(2), msgrcv). The others stay in their
+    /// order; their places may be others from then on.
     pub fn take(&mut self, place: usize) -> (i64, Items<u8>)
         requires { IsSome (position_of self.old place) }
         ensures message { IfSome (position_of self.old place) (λ i. slice_get (contents self.old) i
@@ -133,7 +126,7 @@ impl Queue {
         (mtype, text)
     }
 
-    /// How many messages there are (msgctl(2), msg_qnum).
+    /// The number of messages (msgctl(2), msg_qnum).
     pub fn count(&self) -> usize
         ensures { result ≡ length (contents self.now) }
     {
@@ -154,8 +147,8 @@ impl Queue {
         self.qbytes
     }
 
-    /// Sets `msg_qbytes` (msgctl(2), IPC_SET). It may be below what the queue holds: then nothing fits
-    /// until enough was taken.
+    /// Sets `msg_qbytes` (msgctl(2), IPC_SET). It may be below what the queue holds: then nothing fits until
+    /// enough was taken.
     pub fn set_qbytes(&mut self, qbytes: u64)
         ensures { self.new ≡ record self.old { qbytes = qbytes } }
     {
@@ -163,7 +156,7 @@ impl Queue {
     }
 }
 
-// Whether so many bytes and messages leave room for one more message, of this length.
+/// Whether the bytes and messages that a queue holds leave room for a message of this length.
 fn is_room(bytes: u64, count: u64, qbytes: u64, len: u64) -> bool
     ensures { result ≡ not (nat_lt qbytes (bytes + len) || nat_lt qbytes (count + 1)) }
 {

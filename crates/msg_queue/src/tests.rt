@@ -1,4 +1,4 @@
-// Worked queues, with the messages that msgop(2) has a receiver take.
+//! Worked queues, with the messages that msgop(2) has a receiver take.
 
 use super::Queue;
 use ipc_call::Items;
@@ -6,7 +6,7 @@ use std::alloc::Global;
 use std::process::Abort;
 use std::test::Fail;
 
-// Puts a message in, with a text of so many bytes.
+/// Puts a message in, with a text of `len` bytes.
 fn put(
     rt: &impl Abort,
     alloc: Global,
@@ -21,12 +21,12 @@ fn put(
     Ok(())
 }
 
-// The length of the text of the message that is chosen, which tells the messages of a test apart.
+/// The length of the text of the message that is chosen, by which the messages of a test differ.
 fn chosen(queue: &Queue, msgtyp: i64, except: bool) -> Option<usize> {
     queue.choose(msgtyp, except).map(|(_, len)| len)
 }
 
-// Takes the message that is chosen.
+/// Takes the message that is chosen.
 fn receive(queue: &mut Queue, msgtyp: i64) -> Option<(i64, Items<u8>)> {
     match queue.choose(msgtyp, false) {
         None => None,

@@ -1,4 +1,4 @@
--- A bit of the digit is set exactly where its quotient is odd.
+-- A permission bit is set exactly where its quotient is odd.
 use Rattle.std.proofs.Common.{◌≡◌, ℕ, ◌*◌, ◌<◌, ◌/◌, ◌%◌, bit_and, arith}
 use Rattle.std.specs.Prelude.{not, ◌==◌}
 use Rattle.std.proofs.lemmas.Bool.Decides.{nat_tests}
@@ -10,7 +10,7 @@ is_set masked bit size e small some = grind (arith, nat_tests)
 
 pub returns : goal.returns
 returns c =
-    let n = c.args.digit in
+    let n = c.args.bits in
     λ i. record {
       read = is_set (bit_and n 4) (n / 4 % 2) 4 (and_pow n 2) (bit_at-lt n 2) (omega arith) i;
       alter = is_set (bit_and n 2) (n / 2 % 2) 2 (and_pow n 1) (bit_at-lt n 1) (omega arith) i;
