@@ -1,5 +1,5 @@
 -- What no event undoes: the tables stay sound, and an identifier that was used stays used.
-use Rattle.std.proofs.Common.{◌≡◌, ℕ, zero, suc, Bool, true, false, not, cond, List, [], ◌∷◌, map, length, refl, sym, subst, Option, Some, None}
+use Rattle.std.proofs.Common.{◌≡◌, ℕ, zero, suc, Bool, true, false, not, cond, List, [], ◌∷◌, map, length, refl, sym, ◌∙◌, subst, Option, Some, None}
 use Rattle.std.specs.Prelude.{if◌then◌else◌, ◌==◌, ◌&&◌, ◌||◌, ℤ, pos, int_le, nat_le, take, bit_and, slice_get, option_map}
 use Rattle.std.specs.FinMap as finite
 use Rattle.std.proofs.lemmas.Option.{none-some}
@@ -37,15 +37,18 @@ use Rattle.ipc_model.specs.Step.{Event, Moved, at_moment, end_at, end_waiting, e
 pub record Follows (s t : State) : Type 0 where
   pub sound : IsSound s.queues → IsSound t.queues
   pub used : IsSound s.queues → (id : ℕ) → WasUsed s.queues id → WasUsed t.queues id
+  pub clients : t.clients ≡ s.clients
 
-pub Follows-same : (s t : State) → t.queues ≡ s.queues → Follows s t
-Follows-same s t same = record {
+pub Follows-same : (s t : State) → t.queues ≡ s.queues → t.clients ≡ s.clients → Follows s t
+Follows-same s t same clients = record {
+  clients = clients;
   sound = λ sound. subst (λ q. IsSound q) (sym same) sound;
   used = λ sound id was. subst (λ q. WasUsed q id) (sym same) was;
 }
 
 pub Follows-on : (s t u : State) → Follows s t → Follows t u → Follows s u
 Follows-on s t u first second = record {
+  clients = second.clients ∙ first.clients;
   sound = λ sound. second.sound (first.sound sound);
   used = λ sound id was. second.used (first.sound sound) id (first.used sound id was);
 }
@@ -64,12 +67,13 @@ Serves-found s None rule plain rest serves = tt
 Serves-found s (Some x) rule plain rest serves = serves x refl
 
 Serves-same : (s : State) → (s.parked ≡ s.parked) × Follows s s
-Serves-same s = (refl, Follows-same s s refl)
+Serves-same s = (refl, Follows-same s s refl refl)
 
 Serves-make : (s : State) (c : Credentials) (key flags : ℕ) → Serves s (make_queue s c key flags)
 Serves-make s c key flags = Serves-found s (next_id s.queues) NoSlot tt _ (λ id is. (
   refl,
   record {
+    clients = refl;
     sound = λ sound. IsSound-new s.queues sound id (new_queue s c key flags) (next_id-fresh s.queues sound.few id is);
     used = λ sound j was. WasUsed-with s.queues id (new_queue s c key flags) j was;
   },
@@ -90,6 +94,7 @@ Serves-removed s kinds.Segment id perm is = absurd (none-some perm is)
 Serves-removed s kinds.Queue id perm is = let there = with_perm (finite.get s.queues.objects id) perm is in (
   refl,
   record {
+    clients = refl;
     sound = λ sound. IsSound-without s.queues sound id there.0 there.1;
     used = λ sound j was. WasUsed-without s.queues sound id there.0 there.1 j was;
   },
@@ -105,6 +110,7 @@ Serves-changed : (s : State) (id : ℕ) (old new : Queue) → queue_at s id ≡ 
 Serves-changed s id old new there = (
   refl,
   record {
+    clients = refl;
     sound = λ sound. IsSound-change s.queues sound id new old there;
     used = λ sound j was. WasUsed-with s.queues id new j was;
   },
@@ -115,8 +121,9 @@ Serves-taken s client id size flags queue None is = tt
 Serves-taken s client id size flags queue (Some taken) is = Serves-changed s id queue _ is
 
 Follows-changed : (s : State) (id : ℕ) (change : Queue → Queue) (o : Option Queue) → o ≡ finite.get s.queues.objects id → Follows s (record s { queues = with_change s.queues id change o })
-Follows-changed s id change None is = Follows-same s s refl
+Follows-changed s id change None is = Follows-same s s refl refl
 Follows-changed s id change (Some queue) is = record {
+  clients = refl;
   sound = λ sound. IsSound-change s.queues sound id (change queue) queue (sym is);
   used = λ sound j was. WasUsed-with s.queues id (change queue) j was;
 }
@@ -144,37 +151,37 @@ pub Keeps-decide : (s : State) (client : ℕ) (call : Call) → Keeps s (decide 
 Keeps-decide s client call = by-end (creds_at s client) (Keeps s) (λ rule. tt) tt (plan s client call) (Serves-plan s client call)
 
 Follows-state_by : (s : State) (client : ℕ) (call : Call) (d : Decision State) → Keeps s d → Follows s (state_by s client call d)
-Follows-state_by s client call (Refuse rule) keeps = Follows-same s s refl
-Follows-state_by s client call Wait keeps = Follows-same s (state_by s client call Wait) refl
+Follows-state_by s client call (Refuse rule) keeps = Follows-same s s refl refl
+Follows-state_by s client call Wait keeps = Follows-same s (state_by s client call Wait) refl refl
 Follows-state_by s client call (Serve answer new) keeps = keeps.1
 
 Follows-ended_by : (s : State) (client : ℕ) (d : Decision State) → Keeps s d → Follows s (ended_by s client d).state
-Follows-ended_by s client (Refuse rule) keeps = Follows-same s s refl
-Follows-ended_by s client Wait keeps = Follows-same s s refl
+Follows-ended_by s client (Refuse rule) keeps = Follows-same s s refl refl
+Follows-ended_by s client Wait keeps = Follows-same s s refl refl
 Follows-ended_by s client (Serve answer new) keeps = keeps.1
 
 Follows-end_waiting : (s : State) (place : ℕ) (w : Option Waiting) → Follows s (end_waiting s place w).state
-Follows-end_waiting s place None = Follows-same s s refl
+Follows-end_waiting s place None = Follows-same s s refl refl
 Follows-end_waiting s place (Some w) =
     let rest = without s place in
-    Follows-on s rest (ended_by rest w.client (decide rest w.client w.call)).state (Follows-same s rest refl) (Follows-ended_by rest w.client (decide rest w.client w.call) (Keeps-decide rest w.client w.call))
+    Follows-on s rest (ended_by rest w.client (decide rest w.client w.call)).state (Follows-same s rest refl refl) (Follows-ended_by rest w.client (decide rest w.client w.call) (Keeps-decide rest w.client w.call))
 
 Follows-settle_from : (go : State → Moved) → ((t : State) → Follows t (go t).state) → (s : State) (place : Option ℕ) → Follows s (settle_from go s place).state
-Follows-settle_from go goes s None = Follows-same s s refl
+Follows-settle_from go goes s None = Follows-same s s refl refl
 Follows-settle_from go goes s (Some place) =
     let ended = (end_at s place).state in Follows-on s ended (go ended).state (Follows-end_waiting s place (slice_get s.parked place)) (goes ended)
 
 Follows-settle : (n : ℕ) (s : State) → Follows s (settle n s).state
-Follows-settle zero s = Follows-same s s refl
+Follows-settle zero s = Follows-same s s refl refl
 Follows-settle (suc n) s = Follows-settle_from (settle n) (Follows-settle n) s (first_ready s)
 
 pub Follows-settled : (s : State) → Follows s (settled s).state
 Follows-settled s = Follows-settle (length s.parked) s
 
 pub Follows-forced_by : (s : State) (call : Call) (d : Decision State) → Follows s (forced_by s call d).state
-Follows-forced_by s call (Refuse rule) = Follows-same s s refl
-Follows-forced_by s call Wait = Follows-same s s refl
-Follows-forced_by s call (Serve answer new) = Follows-same s (force s call).state refl
+Follows-forced_by s call (Refuse rule) = Follows-same s s refl refl
+Follows-forced_by s call Wait = Follows-same s s refl refl
+Follows-forced_by s call (Serve answer new) = Follows-same s (force s call).state refl refl
 
 -- what a call leaves before the waiting ones go on may follow
 pub Follows-moved : (s : State) (client : ℕ) (call : Call) → Follows s (moved_by s client call).state
@@ -188,4 +195,4 @@ pub Follows-step : (s : State) (e : Event) → Follows s (step s e).state
 Follows-step s e =
     let now = at_moment s e.now in
     let moved = (moved_by now e.client e.call).state in
-    Follows-on s now (settled moved).state (Follows-same s now refl) (Follows-on now moved (settled moved).state (Follows-moved now e.client e.call) (Follows-settled moved))
+    Follows-on s now (settled moved).state (Follows-same s now refl refl) (Follows-on now moved (settled moved).state (Follows-moved now e.client e.call) (Follows-settled moved))

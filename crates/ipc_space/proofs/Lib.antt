@@ -6,3 +6,5 @@ pub mod Once
 pub mod Permitted
 pub mod Quiet
 pub mod Access
+pub mod Alone
+pub mod Balance

@@ -1,2 +1,3 @@
 pub mod Journal
 pub mod Spaces
+pub mod Telling

@@ -1,7 +1,7 @@
 //! What is true of every history of a namespace, whoever calls what in which order. Each law is a function
 //! that does nothing: what it ensures is the law.
 
-ghost use Rattle.std.specs.Prelude.{◌≡◌, ◌==◌, ◌↔◌, true, [], Some, Ok, Err};
+ghost use Rattle.std.specs.Prelude.{◌≡◌, ◌==◌, ◌↔◌, ℕ, ◌+◌, ◌<◌, ◌≤◌, true, [], length, Some, None, Ok, Err, All, if◌then◌else◌};
 ghost use Rattle.std.specs.List.{IsDistinct};
 ghost use Rattle.ipc_call.specs.Limits.{are_in_range};
 ghost use Rattle.ipc_call.specs.declared.calls.Kind.{Kind as KindOf};
@@ -10,7 +10,9 @@ ghost use Rattle.ipc_call.specs.declared.replies.Answer.{Answer as AnswerOf};
 ghost use Rattle.ipc_model.specs.Access.{AreMet, IsDenied, caller_of, checks_of, needs_of};
 ghost use Rattle.ipc_model.specs.Plan.{is_denial};
 ghost use Rattle.ipc_model.specs.Step.{Event, Stepped, at_moment};
-ghost use Rattle.ipc_model.specs.History.{History, IsLegal, run, next_step};
+ghost use Rattle.ipc_model.specs.State.{is_waiting};
+ghost use Rattle.ipc_model.specs.History.{History, IsLegal, run, own, replies, with_event, next_step};
+ghost use Rattle.ipc_space.specs.Telling.{told_of, replies_in};
 ghost use Rattle.ipc_model.specs.Made.{made};
 ghost use Rattle.ipc_model.specs.Waits.{AreNotReady, ArePermitted, WaitOnce};
 
@@ -44,4 +46,20 @@ pub fn no_client_waits_twice()
 pub fn access()
     ensures granted { (h : History) (e : Event) (answer : AnswerOf) → IsLegal h → (next_step h e).own ≡ Some (Ok answer) → AreMet (caller_of h e) (needs_of h e) }
     ensures denied { (h : History) (e : Event) (rule : RuleOf) → IsLegal h → is_denial rule ≡ true → ((next_step h e).own ≡ Some (Err rule)) ↔ IsDenied (caller_of h e) (checks_of h e) rule }
+{}
+
+/// A client has as many calls as it has replies, and one more where its last call waits.
+pub fn calls_have_replies_or_wait()
+    ensures { (h : History) (client : ℕ) → IsLegal h → length (own h client) ≡ length (replies h client) + (if is_waiting (run h) client then 1 else 0) }
+{}
+
+/// An event tells a client one thing at most, and tells none but clients of the namespace.
+pub fn an_event_tells_each_client_once()
+    ensures once { (h : History) (e : Event) (client : ℕ) → IsLegal (with_event h e) → length (replies_in (told_of h e) client) ≤ 1 }
+    ensures known { (h : History) (e : Event) → IsLegal (with_event h e) → All (λ told. told.0 < length h.clients) (told_of h e) }
+{}
+
+/// An event whose own call waits ends no call.
+pub fn a_call_that_waits_ends_no_other()
+    ensures { (h : History) (e : Event) → (next_step h e).own ≡ None → (next_step h e).ended ≡ [] }
 {}

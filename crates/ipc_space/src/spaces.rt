@@ -84,7 +84,7 @@ impl Space {
     }
 
     /// Serves a call of a client at a moment in seconds, as the next event. The client is one of the
-    /// namespace, and has no call that waits. Afterwards no waiting call is ready, each one's client has
+    /// namespace, and has no call that waits. A call that waits ends no other. Afterwards no waiting call is ready, each one's client has
     /// the rights that it needs, and no client waits twice. Memory (ENOMEM) comes where a growth was refused,
     /// and then nothing has changed, the clock and the journal included.
     #[tactic(auto, using(crate::proofs::Permitted::run_not_ready, crate::proofs::Permitted::run_permitted, crate::proofs::Once::waits_once))]
@@ -96,6 +96,8 @@ impl Space {
             effects.own ≡ own_reply (length self.old.events + 1) (next_step self.old (record { client = client; now = now; call = call })).own) }
         ensures others { IfOk result (λ effects.
             effects.others.items ≡ other_replies (length self.old.events + 1) (next_step self.old (record { client = client; now = now; call = call })).ended) }
+        ensures alone { IfOk result (λ effects. effects.own ≡ None → effects.others.items ≡ []) }
+        ensures legal { IsLegal self.new }
         ensures not_ready { AreNotReady (run self.new) }
         ensures permitted { ArePermitted (run self.new) }
         ensures once { WaitOnce (run self.new) }
@@ -125,6 +127,13 @@ impl Space {
         ensures few { result ≤ 64 }
     {
         self.namespace.clients()
+    }
+
+    /// The number of events.
+    pub fn events(&self) -> u64
+        ensures { result ≡ length self.now.events }
+    {
+        self.events
     }
 
     /// Whether a call of the client waits.

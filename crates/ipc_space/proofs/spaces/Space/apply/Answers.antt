@@ -1,9 +1,11 @@
-use Rattle.std.proofs.Common.{◌≡◌, ◌+◌, ◌<◌, [], ◌∷◌, ◌++◌, map, length, sym, ap, ◌∙◌, subst, arith}
+use Rattle.std.proofs.Common.{◌≡◌, ℕ, ◌+◌, ◌<◌, [], ◌∷◌, ◌++◌, map, length, refl, sym, ap, ◌∙◌, subst, arith, Option, Some, None}
+use Rattle.std.proofs.lemmas.Option.{none-some}
 use Rattle.ipc_call.specs.declared.replies.JournalRow.TheVariants.{Called}
 use Rattle.ipc_model.specs.State.{State, is_waiting}
-use Rattle.ipc_model.specs.Step.{Event, Stepped}
-use Rattle.ipc_model.specs.History.{History, IsLegalAt, answered_row, rows_by, run, told_ended, told_own, with_event}
-use Rattle.ipc_space.specs.Spaces.{IsOfHistory, history_in}
+use Rattle.ipc_model.specs.Step.{Event, Outcome, Stepped, step}
+use Rattle.ipc_model.specs.History.{History, IsLegalAt, answered_row, next_step, rows_by, run, told_ended, told_own, with_event}
+use Rattle.ipc_space.specs.Spaces.{IsOfHistory, history_in, other_replies, own_reply}
+use Rattle.ipc_space.proofs.Alone.{waits_alone}
 use Rattle.ipc_space.proofs.Histories.{IsOfHistory-push, length-events_in, rows_by-entered}
 use Rattle.ipc_space.proofs.Once.{waits_once}
 use Rattle.ipc_space.proofs.Permitted.{run_not_ready, run_permitted}
@@ -62,3 +64,21 @@ returns-clause-permitted c = run_permitted (history_in c.serve.new.self.state c.
 
 pub returns-clause-once : goal.returns-clause-once
 returns-clause-once c = waits_once (history_in c.serve.new.self.state c.tell_others.new.journal.rows) (longer c).0.legal
+
+pub returns-clause-legal : goal.returns-clause-legal
+returns-clause-legal c = (longer c).0.legal
+
+no_own : (place : ℕ) (o : Option Outcome) → own_reply place o ≡ None → o ≡ None
+no_own place None is = refl
+no_own place (Some o) is = absurd (none-some _ (sym is))
+
+pub returns-clause-alone : goal.returns-clause-alone
+unfolding event stepped
+returns-clause-alone c = λ none.
+    let s = c.self.inside in
+    let place = s.events + 1 in
+    let h = history_in s.namespace.state s.journal.rows in
+    let is : next_step h (event c) ≡ stepped c = ap (λ (x : State). step x (event c)) (sym c.self.invariant.0.state) ∙ c.in_ok-served.ensures.ok in
+    let own : c.in_ok-served.served.own ≡ None = no_own place c.in_ok-served.served.own (sym c.tell_own-own.ensures.reply ∙ none) in
+    let ended = waits_alone h (event c) (ap (λ (m : Stepped). m.own) is ∙ own) in
+    c.tell_others.ensures.others ∙ ap (λ es. other_replies place es) (ap (λ (m : Stepped). m.ended) (sym is) ∙ ended)
