@@ -1,6 +1,6 @@
 mod Tries
 mod Looking
-mod Marking
+pub mod Marking
 mod Posting
 mod Replying
 mod Seats
