@@ -1,4 +1,4 @@
--- The state of a namespace (sysvipc(7); POSIX.1-2017 XSH 2.7).
+-- The state of a namespace (POSIX.1-2017 XSH 2.7).
 use Rattle.std.specs.Prelude.{ℕ, ◌+◌, ◌==◌, Bool, not, ◌&&◌, List, [], Option, option_map, slice_index_or}
 use Rattle.std.specs.List.{list_any}
 use Rattle.ipc_call.specs.declared.limits.Limits.{Limits}

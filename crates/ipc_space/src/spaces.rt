@@ -84,9 +84,9 @@ impl Space {
     }
 
     /// Serves a call of a client at a moment in seconds, as the next event. The client is one of the
-    /// namespace, and has no call that waits. A call that waits ends no other. Afterwards no waiting call is ready, each one's client has
-    /// the rights that it needs, and no client waits twice. Memory (ENOMEM) comes where a growth was refused,
-    /// and then nothing has changed, the clock and the journal included.
+    /// namespace, and has no call that waits. A call that waits ends no other. Afterwards no waiting call is
+    /// ready, each one's client has the rights that it needs, and no client waits twice. Memory (ENOMEM) comes
+    /// where a growth was refused, and then nothing has changed, the clock and the journal included.
     #[tactic(auto, using(crate::proofs::Permitted::run_not_ready, crate::proofs::Permitted::run_permitted, crate::proofs::Once::waits_once))]
     pub fn apply(&mut self, client: u32, now: u64, call: Call) -> Result<Effects, Memory>
         requires known { client < length self.old.clients }
