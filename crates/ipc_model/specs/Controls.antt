@@ -92,5 +92,5 @@ abbrev pub set_object : State → Kind → ℕ → ℕ → ℕ → ℕ → Optio
 set_object s kind id uid gid mode qbytes =
     Passes (takes_qbytes kind qbytes) BadArgument _
     ⨾ found (perm_of s kind id) BadId _ (λ perm.
-      Needs (Control perm)
-      ⨾ in_order (if is_within s qbytes then [] else Needs Resource ∷ []) (Serve Done (with_set s kind id uid gid mode qbytes)))
+    Needs (Control perm)
+    ⨾ in_order (if is_within s qbytes then [] else Needs Resource ∷ []) (Serve Done (with_set s kind id uid gid mode qbytes)))

@@ -38,4 +38,3 @@ can_wait (IpcStat kind id) = false
 can_wait (IpcSet kind id uid gid mode qbytes) = false
 can_wait (IpcRmid kind id) = false
 can_wait (Interrupt pid) = false
-
