@@ -2,9 +2,14 @@
 //! calls of all (flat combining: Hendler, Incze, Shavit, Tzafrir 2010).
 #![tactic(auto)]
 
+mod calls;
 mod entries;
 mod serving;
 mod shared;
+mod states;
 
+pub use calls::{Pass, Polled, Seen};
 pub use entries::Entry;
+pub use pub_list::{OpenGate, PassGate};
 pub use shared::Shared;
+pub use states::{Idle, InFlight, Service, Unjoined};

@@ -1,0 +1,51 @@
+-- What a client's calls tell. It knew v before a call, and knows w after it.
+use Rattle.std.specs.Prelude.{◌≡◌, ◌≢◌, ℕ, ◌<◌, List, [], ◌∷◌, ◌++◌}
+use Rattle.ipc_call.specs.declared.calls.Call.{Call}
+use Rattle.ipc_call.specs.declared.replies.Reply.{Reply}
+use Rattle.ipc_call.specs.declared.replies.Reply.TheVariants.{Entered, Memory}
+use Rattle.pub_rule.specs.declared.served.Served.{Ghosts}
+use Rattle.pub_rule.specs.declared.work.Work.{Work}
+use Rattle.pub_rule.specs.declared.work.Stage.TheVariants as stages
+use Rattle.pub_rule.specs.Work.{GoesOn}
+use Rattle.pub_rule.specs.WorkSteps.{answered, meeting, refused, seeing}
+use Rattle.pub_list.specs.declared.joined.Joined.{Joined}
+use Rattle.pub_list.specs.declared.records.WordState.{WordState}
+use Rattle.pub_list.specs.declared.records.WordState.TheVariants as words
+use Rattle.pub_list.specs.Clients.{view, work, told}
+use Rattle.pub_list.specs.Passing.{HasPassed, IsAsFar, KeepsMarks}
+use Rattle.pub_list.specs.Records.{number_of, Shows}
+use Rattle.ipc_combiner.specs.declared.entries.Entry.{Entry}
+use Rattle.ipc_combiner.specs.declared.shared.Shared.{Shared}
+use Rattle.ipc_combiner.specs.declared.calls.Pass.{Pass}
+use Rattle.ipc_combiner.specs.declared.calls.Pass.TheVariants.{Passed, Busy}
+use Rattle.ipc_combiner.specs.declared.calls.Polled.{Polled}
+use Rattle.ipc_combiner.specs.declared.calls.Polled.TheVariants.{Done, Still}
+use Rattle.ipc_combiner.specs.declared.calls.Seen.{Seen}
+use Rattle.ipc_combiner.specs.declared.calls.Seen.TheVariants.{Posted, Taken, Parked}
+use Rattle.ipc_combiner.specs.Entries.{legal, own, replies}
+use Rattle.ipc_combiner.specs.States.{IsOf, Records}
+
+abbrev pub word_of : Seen → WordState
+word_of Posted = words.Posted
+word_of Taken = words.Taken
+word_of Parked = words.Parked
+
+-- Its call ended. By a reply: the history that it sees now goes on from the one that it saw, and has its call and this reply behind those before. Where memory was refused it has neither
+abbrev pub HasDone : ℕ → Work Entry (ℕ × Call) Reply → Work Entry (ℕ × Call) Reply → Reply → Type 0
+HasDone client v w (Entered place turn outcome) = (c : ℕ × Call) × (h : List Entry) × (v.stage ≡ stages.Asking client c) × GoesOn v.seen h × legal h
+    × (own h client ≡ v.entered ++ c ∷ []) × (replies h client ≡ v.got ++ Entered place turn outcome ∷ []) × (w ≡ answered client c (Entered place turn outcome) h v)
+HasDone client v w Memory = (h : List Entry) × GoesOn v.seen h × legal h × (own h client ≡ v.entered) × (replies h client ≡ v.got) × (w ≡ refused client h v)
+
+-- Its call is in flight, and its word tells this: where it is parked, or isn't answered though a combiner is known to have dealt with it, it waits in the history that is seen
+abbrev pub IsStill : ℕ → Work Entry (ℕ × Call) Reply → Work Entry (ℕ × Call) Reply → Seen → Type 0
+IsStill client v w seen = (h : List Entry) × GoesOn v.seen h × legal h × (w ≡ seeing h (number_of (word_of seen)) v) × Shows own replies client h v (word_of seen) v.stage
+
+module _ {g : Ghosts Shared Entry (ℕ × Call) Reply} where
+  abbrev pub IsPolled : Records → Joined Shared Entry (ℕ × Call) Reply g → Polled → Type 0
+  IsPolled list v (Done idle reply) = IsOf list idle.joined × (idle.joined.client ≡ v.client) × HasDone v.client (work v) (work idle.joined) reply
+  IsPolled list v (Still flight seen) = IsOf list flight.joined × (flight.joined.client ≡ v.client) × IsStill v.client (work v) (work flight.joined) seen
+
+  -- It passed: it dealt with each post that it had heard of, and with its own call, and sees a legal history. Or another client combined, and nothing else has changed
+  abbrev pub HasCombined : Records → Joined Shared Entry (ℕ × Call) Reply g → Joined Shared Entry (ℕ × Call) Reply g → Pass → Type 0
+  HasCombined list v w Passed = HasPassed v.client (view v) (view w) × IsAsFar (view v) (view w) × KeepsMarks (view v) (view w) × (told w ≡ told v) × legal (work w).seen
+  HasCombined list v w (Busy c) = (c < list.clients) × (c ≢ v.client) × (work w ≡ meeting c (work v)) × (told w ≡ told v)
