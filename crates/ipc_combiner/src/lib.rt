@@ -4,6 +4,7 @@
 
 mod calls;
 mod entries;
+mod opening;
 mod serving;
 mod shared;
 mod states;
