@@ -26,7 +26,7 @@ fn call(rt: &HostRuntime, space: &mut Space, client: u32, call: Call) -> io::Res
     if client >= space.clients() || space.is_waiting(client) {
         return println!(rt; "client {client}: has a call that waits");
     }
-    let Effects { own, others } = space.apply(client, 0, call)?;
+    let Effects { own, others, .. } = space.apply(client, 0, call)?;
     match &own {
         Some(reply) => show(rt, client, reply)?,
         None => println!(rt; "client {client}: waits")?,

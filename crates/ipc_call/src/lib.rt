@@ -10,6 +10,7 @@ mod items;
 mod limits;
 mod replies;
 mod rules;
+mod settings;
 
 pub use calls::{Call, Kind};
 pub use error::Errno;
@@ -23,3 +24,4 @@ pub use replies::{
     Answer, Ended, JournalRow, Memory, Outcome, QueueStatus, Reply, Status, Waiting,
 };
 pub use rules::{Rule, errno};
+pub use settings::Settings;

@@ -52,8 +52,8 @@ replies_of : (h : History) (r : ℕ) → replies (entries_of h) r ≡ model.repl
 replies_of h r = ap (λ (z : History). model.replies z r) (history-entries h)
 
 -- a client each of whose calls has its reply has none that waits
-pub calls_freely : (h : History) (r : ℕ) → length (own (entries_of h) r) ≡ length (replies (entries_of h) r) → is_waiting (model.run h) r ≡ false
-calls_freely h r same = is_free h r (sym (ap length (ap (λ (z : History). model.own z r) (history-entries h))) ∙ same ∙ ap length (replies_of h r))
+pub calls_freely : (h : History) (r : ℕ) → IsLegal h → length (own (entries_of h) r) ≡ length (replies (entries_of h) r) → is_waiting (model.run h) r ≡ false
+calls_freely h r legal same = is_free h r legal (sym (ap length (ap (λ (z : History). model.own z r) (history-entries h))) ∙ same ∙ ap length (replies_of h r))
 
 -- what the last event brought a client
 brings : (n : ℕ) (v : Knowledge) (state : Shared) (rest : List (ℕ × Reply)) (h : IsHanding n v state rest) (r : ℕ) → replies v.work.seen r ≡ replies v.work.before r ++ replies_in (told_of h.before h.event) r
@@ -132,6 +132,9 @@ module _ (n client now : ℕ) (call : Call) (v : Knowledge) (old : Shared) (take
 
   pub is_replied : length (own (entries_in old) client) ≡ length (replies (entries_in old) client)
   is_replied = subst (λ es. length (own es client) ≡ length (replies es client)) (sym taken.2) taken.4
+
+  pub is_lawful : IsLegal was
+  is_lawful = subst IsLegal (history-entries was) (subst legal (sym taken.2) taken.7).1
 
   pub serves_still : (w : Knowledge) (new : Shared) → w ≡ with_work (refusing client v.work) v → entries_in new ≡ entries_in old → Serves n w new
   serves_still w new e same = subst (λ (z : Knowledge). Serves n z new) (sym e) ((taken.0, refl), same ∙ taken.2, taken.3, taken.7)

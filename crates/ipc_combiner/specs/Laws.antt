@@ -100,7 +100,7 @@ pub one_more : (h : List Entry) (e : Entry) (r : ℕ) → legal h → legal (h +
 one_more h e r was is = let t = as_call h e was is in subst (λ (x : Entry). legal (h ++ x ∷ []) → OneMore (replies (h ++ x ∷ []) r) (replies h r)) (sym t.1) (more_now h t.0 r was) is
 
 pub no_more : (h : List Entry) (r : ℕ) → legal h → length (replies h r) ≤ length (own h r)
-no_more h r is = no_more_replies (history_in h) r
+no_more h r is = no_more_replies (history_in h) r is.1
 
 pub stays : (n : ℕ) (h k : List Entry) → GoesOn h k → has_clients n h → has_clients n k
 stays n [] k more is = absurd is

@@ -1,5 +1,6 @@
 //! How a combiner serves a posted call: the namespace decides on it, and its replies are handed out.
 ghost use Rattle.std.specs.Prelude.{◌≡◌, ◌<◌, length, IfOk, OnErr, box_value};
+ghost use Rattle.ipc_model.specs.History.{IsLegal};
 ghost use Rattle.pub_rule.specs.WorkSteps.{with_work, paying};
 ghost use Rattle.pub_list.specs.Clients.{view, work, BelongsTo, IsSame};
 ghost use Rattle.pub_list.specs.Passing.{IsAsFar};
@@ -33,7 +34,7 @@ impl Serves for Shared {
         let Ok(effects) = state.apply(client, now, asked) else {
             return combiner.answer(list, client, Answer::Memory, state);
         };
-        let Effects { own, others } = effects;
+        let Effects { own, others, .. } = effects;
         match own {
             Some(reply) => {
                 let entered = combiner.answer(list, client, Answer::Reply(reply), state);
@@ -48,6 +49,7 @@ impl Shared {
     // Enters a call of a client none of whose calls waits.
     fn apply(&mut self, client: u32, now: u64, call: Call) -> Result<Effects, Memory>
         requires known { client < length (box_value self.old.space).clients }
+        requires legal { IsLegal (box_value self.old.space) }
         requires free { length (calls (entries_in self.old) client) ≡ length (replies (entries_in self.old) client) }
         ensures ok { IfOk result (λ effects. HasEntered client now call (box_value self.old.space) (box_value self.new.space) effects.own effects.others.items) }
         ensures err { OnErr result (entries_in self.new ≡ entries_in self.old) }

@@ -9,8 +9,10 @@ use Rattle.ipc_model.specs.State.{Queue}
 pub record AreKeyed (queues : Table Queue) (keys : map.FinMap nat_cmp ℕ) : Type 0 where
   pub sound : IsSound queues
   pub private : map.get keys 0 ≡ None
-  pub bound : (key id : ℕ) → map.get keys key ≡ Some id → (queue : Queue) × (map.get queues.objects id ≡ Some queue) × (queue.perm.key ≡ key)
-  pub keyed : (id : ℕ) (queue : Queue) → map.get queues.objects id ≡ Some queue → (queue.perm.key ≡ 0 → ⊥) → map.get keys queue.perm.key ≡ Some id
+  pub bound : (key id : ℕ) → map.get keys key ≡ Some id → (queue : Queue) × (map.get queues.objects id ≡ Some queue)
+      × (queue.perm.key ≡ key)
+  pub keyed : (id : ℕ) (queue : Queue) → map.get queues.objects id ≡ Some queue → (queue.perm.key ≡ 0 → ⊥)
+      → map.get keys queue.perm.key ≡ Some id
 
 -- the key of a new queue is bound, unless it is 0
 abbrev pub with_key : map.FinMap nat_cmp ℕ → ℕ → ℕ → map.FinMap nat_cmp ℕ

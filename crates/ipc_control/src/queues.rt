@@ -31,7 +31,7 @@ ghost use Rattle.msg_queue.specs.Messages.{is_full};
 ghost use Rattle.ipc_control.specs.Held.{one_if, queues_of, room};
 ghost use Rattle.ipc_control.specs.Queues.{with_key};
 
-use ipc_call::{Items, Memory, QueueStatus, Status};
+use ipc_call::{Items, Memory, QueueStatus, Settings, Status};
 use ipc_ids::{InsertFault, Keys, Slots};
 use ipc_perm::{Mode, Perm};
 use msg_queue::Queue as Messages;
@@ -161,7 +161,7 @@ impl Queue {
         self.messages.free_one();
     }
 
-    /// Adds a message at the end, in a place that was reserved, from this client at a moment in seconds (msgsnd
+    /// Adds a message at the end, in a place that was reserved, from this client at a time in seconds (msgsnd
     /// of msgop(2)). It takes no memory.
     pub fn send(&mut self, client: u32, mtype: i64, text: Items<u8>, now: u64)
         requires client { client < 64 }
@@ -175,7 +175,7 @@ impl Queue {
         self.send_time = now;
     }
 
-    /// Takes out the message that a receiver takes, which there is, for this client at a moment in seconds: its
+    /// Takes out the message that a receiver takes, which there is, for this client at a time in seconds: its
     /// type and the first `size` bytes of its text (msgrcv of msgop(2)). It takes no memory.
     pub fn receive(
         &mut self,
@@ -201,16 +201,16 @@ impl Queue {
         (mtype, text)
     }
 
-    /// Sets its owner, the low nine bits of its mode, and its msg_qbytes where that is given, at a moment in
+    /// Sets its owner, the low nine bits of its mode, and its msg_qbytes where that is given, at a time in
     /// seconds (IPC_SET of msgctl(2)). Key, creator, messages and the other times stay.
-    pub fn set(&mut self, uid: u32, gid: u32, mode: u32, qbytes: Option<u64>, now: u64)
-        ensures queue { self.new.queue ≡ with_settings self.old.queue now uid gid mode qbytes }
+    pub fn set(&mut self, new: Settings, now: u64)
+        ensures queue { self.new.queue ≡ with_settings self.old.queue now new }
         ensures reserved { self.new.reserved ≡ self.old.reserved }
     {
-        self.perm.uid = uid;
-        self.perm.gid = gid;
-        self.perm.mode = Mode::from_low_bits(mode);
-        if let Some(qbytes) = qbytes {
+        self.perm.uid = new.uid;
+        self.perm.gid = new.gid;
+        self.perm.mode = Mode::from_low_bits(new.mode);
+        if let Some(qbytes) = new.qbytes {
             self.messages.set_qbytes(qbytes);
         }
         self.change_time = now;
@@ -298,17 +298,17 @@ impl Queues {
         }
     }
 
-    /// Sets the owner, the mode and the msg_qbytes of the queue of an identifier, which there is, at a moment
+    /// Sets the owner, the mode and the msg_qbytes of the queue of an identifier, which there is, at a time
     /// in seconds (IPC_SET of msgctl(2)). It takes no memory.
-    pub fn set(&mut self, id: u32, uid: u32, gid: u32, mode: u32, qbytes: Option<u64>, now: u64)
+    pub fn set(&mut self, id: u32, new: Settings, now: u64)
         requires { IsSome (map.get (queues_of self.old).objects id) }
-        ensures queues { queues_of self.new ≡ with_change (queues_of self.old) id (λ queue. with_settings queue now uid gid mode qbytes) (map.get (queues_of self.old).objects id) }
+        ensures queues { queues_of self.new ≡ with_change (queues_of self.old) id (λ queue. with_settings queue now new) (map.get (queues_of self.old).objects id) }
         ensures room { (j : ℕ) → room self.new j ≡ room self.old j }
     {
         let Some(queue) = self.slots.get_mut(id) else {
             unreachable!()
         };
-        queue.set(uid, gid, mode, qbytes, now);
+        queue.set(new, now);
     }
 
     /// Reserves a place for a message to come in the queue of an identifier, which there is. Memory comes where a
@@ -338,7 +338,7 @@ impl Queues {
     }
 
     /// Adds a message at the end of the queue of an identifier, in a place that was reserved, from this client at a
-    /// moment in seconds (msgsnd of msgop(2)). It takes no memory.
+    /// time in seconds (msgsnd of msgop(2)). It takes no memory.
     pub fn send(&mut self, id: u32, client: u32, mtype: i64, text: Items<u8>, now: u64)
         requires client { client < 64 }
         requires reserved { 0 < room self.old id }

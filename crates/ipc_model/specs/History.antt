@@ -52,7 +52,8 @@ told_own client place (Some outcome) = record { client = client; place = place; 
 
 abbrev pub told_ended : ℕ → ℕ → List Ended → List Told
 told_ended place turn [] = []
-told_ended place turn (e ∷ es) = record { client = e.client; place = place; turn = turn; outcome = e.outcome } ∷ told_ended place (turn + 1) es
+told_ended place turn (e ∷ es) =
+    record { client = e.client; place = place; turn = turn; outcome = e.outcome } ∷ told_ended place (turn + 1) es
 
 -- the replies of one event: the caller's has turn 0, the others count from 1
 abbrev pub told_by : ℕ → ℕ → Stepped → List Told
@@ -85,7 +86,7 @@ rows_from place s (e ∷ es) = rows_by place e (step s e) ++ rows_from (place + 
 abbrev pub rows_of : History → List JournalRow
 rows_of h = rows_from 1 (opening h.limits h.clients) h.events
 
--- a client's own calls, each with its moment, in order
+-- a client's own calls, each with its time, in order
 abbrev pub own : History → ℕ → List (ℕ × Call)
 own h client = map (λ e. (e.now, e.call)) (filter (λ e. e.client == client) h.events)
 

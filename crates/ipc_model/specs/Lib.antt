@@ -1,13 +1,13 @@
 pub mod Access
+pub mod Cancelled
 pub mod Controls
 pub mod Decide
 pub mod Decision
-pub mod Plan
-pub mod Forced
 pub mod History
 pub mod Interrupts
 pub mod Made
 pub mod Messages
+pub mod Plan
 pub mod Queues
 pub mod State
 pub mod Step

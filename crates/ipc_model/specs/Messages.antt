@@ -1,5 +1,6 @@
 -- Messages of a queue: msgsnd and msgrcv (msgop(2), POSIX.1-2017 XSH msgsnd and msgrcv).
-use Rattle.std.specs.Prelude.{◌==◌, ℕ, ℤ, pos, int_le, nat_le, Bool, true, false, not, ◌||◌, List, [], ◌∷◌, ◌++◌, length, take, remove, slice_get, Option, Some, None, option_and_then, option_map, if◌then◌else◌, bit_and}
+use Rattle.std.specs.Prelude.{◌==◌, ℕ, ℤ, pos, int_le, nat_le, Bool, true, false, not, ◌||◌, List, [], ◌∷◌, ◌++◌, length, take, remove, slice_get, Option, Some, None, option_and_then, option_map, if◌then◌else◌}
+use Rattle.ipc_call.specs.Flags.{has_flag, msg_except, msg_noerror}
 use Rattle.std.specs.FinMap as finite
 use Rattle.ipc_call.specs.declared.rules.Rule.TheVariants.{BadId, BadType, TextTooLong, QueueFull, NoMessage, MessageTooLong}
 use Rattle.ipc_call.specs.declared.replies.Answer.TheVariants.{Done, Message as MessageAnswer}
@@ -10,7 +11,7 @@ use Rattle.ipc_ids.specs.Table.{with_object}
 use Rattle.msg_queue.specs.declared.messages.Message.{Message}
 use Rattle.msg_queue.specs.Messages.{is_full, select}
 use Rattle.ipc_model.specs.State.{Queue, State, pid_of}
-use Rattle.ipc_model.specs.Plan.{GoesOn, Needs, Passes, Plan, Serve, awaited, found, ◌⨾◌}
+use Rattle.ipc_model.specs.Plan.{Proceeds, Needs, Passes, Plan, Grant, awaited, found, ◌⨾◌}
 
 abbrev pub queue_at : State → ℕ → Option Queue
 queue_at s id = finite.get s.queues.objects id
@@ -36,8 +37,8 @@ with_message queue client now message = record queue {
 abbrev pub send_found : State → ℕ → ℕ → ℕ → Message → Option Queue → Plan State
 send_found s client id flags message queue = found queue BadId _ (λ queue.
     Needs (Permission queue.perm to_alter)
-    ⨾ GoesOn (not (is_full queue.messages queue.qbytes (length message.text))) flags QueueFull _
-    ⨾ Serve Done (with_changed s id (with_message queue client s.clock message)))
+    ⨾ Proceeds (not (is_full queue.messages queue.qbytes (length message.text))) flags QueueFull _
+    ⨾ Grant Done (with_changed s id (with_message queue client s.clock message)))
 
 -- the type is at least 1, and the text at most MSGMAX long, whatever the identifier
 abbrev pub send_message : State → ℕ → ℕ → ℕ → Message → Plan State
@@ -45,13 +46,6 @@ send_message s client id flags message =
     Passes (int_le (pos 1) message.mtype) BadType _
     ⨾ Passes (nat_le (length message.text) s.limits.msg_max) TextTooLong _
     ⨾ send_found s client id flags message (queue_at s id)
-
--- MSG_NOERROR is 010000, MSG_EXCEPT is 020000
-abbrev pub cuts : ℕ → Bool
-cuts flags = not (bit_and flags 4096 == 0)
-
-abbrev pub excepts : ℕ → Bool
-excepts flags = not (bit_and flags 8192 == 0)
 
 -- msgrcv: the message at the position leaves, msg_lrpid and msg_rtime are set
 abbrev pub without_message : Queue → ℕ → ℕ → ℕ → Queue
@@ -63,18 +57,21 @@ without_message queue client now position = record queue {
 
 -- the message that a receiver takes, with its position
 abbrev pub chosen : List Message → ℤ → Bool → Option (ℕ × Message)
-chosen messages msgtyp except = option_and_then (λ position. option_map (λ message. (position, message)) (slice_get messages position)) (select messages msgtyp except)
+chosen messages msgtyp except =
+    option_and_then (λ position. option_map (λ message. (position, message)) (slice_get messages position))
+    (select messages msgtyp except)
 
 -- a text longer than asked for stays in the queue, or with MSG_NOERROR it is cut, and the rest is lost
 abbrev pub take_chosen : State → ℕ → ℕ → ℕ → ℕ → Queue → Option (ℕ × Message) → Plan State
 take_chosen s client id size flags queue taken = awaited taken flags NoMessage _ (λ taken.
-    Passes (nat_le (length taken.1.text) size || cuts flags) MessageTooLong _
-    ⨾ Serve (MessageAnswer taken.1.mtype (take size taken.1.text)) (with_changed s id (without_message queue client s.clock taken.0)))
+    Passes (nat_le (length taken.1.text) size || has_flag flags msg_noerror) MessageTooLong _
+    ⨾ Grant (MessageAnswer taken.1.mtype (take size taken.1.text))
+    (with_changed s id (without_message queue client s.clock taken.0)))
 
 abbrev pub receive_found : State → ℕ → ℕ → ℕ → ℤ → ℕ → Option Queue → Plan State
 receive_found s client id size msgtyp flags queue = found queue BadId _ (λ queue.
     Needs (Permission queue.perm to_read)
-    ⨾ take_chosen s client id size flags queue (chosen queue.messages msgtyp (excepts flags)))
+    ⨾ take_chosen s client id size flags queue (chosen queue.messages msgtyp (has_flag flags msg_except)))
 
 abbrev pub receive_message : State → ℕ → ℕ → ℕ → ℤ → ℕ → Plan State
 receive_message s client id size msgtyp flags = receive_found s client id size msgtyp flags (queue_at s id)

@@ -1,6 +1,7 @@
--- The plan of a call: its checks in their order, and what it does where all pass (the order is the project's own where POSIX
--- leaves it open).
-use Rattle.std.specs.Prelude.{◌==◌, ℕ, Bool, true, false, not, T, List, [], ◌∷◌, Option, Some, None, is_none, if◌then◌else◌, bit_and}
+-- The plan of a call: its checks in their order, and what it does where all pass (the order is the project's own where
+-- POSIX leaves it open).
+use Rattle.std.specs.Prelude.{ℕ, Bool, true, false, not, T, List, [], ◌∷◌, Option, Some, None, is_none, if◌then◌else◌}
+use Rattle.ipc_call.specs.Flags.{has_flag, ipc_nowait}
 use Rattle.ipc_call.specs.declared.rules.Rule.{Rule}
 use Rattle.ipc_call.specs.declared.rules.Rule.TheVariants.{NotOwner, NeedsResource, NotSameUser, OwnerBits, GroupBits, OtherBits}
 use Rattle.ipc_call.specs.declared.replies.Answer.{Answer}
@@ -23,28 +24,28 @@ is_denial rule = false
 abbrev pub IsPlain : Rule → Type 0
 IsPlain rule = T (not (is_denial rule))
 
--- it passes, or the rule refuses; or the caller meets a need, or its denial refuses; or the call goes on now, or else it waits,
--- and with IPC_NOWAIT, 04000, the rule refuses
+-- it passes, or the rule refuses; or the caller meets a need, or its denial refuses; or the call can proceed now, or
+-- else it waits, and with IPC_NOWAIT the rule refuses
 pub data Check : Type 0 where
   Passes : (passes : Bool) (rule : Rule) (plain : IsPlain rule) → Check
   Needs : (need : Need) → Check
-  GoesOn : (goes_on : Bool) (flags : ℕ) (rule : Rule) (plain : IsPlain rule) → Check
+  Proceeds : (proceeds : Bool) (flags : ℕ) (rule : Rule) (plain : IsPlain rule) → Check
 
--- the first check that doesn't pass decides; where all do, the end of the plan. What is served is an answer, and what the
--- call changes is new
+-- the first check that doesn't pass decides; where all do, the end of the plan. What a call is
+-- granted is an answer, and what it changes is new
 infixr 5 ◌⨾◌
 pub data Plan (X : Type 0) : Type 0 where
   ◌⨾◌ : (check : Check) (rest : Plan X) → Plan X
   Refuse : (rule : Rule) (plain : IsPlain rule) → Plan X
   Wait : Plan X
-  Serve : (answer : Answer) (new : X) → Plan X
+  Grant : (answer : Answer) (new : X) → Plan X
 
 -- the same on a whole, of which it changes a part
 abbrev pub on_part : {X Y : Type 0} → (X → Y) → Plan X → Plan Y
 on_part put (check ⨾ rest) = check ⨾ on_part put rest
 on_part put (Refuse rule plain) = Refuse rule plain
 on_part put Wait = Wait
-on_part put (Serve answer new) = Serve answer (put new)
+on_part put (Grant answer new) = Grant answer (put new)
 
 -- several checks, and then the rest
 abbrev pub in_order : {X : Type 0} → List Check → Plan X → Plan X
@@ -58,7 +59,7 @@ found (Some x) rule plain rest = rest x
 
 -- what is looked for is there, or the call waits, and with IPC_NOWAIT the rule refuses
 abbrev pub awaited : {X Y : Type 0} → Option X → ℕ → (rule : Rule) → IsPlain rule → (X → Plan Y) → Plan Y
-awaited None flags rule plain rest = GoesOn false flags rule plain ⨾ Wait
+awaited None flags rule plain rest = Proceeds false flags rule plain ⨾ Wait
 awaited (Some x) flags rule plain rest = rest x
 
 abbrev pub unless : {X : Type 0} → Option Rule → Decision X → Decision X
@@ -66,32 +67,32 @@ unless None rest = rest
 unless (Some rule) rest = decisions.Refuse rule
 
 abbrev pub or_wait : {X : Type 0} → ℕ → Rule → Decision X
-or_wait flags rule = if bit_and flags 2048 == 0 then decisions.Wait else decisions.Refuse rule
+or_wait flags rule = if has_flag flags ipc_nowait then decisions.Refuse rule else decisions.Wait
 
 abbrev pub by_check : {X : Type 0} → Credentials → Check → Decision X → Decision X
 by_check c (Passes passes rule plain) rest = if passes then rest else decisions.Refuse rule
 by_check c (Needs need) rest = unless (denial c need) rest
-by_check c (GoesOn goes_on flags rule plain) rest = if goes_on then rest else or_wait flags rule
+by_check c (Proceeds proceeds flags rule plain) rest = if proceeds then rest else or_wait flags rule
 
 -- what these credentials get by the plan
 abbrev pub decision : {X : Type 0} → Credentials → Plan X → Decision X
 decision c (check ⨾ rest) = by_check c check (decision c rest)
 decision c (Refuse rule plain) = decisions.Refuse rule
 decision c Wait = decisions.Wait
-decision c (Serve answer new) = decisions.Serve answer new
+decision c (Grant answer new) = decisions.Grant answer new
 
 -- the checks of a plan, and the needs among them
 abbrev pub checks_in : {X : Type 0} → Plan X → List Check
 checks_in (check ⨾ rest) = check ∷ checks_in rest
 checks_in (Refuse rule plain) = []
 checks_in Wait = []
-checks_in (Serve answer new) = []
+checks_in (Grant answer new) = []
 
 abbrev pub needs_among : List Check → List Need
 needs_among [] = []
 needs_among (Passes passes rule plain ∷ cs) = needs_among cs
 needs_among (Needs need ∷ cs) = need ∷ needs_among cs
-needs_among (GoesOn goes_on flags rule plain ∷ cs) = needs_among cs
+needs_among (Proceeds proceeds flags rule plain ∷ cs) = needs_among cs
 
 abbrev pub needs_in : {X : Type 0} → Plan X → List Need
 needs_in plan = needs_among (checks_in plan)
@@ -99,4 +100,4 @@ needs_in plan = needs_among (checks_in plan)
 abbrev pub does_pass : Credentials → Check → Bool
 does_pass c (Passes passes rule plain) = passes
 does_pass c (Needs need) = is_none (denial c need)
-does_pass c (GoesOn goes_on flags rule plain) = goes_on
+does_pass c (Proceeds proceeds flags rule plain) = proceeds

@@ -1,5 +1,6 @@
 -- Message queues: msgget(2), POSIX.1-2017 XSH msgget.
-use Rattle.std.specs.Prelude.{ℕ, ◌%◌, ◌==◌, Bool, not, ◌&&◌, List, [], ◌∷◌, map, Option, Some, None, if◌then◌else◌, bit_and}
+use Rattle.std.specs.Prelude.{ℕ, ◌%◌, ◌==◌, Bool, not, ◌&&◌, List, [], ◌∷◌, map, Option, Some, None, if◌then◌else◌}
+use Rattle.ipc_call.specs.Flags.{has_flag, ipc_creat, ipc_excl}
 use Rattle.ipc_call.specs.declared.rules.Rule.TheVariants.{NoKey, KeyExists, NoSlot}
 use Rattle.ipc_call.specs.declared.replies.Answer.TheVariants.{Id}
 use Rattle.ipc_creds.specs.Credentials.{Credentials}
@@ -7,14 +8,7 @@ use Rattle.ipc_perm.specs.declared.perms.Perm.{Perm}
 use Rattle.ipc_perm.specs.Access.{Need, Permission, asked_of, denial}
 use Rattle.ipc_ids.specs.Table.{next_id, with_object}
 use Rattle.ipc_model.specs.State.{Queue, State, queue_with_key}
-use Rattle.ipc_model.specs.Plan.{Needs, Passes, Plan, Serve, found, ◌⨾◌}
-
--- IPC_CREAT is 01000, IPC_EXCL is 02000
-abbrev pub asks_to_make : ℕ → Bool
-asks_to_make flags = not (bit_and flags 512 == 0)
-
-abbrev pub asks_alone : ℕ → Bool
-asks_alone flags = not (bit_and flags 1024 == 0)
+use Rattle.ipc_model.specs.Plan.{Needs, Passes, Plan, Grant, found, ◌⨾◌}
 
 -- the caller is owner and creator, the mode is the low nine bits of the flags, pids and times are 0 but
 -- msg_ctime, which is the clock
@@ -31,14 +25,16 @@ new_queue s c key flags = record {
 }
 
 abbrev pub make_queue : State → Credentials → ℕ → ℕ → Plan State
-make_queue s c key flags = found (next_id s.queues) NoSlot _ (λ id. Serve (Id id) (record s { queues = with_object s.queues id (new_queue s c key flags) }))
+make_queue s c key flags =
+    found (next_id s.queues) NoSlot _
+    (λ id. Grant (Id id) (record s { queues = with_object s.queues id (new_queue s c key flags) }))
 
 abbrev pub get_found : State → Credentials → ℕ → ℕ → Option (ℕ × Perm) → Plan State
-get_found s c key flags None = Passes (asks_to_make flags) NoKey _ ⨾ make_queue s c key flags
+get_found s c key flags None = Passes (has_flag flags ipc_creat) NoKey _ ⨾ make_queue s c key flags
 get_found s c key flags (Some there) =
-    Passes (not (asks_to_make flags && asks_alone flags)) KeyExists _
+    Passes (not (has_flag flags ipc_creat && has_flag flags ipc_excl)) KeyExists _
     ⨾ Needs (Permission there.1 (asked_of flags))
-    ⨾ Serve (Id there.0) s
+    ⨾ Grant (Id there.0) s
 
 -- key 0 is IPC_PRIVATE, and always makes a queue
 abbrev pub get_queue : State → Credentials → ℕ → ℕ → Plan State

@@ -1,6 +1,6 @@
 -- The state of a namespace (POSIX.1-2017 XSH 2.7).
 use Rattle.std.specs.Prelude.{ℕ, ◌+◌, ◌==◌, Bool, not, ◌&&◌, List, [], Option, option_map, slice_index_or}
-use Rattle.std.specs.List.{list_any}
+use Rattle.std.specs.List.{find, list_any}
 use Rattle.ipc_call.specs.declared.limits.Limits.{Limits}
 use Rattle.ipc_call.specs.declared.replies.Waiting.{Waiting}
 use Rattle.ipc_creds.specs.Credentials.{Credentials}
@@ -8,8 +8,8 @@ use Rattle.ipc_perm.specs.declared.perms.Perm.{Perm}
 use Rattle.ipc_ids.specs.Table.{Table, empty_table, find_object}
 use Rattle.msg_queue.specs.declared.messages.Message.{Message}
 
--- a message queue, its msqid_ds (msgctl(2)): permissions, messages, msg_qbytes, msg_lspid and msg_lrpid, msg_stime, msg_rtime
--- and msg_ctime
+-- a message queue, its msqid_ds (msgctl(2)): permissions, messages, msg_qbytes, msg_lspid and msg_lrpid, msg_stime,
+-- msg_rtime and msg_ctime
 pub record Queue : Type 0 where
   pub perm : Perm
   pub messages : List Message
@@ -30,7 +30,14 @@ pub record State : Type 0 where
 
 -- a namespace before its first event
 abbrev pub opening : Limits → List Credentials → State
-opening limits clients = record { limits = limits; clients = clients; clock = 0; queues = empty_table limits.slots limits.first_seq; parked = [] }
+opening limits clients =
+    record {
+      limits = limits;
+      clients = clients;
+      clock = 0;
+      queues = empty_table limits.slots limits.first_seq;
+      parked = [];
+    }
 
 -- the process of a client: its number plus 1, since pid 0 stands for none
 abbrev pub pid_of : ℕ → ℕ
@@ -45,6 +52,10 @@ creds_at s client = slice_index_or s.clients client nobody
 
 abbrev pub is_waiting : State → ℕ → Bool
 is_waiting s client = list_any (λ w. w.client == client) s.parked
+
+-- the client's call that waits
+abbrev pub waiting_of : State → ℕ → Option Waiting
+waiting_of s client = find (λ w. w.client == client) s.parked
 
 -- its ipc_perm holds the key, which isn't 0: 0 is IPC_PRIVATE, and finds no queue (msgget(2))
 abbrev pub has_key : ℕ → Queue → Bool

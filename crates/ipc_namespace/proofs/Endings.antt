@@ -1,54 +1,70 @@
--- The waiting calls that a granted call ends: the code ends the first until none is left, the definition filters the list.
-use Rattle.std.proofs.Common.{◌≡◌, ℕ, ℤ, zero, suc, ◌+◌, ◌<◌, true, List, [], ◌∷◌, ◌++◌, cond, length, refl, sym, ap, subst, ◌∙◌, arith, Option, Some, None, Err}
-use Rattle.std.specs.Prelude.{remove, slice_get, is_none, IfSome}
-use Rattle.std.proofs.lemmas.Option.{none-some, same_Some, slice_get_within}
-use Rattle.std.proofs.lemmas.List.Edits.{length-remove}
+-- The waiting calls that a granted call cancels: the code ends the first until none is left, the definition filters the list.
+use Rattle.std.proofs.Common.{◌≡◌, ℕ, ℤ, ◌+◌, true, false, List, [], ◌∷◌, ◌++◌, cond, length, append_assoc, refl, sym, ap, subst, ◌∙◌, ⊎_elim, Option, Some, None, Err}
+use Rattle.std.specs.Prelude.{is_none, is_some, IfSome}
+use Rattle.std.specs.List.{find, AllByRecursion}
+use Rattle.std.proofs.lemmas.Bool.{cases_Bool, true≢false}
+use Rattle.ipc_call.specs.Flags.{has_flag, msg_except}
 use Rattle.ipc_call.specs.declared.calls.Call.{Call}
 use Rattle.ipc_call.specs.declared.replies.Waiting.{Waiting}
 use Rattle.ipc_call.specs.declared.replies.Ended.{Ended}
 use Rattle.ipc_call.specs.declared.rules.Rule.{Rule}
 use Rattle.ipc_perm.specs.Access.{Permission}
 use Rattle.msg_queue.specs.declared.messages.Message.{Message}
-use Rattle.ipc_model.specs.State.{Queue, State, creds_at, is_waiting}
+use Rattle.ipc_model.specs.State.{Queue, State, creds_at, is_waiting, waiting_of}
 use Rattle.ipc_model.specs.Plan.{needs_in}
-use Rattle.ipc_model.specs.Messages.{chosen, excepts, receive_found, take_chosen, to_read}
+use Rattle.ipc_model.specs.Messages.{chosen, receive_found, take_chosen, to_read}
 use Rattle.ipc_model.specs.Decide.{needs, plan}
 use Rattle.ipc_namespace.proofs.Plans.{needs-blank}
 use Rattle.ipc_namespace.proofs.Deciding.{plan-alike}
-use Rattle.ipc_model.specs.Forced.{first_denial, waits_on}
-use Rattle.ipc_model.specs.Step.{told_forced, without}
-use Rattle.ipc_namespace.specs.declared.forcing.Forcing.{Forcing}
-use Rattle.ipc_namespace.specs.declared.forcing.Forcing.TheVariants as forcings
-use Rattle.ipc_namespace.specs.Namespace.{ended_as, forced_as, left_by, needs_for, place_of}
-use Rattle.ipc_namespace.proofs.Places.{own-at}
-
--- none of the calls before this place ends
-abbrev pub NoneBefore : (Waiting → Option Rule) → List Waiting → ℕ → Type 0
-NoneBefore rule ws place = (k : ℕ) → k < place → IfSome (slice_get ws k) (λ w. rule w ≡ None)
+use Rattle.ipc_model.specs.Cancelled.{first_denial, waits_on}
+use Rattle.ipc_model.specs.Step.{told_cancelled, without}
+use Rattle.ipc_namespace.specs.declared.cancelling.Cancelling.{Cancelling}
+use Rattle.ipc_namespace.specs.declared.cancelling.Cancelling.TheVariants as cancellings
+use Rattle.ipc_namespace.specs.Namespace.{ended_as, cancelled_as, left_by, needs_for}
+use Rattle.ipc_parked.specs.Parked.{AreApart}
+use Rattle.ipc_namespace.proofs.Own.{At, found-at, found-none, length-others, others, own-there}
 
 module _ (rule : Waiting → Option Rule) where
-  pub left-first : (ws : List Waiting) (k : ℕ) (w : Waiting) (r : Rule) → slice_get ws k ≡ Some w → rule w ≡ Some r → left_by rule ws ≡ left_by rule (remove ws k)
-  left-first [] k w r here is = absurd (none-some w here)
-  left-first (v ∷ ws) zero w r here is = ap (λ o. cond (is_none o) (v ∷ left_by rule ws) (left_by rule ws)) (ap rule (same_Some v w here) ∙ is)
-  left-first (v ∷ ws) (suc k) w r here is = ap (λ ls. cond (is_none (rule v)) (v ∷ ls) ls) (left-first ws k w r here is)
+  left-append : (vs ws : List Waiting) → left_by rule (vs ++ ws) ≡ left_by rule vs ++ left_by rule ws
+  left-append [] ws = refl
+  left-append (v ∷ vs) ws =
+      ⊎_elim
+      (λ (none : is_none (rule v) ≡ true). rw none (ap (λ us. v ∷ us) (left-append vs ws)))
+      (λ (some : is_none (rule v) ≡ false). rw some (left-append vs ws))
+      (cases_Bool (is_none (rule v)))
 
-  pub ended-first : (ws : List Waiting) (k : ℕ) (w : Waiting) (r : Rule) → slice_get ws k ≡ Some w → rule w ≡ Some r → NoneBefore rule ws k
-      → ended_as rule ws ≡ record { client = w.client; outcome = Err r } ∷ ended_as rule (remove ws k)
-  ended-first [] k w r here is before = absurd (none-some w here)
-  ended-first (v ∷ ws) zero w r here is before =
-      ap (λ o. told_forced v.client o ++ ended_as rule ws) (ap rule (same_Some v w here) ∙ is) ∙ ap (λ (u : Waiting). told_forced u.client (Some r) ++ ended_as rule ws) (same_Some v w here)
-  ended-first (v ∷ ws) (suc k) w r here is before =
-      let none : rule v ≡ None = before 0 (omega arith) in
-      ap (λ o. told_forced v.client o ++ ended_as rule ws) none ∙ ended-first ws k w r here is (λ j below. before (suc j) (omega (arith, below)))
-      ∙ sym (ap (λ o. told_forced w.client (Some r) ++ (told_forced v.client o ++ ended_as rule (remove ws k))) none)
+  ended-append : (vs ws : List Waiting) → ended_as rule (vs ++ ws) ≡ ended_as rule vs ++ ended_as rule ws
+  ended-append [] ws = refl
+  ended-append (v ∷ vs) ws = ap (λ es. told_cancelled v.client (rule v) ++ es) (ended-append vs ws) ∙ sym (append_assoc (told_cancelled v.client (rule v)) (ended_as rule vs) (ended_as rule ws))
 
-  pub left-none : (ws : List Waiting) → ((k : ℕ) → IfSome (slice_get ws k) (λ w. rule w ≡ None)) → left_by rule ws ≡ ws
+  pub left-none : (ws : List Waiting) → AllByRecursion (λ w. rule w ≡ None) ws → left_by rule ws ≡ ws
   left-none [] none = refl
-  left-none (v ∷ ws) none = ap (λ o. cond (is_none o) (v ∷ left_by rule ws) (left_by rule ws)) (none 0) ∙ ap (λ ls. v ∷ ls) (left-none ws (λ k. none (suc k)))
+  left-none (v ∷ ws) none = ap (λ o. cond (is_none o) (v ∷ left_by rule ws) (left_by rule ws)) none.0 ∙ ap (λ ls. v ∷ ls) (left-none ws none.1)
 
-  pub ended-none : (ws : List Waiting) → ((k : ℕ) → IfSome (slice_get ws k) (λ w. rule w ≡ None)) → ended_as rule ws ≡ []
+  pub ended-none : (ws : List Waiting) → AllByRecursion (λ w. rule w ≡ None) ws → ended_as rule ws ≡ []
   ended-none [] none = refl
-  ended-none (v ∷ ws) none = ap (λ o. told_forced v.client o ++ ended_as rule ws) (none 0) ∙ ended-none ws (λ k. none (suc k))
+  ended-none (v ∷ ws) none = ap (λ o. told_cancelled v.client o ++ ended_as rule ws) none.0 ∙ ended-none ws none.1
+
+  none_from : (o : Option Rule) → is_some o ≡ false → o ≡ None
+  none_from None is = refl
+  none_from (Some r) is = absurd (true≢false is)
+
+  pub none_fails : (ws : List Waiting) → AllByRecursion (λ w. is_some (rule w) ≡ false) ws → AllByRecursion (λ w. rule w ≡ None) ws
+  none_fails [] fails = tt
+  none_fails (w ∷ ws) fails = (none_from (rule w) fails.0, none_fails ws fails.1)
+
+  -- the first call that ends leaves: what is left is the same, and what ends has one less
+  module _ (ws : List Waiting) (w : Waiting) (r : Rule) (is : rule w ≡ Some r) (at : At (λ v. is_some (rule v)) ws w) where
+    pub left-first : left_by rule ws ≡ left_by rule (others w.client ws)
+    left-first =
+        ap (left_by rule) at.is ∙ left-append at.before (w ∷ at.after) ∙ ap (λ o. left_by rule at.before ++ cond (is_none o) (w ∷ left_by rule at.after) (left_by rule at.after)) is
+        ∙ sym (left-append at.before at.after) ∙ ap (left_by rule) (sym at.left)
+
+    pub ended-first : ended_as rule ws ≡ record { client = w.client; outcome = Err r } ∷ ended_as rule (others w.client ws)
+    ended-first =
+        let before = ended-none at.before (none_fails at.before at.fails) in
+        ap (ended_as rule) at.is ∙ ended-append at.before (w ∷ at.after) ∙ ap (λ es. es ++ ended_as rule (w ∷ at.after)) before ∙ ap (λ o. told_cancelled w.client o ++ ended_as rule at.after) is
+        ∙ ap (λ es. record { client = w.client; outcome = Err r } ∷ es) (sym (ap (ended_as rule) at.left ∙ ended-append at.before at.after ∙ ap (λ es. es ++ ended_as rule at.after) before))
 
 -- what a call needs, and so what ends, doesn't depend on the waiting list
 module _ (s : State) (parked : List Waiting) where
@@ -58,13 +74,13 @@ module _ (s : State) (parked : List Waiting) where
   pub needs-alike : (client : ℕ) (call : Call) → needs other client call ≡ needs s client call
   needs-alike client call = needs-blank (plan other client call) (plan s client call) (plan-alike s parked s.clock client call)
 
-  forced_as-alike : (forcing : Forcing) (w : Waiting) → forced_as other forcing w ≡ forced_as s forcing w
-  forced_as-alike (forcings.Denied kind id) w = ap (λ ns. cond (waits_on kind id w.call) (first_denial (creds_at s w.client) ns) None) (needs-alike w.client w.call)
-  forced_as-alike (forcings.Removed kind id) w = refl
-  forced_as-alike (forcings.Interrupted pid) w = refl
+  cancelled_as-alike : (cancelling : Cancelling) (w : Waiting) → cancelled_as other cancelling w ≡ cancelled_as s cancelling w
+  cancelled_as-alike (cancellings.Denied kind id) w = ap (λ ns. cond (waits_on kind id w.call) (first_denial (creds_at s w.client) ns) None) (needs-alike w.client w.call)
+  cancelled_as-alike (cancellings.Removed kind id) w = refl
+  cancelled_as-alike (cancellings.Interrupted pid) w = refl
 
-  pub same_rule : (forcing : Forcing) → forced_as other forcing ≡ forced_as s forcing
-  same_rule forcing = λ i w. forced_as-alike forcing w i
+  pub same_rule : (cancelling : Cancelling) → cancelled_as other cancelling ≡ cancelled_as s cancelling
+  same_rule cancelling = λ i w. cancelled_as-alike cancelling w i
 
 -- a receiver needs to read, whatever it finds
 taken-needs : (s : State) (client id size flags : ℕ) (queue : Queue) (taken : Option (ℕ × Message)) → needs_in (take_chosen s client id size flags queue taken) ≡ []
@@ -73,37 +89,38 @@ taken-needs s client id size flags queue (Some taken) = refl
 
 pub received-needs : (s : State) (client id size : ℕ) (msgtyp : ℤ) (flags : ℕ) (queue : Option Queue) → needs_in (receive_found s client id size msgtyp flags queue) ≡ needs_for to_read queue
 received-needs s client id size msgtyp flags None = refl
-received-needs s client id size msgtyp flags (Some queue) = ap (λ ns. Permission queue.perm to_read ∷ ns) (taken-needs s client id size flags queue (chosen queue.messages msgtyp (excepts flags)))
+received-needs s client id size msgtyp flags (Some queue) = ap (λ ns. Permission queue.perm to_read ∷ ns) (taken-needs s client id size flags queue (chosen queue.messages msgtyp (has_flag flags msg_except)))
 
 IfSome-at : {A : Type 0} (o : Option A) (x : A) (P : A → Type 0) → o ≡ Some x → IfSome o P → P x
 IfSome-at o x P is p = subst (λ v. IfSome v P) is p
 
 -- one turn: the first call that ends leaves, and what is left to end is the rest
-module _ (initial s : State) (forcing : Forcing) (rest : s ≡ record initial { parked = s.parked }) where
+module _ (initial s : State) (cancelling : Cancelling) (rest : s ≡ record initial { parked = s.parked }) where
   abbrev f0 : Waiting → Option Rule
-  f0 = forced_as initial forcing
+  f0 = cancelled_as initial cancelling
 
-  rule-same : forced_as s forcing ≡ f0
-  rule-same = ap (λ (t : State). forced_as t forcing) rest ∙ same_rule initial s.parked forcing
+  rule-same : cancelled_as s cancelling ≡ f0
+  rule-same = ap (λ (t : State). cancelled_as t cancelling) rest ∙ same_rule initial s.parked cancelling
 
-  pub force-turn : (new : State) (client : ℕ) (rule : Rule) (e : Ended) → is_waiting s client ≡ true → IfSome (slice_get s.parked (place_of client s.parked)) (λ w. forced_as s forcing w ≡ Some rule)
-      → NoneBefore (forced_as s forcing) s.parked (place_of client s.parked) → new ≡ without s (place_of client s.parked) → e ≡ record { client = client; outcome = Err rule }
+  pub cancel-turn : (new : State) (client : ℕ) (rule : Rule) (e : Ended) → AreApart s.parked → is_waiting s client ≡ true
+      → find (λ w. is_some (cancelled_as s cancelling w)) s.parked ≡ waiting_of s client → IfSome (waiting_of s client) (λ w. cancelled_as s cancelling w ≡ Some rule)
+      → new ≡ without s client → e ≡ record { client = client; outcome = Err rule }
       → (new ≡ record initial { parked = new.parked }) × (left_by f0 s.parked ≡ left_by f0 new.parked) × (ended_as f0 s.parked ≡ e ∷ ended_as f0 new.parked) × (length new.parked + 1 ≡ length s.parked)
-  force-turn new client rule e waits is before left told =
-      let place = place_of client s.parked in
-      let there = own-at client s.parked waits in
+  cancel-turn new client rule e apart waits first is left told =
+      let there = own-there client s.parked waits in
       let w = there.0 in
-      let ends : f0 w ≡ Some rule = ap (λ (f : Waiting → Option Rule). f w) (sym rule-same) ∙ IfSome-at (slice_get s.parked place) w (λ v. forced_as s forcing v ≡ Some rule) there.1 is in
-      let none : NoneBefore f0 s.parked place = subst (λ f. NoneBefore f s.parked place) rule-same before in
-      let parked : new.parked ≡ remove s.parked place = ap (λ (t : State). t.parked) left in (
-        left ∙ ap (λ (t : State). record t { parked = remove s.parked place }) rest ∙ ap (λ ws. record initial { parked = ws }) (sym parked),
-        left-first f0 s.parked place w rule there.1 ends ∙ ap (left_by f0) (sym parked),
-        ended-first f0 s.parked place w rule there.1 ends none ∙ ap (λ (x : Ended). x ∷ ended_as f0 (remove s.parked place)) (λ i. record { client = there.2 i; outcome = Err rule }) ∙ ap (λ (x : Ended). x ∷ ended_as f0 (remove s.parked place)) (sym told) ∙ ap (λ ws. e ∷ ended_as f0 ws) (sym parked),
-        ap (λ ws. length ws + 1) parked ∙ length-remove s.parked place (slice_get_within s.parked place w there.1),
+      let ends : f0 w ≡ Some rule = ap (λ (f : Waiting → Option Rule). f w) (sym rule-same) ∙ IfSome-at (waiting_of s client) w (λ v. cancelled_as s cancelling v ≡ Some rule) there.1 is in
+      let at : At (λ v. is_some (f0 v)) s.parked w = subst (λ (f : Waiting → Option Rule). At (λ v. is_some (f v)) s.parked w) rule-same (found-at (λ v. is_some (cancelled_as s cancelling v)) s.parked w apart (first ∙ there.1)) in
+      let parked : new.parked ≡ others w.client s.parked = ap (λ (t : State). t.parked) left ∙ ap (λ k. others k s.parked) (sym there.2) in (
+        left ∙ ap (λ (t : State). record t { parked = others client s.parked }) rest ∙ ap (λ ws. record initial { parked = ws }) (sym (ap (λ (t : State). t.parked) left)),
+        left-first f0 s.parked w rule ends at ∙ ap (left_by f0) (sym parked),
+        ended-first f0 s.parked w rule ends at ∙ ap (λ (x : Ended). x ∷ ended_as f0 (others w.client s.parked)) (λ i. record { client = there.2 i; outcome = Err rule })
+            ∙ ap (λ (x : Ended). x ∷ ended_as f0 (others w.client s.parked)) (sym told) ∙ ap (λ ws. e ∷ ended_as f0 ws) (sym parked),
+        ap (λ (t : State). length t.parked + 1) left ∙ length-others s.parked client w apart there.1 there.2,
       )
 
   -- the last: nothing is left to end
-  pub force-over : ((k : ℕ) → IfSome (slice_get s.parked k) (λ w. forced_as s forcing w ≡ None)) → (left_by f0 s.parked ≡ s.parked) × (ended_as f0 s.parked ≡ [])
-  force-over none =
-      let all : (k : ℕ) → IfSome (slice_get s.parked k) (λ w. f0 w ≡ None) = subst (λ (f : Waiting → Option Rule). (k : ℕ) → IfSome (slice_get s.parked k) (λ w. f w ≡ None)) rule-same none in
+  pub cancel-over : find (λ w. is_some (cancelled_as s cancelling w)) s.parked ≡ None → (left_by f0 s.parked ≡ s.parked) × (ended_as f0 s.parked ≡ [])
+  cancel-over none =
+      let all = none_fails f0 s.parked (subst (λ (f : Waiting → Option Rule). AllByRecursion (λ w. is_some (f w) ≡ false) s.parked) rule-same (found-none (λ w. is_some (cancelled_as s cancelling w)) s.parked none)) in
       (left-none f0 s.parked all, ended-none f0 s.parked all)

@@ -1,10 +1,9 @@
-pub mod Plans
 pub mod Deciding
 pub mod Endings
 pub mod Granting
-pub mod Kept
 pub mod Moving
+pub mod Own
 pub mod Parked
-pub mod Places
+pub mod Plans
 pub mod Reserved
 pub mod Settling

@@ -1,8 +1,8 @@
 -- The calls that wait: what is true of each, when one leaves and when one comes, and that they are few.
-use Rattle.std.proofs.Common.{◌≡◌, ℕ, zero, suc, ◌<◌, ◌≤◌, Bool, true, false, eqb, List, [], ◌∷◌, ◌++◌, map, length, refl, sym, ap, subst, Some, ⊎_elim}
-use Rattle.std.specs.Prelude.{◌==◌, slice_get, remove}
-use Rattle.std.specs.List.{list_any, IsDistinct, AllByRecursion}
-use Rattle.std.proofs.lemmas.Bool.{or_parts, or_from, or_cases, eqb-true, eqb-false, ne_eqb, false≢true}
+use Rattle.std.proofs.Common.{◌≡◌, ℕ, suc, ◌<◌, ◌≤◌, Bool, true, false, eqb, List, [], ◌∷◌, ◌++◌, map, length, refl, sym, ap, subst, Some, ⊎_elim}
+use Rattle.std.specs.Prelude.{◌==◌, filter}
+use Rattle.std.specs.List.{find, list_any, IsDistinct, AllByRecursion}
+use Rattle.std.proofs.lemmas.Bool.{cases_Bool, or_parts, or_from, or_cases, eqb-true, eqb-false, ne_eqb, false≢true}
 use Rattle.std.proofs.lemmas.Option.{none-some, same_Some}
 use Rattle.std.proofs.lemmas.Map.Steps.{length-le_from_distinct_below}
 use Rattle.ipc_call.specs.declared.replies.Waiting.{Waiting}
@@ -17,16 +17,22 @@ none_parked n [] e = (tt, tt)
 none_parked n (w ∷ ws) e = cc
 
 module _ (P : Waiting → Type 0) where
-  all-at : (ws : List Waiting) (k : ℕ) (w : Waiting) → AllByRecursion P ws → slice_get ws k ≡ Some w → P w
-  all-at [] k w all is = absurd (none-some w is)
-  all-at (v ∷ ws) zero w all is = subst P (same_Some v w is) all.0
-  all-at (v ∷ ws) (suc k) w all is = all-at ws k w all.1 is
+  -- of what was found
+  pub all-found : (test : Waiting → Bool) (ws : List Waiting) (w : Waiting) → AllByRecursion P ws → find test ws ≡ Some w → P w
+  all-found test [] w all found = absurd (none-some w found)
+  all-found test (v ∷ ws) w all found =
+      ⊎_elim
+      (λ (yes : test v ≡ true). let first : Some v ≡ Some w = rw yes at found in subst P (same_Some v w first) all.0)
+      (λ (no : test v ≡ false). let later : find test ws ≡ Some w = rw no at found in all-found test ws w all.1 later)
+      (cases_Bool (test v))
 
-  all-remove : (ws : List Waiting) (k : ℕ) → AllByRecursion P ws → AllByRecursion P (remove ws k)
-  all-remove [] zero all = tt
-  all-remove [] (suc k) all = tt
-  all-remove (w ∷ ws) zero all = all.1
-  all-remove (w ∷ ws) (suc k) all = (all.0, all-remove ws k all.1)
+  pub all-filter : (test : Waiting → Bool) (ws : List Waiting) → AllByRecursion P ws → AllByRecursion P (filter test ws)
+  all-filter test [] all = tt
+  all-filter test (w ∷ ws) all =
+      ⊎_elim
+      (λ (yes : test w ≡ true). rw yes (all.0, all-filter test ws all.1))
+      (λ (no : test w ≡ false). rw no (all-filter test ws all.1))
+      (cases_Bool (test w))
 
   all-push : (ws : List Waiting) (w : Waiting) → AllByRecursion P ws → P w → AllByRecursion P (ws ++ w ∷ [])
   all-push [] w all p = (p, tt)
@@ -43,26 +49,30 @@ unfolding AreParked
 apart-parked n ws are = are.1
 
 -- a call that waits may wait, and its client is known
-pub parked_at : (n : ℕ) (ws : List Waiting) (k : ℕ) (w : Waiting) → AreParked n ws → slice_get ws k ≡ Some w → (w.client < n) × (can_wait w.call ≡ true)
-parked_at n ws k w are is = all-at (λ v. (v.client < n) × (can_wait v.call ≡ true)) ws k w (each-parked n ws are) is
+pub parked_found : (n : ℕ) (test : Waiting → Bool) (ws : List Waiting) (w : Waiting) → AreParked n ws → find test ws ≡ Some w → (w.client < n) × (can_wait w.call ≡ true)
+parked_found n test ws w are found = all-found (λ v. (v.client < n) × (can_wait v.call ≡ true)) test ws w (each-parked n ws are) found
 
-list_any-remove : (test : Waiting → Bool) (ws : List Waiting) (k : ℕ) → list_any test ws ≡ false → list_any test (remove ws k) ≡ false
-list_any-remove test [] zero none = refl
-list_any-remove test [] (suc k) none = refl
-list_any-remove test (w ∷ ws) zero none = (or_parts (test w) (list_any test ws) none).1
-list_any-remove test (w ∷ ws) (suc k) none =
-    let parts = or_parts (test w) (list_any test ws) none in or_from (test w) (list_any test (remove ws k)) parts.0 (list_any-remove test ws k parts.1)
+list_any-filter : (any test : Waiting → Bool) (ws : List Waiting) → list_any any ws ≡ false → list_any any (filter test ws) ≡ false
+list_any-filter any test [] none = refl
+list_any-filter any test (w ∷ ws) none =
+    let parts = or_parts (any w) (list_any any ws) none in
+    ⊎_elim
+    (λ (yes : test w ≡ true). rw yes (or_from (any w) (list_any any (filter test ws)) parts.0 (list_any-filter any test ws parts.1)))
+    (λ (no : test w ≡ false). rw no (list_any-filter any test ws parts.1))
+    (cases_Bool (test w))
 
-pub apart-remove : (ws : List Waiting) (k : ℕ) → AreApart ws → AreApart (remove ws k)
+pub apart-filter : (test : Waiting → Bool) (ws : List Waiting) → AreApart ws → AreApart (filter test ws)
 unfolding AreApart
-apart-remove [] zero apart = tt
-apart-remove [] (suc k) apart = tt
-apart-remove (w ∷ ws) zero apart = apart.1
-apart-remove (w ∷ ws) (suc k) apart = (list_any-remove (λ v. v.client == w.client) ws k apart.0, apart-remove ws k apart.1)
+apart-filter test [] apart = tt
+apart-filter test (w ∷ ws) apart =
+    ⊎_elim
+    (λ (yes : test w ≡ true). rw yes (list_any-filter (λ v. v.client == w.client) test ws apart.0, apart-filter test ws apart.1))
+    (λ (no : test w ≡ false). rw no (apart-filter test ws apart.1))
+    (cases_Bool (test w))
 
-pub AreParked-remove : (n : ℕ) (ws : List Waiting) (k : ℕ) → AreParked n ws → AreParked n (remove ws k)
+pub AreParked-filter : (n : ℕ) (test : Waiting → Bool) (ws : List Waiting) → AreParked n ws → AreParked n (filter test ws)
 unfolding AreParked
-AreParked-remove n ws k are = (all-remove (λ w. (w.client < n) × (can_wait w.call ≡ true)) ws k are.0, apart-remove ws k are.1)
+AreParked-filter n test ws are = (all-filter (λ w. (w.client < n) × (can_wait w.call ≡ true)) test ws are.0, apart-filter test ws are.1)
 
 list_any-push : (test : Waiting → Bool) (ws : List Waiting) (w : Waiting) → list_any test ws ≡ false → test w ≡ false → list_any test (ws ++ w ∷ []) ≡ false
 list_any-push test [] w none here = or_from (test w) false here refl

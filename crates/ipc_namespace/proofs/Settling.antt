@@ -1,18 +1,20 @@
--- The waiting calls that can go on: the code ends the first until none is left, the definition counts its turns down.
-use Rattle.std.proofs.Common.{◌≡◌, ℕ, zero, suc, ◌<◌, true, false, [], length, refl, sym, ap, ◌∙◌, arith, Option, Some, None}
-use Rattle.std.specs.Prelude.{option_map, slice_get, unwrap_or, IfSome}
-use Rattle.std.specs.List.{find}
-use Rattle.std.proofs.lemmas.Option.{slice_get_within}
+-- The waiting calls that can proceed: the code ends the first until none is left, the definition counts its turns down.
+use Rattle.std.proofs.Common.{◌≡◌, ℕ, zero, suc, ◌+◌, Bool, true, false, List, [], ◌∷◌, ◌++◌, length, refl, sym, ap, subst, ◌∙◌, arith, ⊎_elim, Option, Some, None, Err}
+use Rattle.std.specs.Prelude.{IfSome}
+use Rattle.std.specs.List.{find, AllByRecursion}
+use Rattle.std.proofs.lemmas.Bool.{cases_Bool}
+use Rattle.std.proofs.lemmas.Option.{none-some}
+use Rattle.ipc_call.specs.declared.calls.Call.{Call}
+use Rattle.ipc_call.specs.declared.rules.Rule.{Rule}
+use Rattle.ipc_call.specs.declared.replies.Ended.{Ended}
 use Rattle.ipc_call.specs.declared.replies.Waiting.{Waiting}
-use Rattle.ipc_model.specs.State.{State}
+use Rattle.ipc_model.specs.State.{State, is_waiting, waiting_of}
 use Rattle.ipc_model.specs.Decide.{decide}
-use Rattle.ipc_model.specs.Decision.{goes_on}
-use Rattle.ipc_model.specs.Step.{first_ready, is_ready, settle, settle_from, settled, without}
-use Rattle.ipc_ids.proofs.Least.{least_found, least_none, least_some}
-use Rattle.ipc_namespace.specs.Namespace.{AreParked, place_of}
-use Rattle.ipc_namespace.proofs.Deciding.{is_ready-at}
-use Rattle.ipc_namespace.proofs.Parked.{apart-parked, parked_at}
-use Rattle.ipc_namespace.proofs.Places.{found-first, found-none}
+use Rattle.ipc_model.specs.Decision.{Refuse, Wait, proceeds}
+use Rattle.ipc_model.specs.Step.{Moved, Outcome, and_then, at_time, end_waiting, enter, entered, first_ready, is_ready, own_of, settle, settle_from, settled, stepped}
+use Rattle.ipc_namespace.proofs.Deciding.{clock_alike, parked_alike}
+use Rattle.ipc_namespace.specs.Namespace.{moved_by}
+use Rattle.ipc_namespace.proofs.Own.{own-there}
 
 settle-none : (n : ℕ) (s : State) → first_ready s ≡ None → settle n s ≡ record { state = s; ended = [] }
 settle-none zero s none = refl
@@ -21,22 +23,58 @@ settle-none (suc n) s none = ap (λ o. settle_from (settle n) s o) none
 pub settled-none : (s : State) → first_ready s ≡ None → settled s ≡ record { state = s; ended = [] }
 settled-none s none = settle-none (length s.parked) s none
 
-pub ready_at : (s : State) (place : ℕ) → first_ready s ≡ Some place → (is_ready s place ≡ true) × (place < length s.parked)
-ready_at s place first = let found = least_found (λ k. is_ready s k) (length s.parked) 0 place first in (found.0, omega (arith, found.1))
+settle-some : (n k : ℕ) (s new : State) (w : Waiting) (e : Ended) → n ≡ suc k → first_ready s ≡ Some w → end_waiting s w ≡ record { state = new; ended = e ∷ [] }
+    → settle n s ≡ record { state = (settle k new).state; ended = e ∷ (settle k new).ended }
+settle-some n k s new w e is first ends = ap (λ j. settle j s) is ∙ ap (λ o. settle_from (settle k) s o) first ∙ ap (λ (m : Moved). and_then m (settle k)) ends
 
-not_ready-from : (s : State) (k : ℕ) (o : Option Waiting) → AreParked (length s.clients) s.parked → o ≡ slice_get s.parked k → IfSome o (λ w. goes_on (decide s w.client w.call) ≡ false) → is_ready s k ≡ false
-not_ready-from s k None are is waits = ap (λ o. unwrap_or (option_map (λ (w : Waiting). goes_on (decide (without s k) w.client w.call)) o) false) (sym is)
-not_ready-from s k (Some w) are is waits = is_ready-at s k w (sym is) (parked_at (length s.clients) s.parked k w are (sym is)).1 ∙ waits
+-- one turn: the first leaves, and the rest follows
+pub settled-turn : (s new : State) (client : ℕ) (e : Ended) → first_ready s ≡ waiting_of s client → is_waiting s client ≡ true
+    → IfSome (waiting_of s client) (λ w. end_waiting s w ≡ record { state = new; ended = e ∷ [] }) → length new.parked + 1 ≡ length s.parked
+    → settled s ≡ record { state = (settled new).state; ended = e ∷ (settled new).ended }
+settled-turn s new client e first waits ends shorter =
+    let own = own-there client s.parked waits in
+    let turn = subst (λ o. IfSome o (λ w. end_waiting s w ≡ record { state = new; ended = e ∷ [] })) own.1 ends in
+    let count : length s.parked ≡ suc (length new.parked) = omega (arith, shorter) in
+    settle-some (length s.parked) (length new.parked) s new own.0 e count (first ∙ own.1) turn
 
--- the first that goes on is the first that is ready
-pub ready-found : (s : State) (o : Option Waiting) → AreParked (length s.clients) s.parked → find (λ w. goes_on (decide s w.client w.call)) s.parked ≡ o
-    → option_map (λ client. place_of client s.parked) (option_map (λ w. w.client) o) ≡ first_ready s
-ready-found s None are found =
-    sym (least_none (λ k. is_ready s k) (length s.parked) 0 (λ k a b. not_ready-from s k (slice_get s.parked k) are refl (found-none (λ w. goes_on (decide s w.client w.call)) s.parked k found)))
-ready-found s (Some w) are found =
-    let first = found-first (λ v. goes_on (decide s v.client v.call)) s.parked w (apart-parked (length s.clients) s.parked are) found in
-    let k = place_of w.client s.parked in
-    let within = slice_get_within s.parked k w first.here in
-    sym
-    (least_some (λ j. is_ready s j) (length s.parked) 0 k (omega arith) (omega (arith, within)) (λ j a b. not_ready-from s j (slice_get s.parked j) are refl (first.before j b))
-    (is_ready-at s k w first.here (parked_at (length s.clients) s.parked k w are first.here).1 ∙ first.passes))
+found-last : (test : Waiting → Bool) (ws : List Waiting) (w : Waiting) → find test ws ≡ None → test w ≡ false → find test (ws ++ w ∷ []) ≡ None
+found-last test [] w none fails = rw fails refl
+found-last test (v ∷ ws) w none fails =
+    ⊎_elim
+    (λ (yes : test v ≡ true). let first : Some v ≡ None = rw yes at none in absurd (none-some v (sym first)))
+    (λ (no : test v ≡ false). let later : find test ws ≡ None = rw no at none in rw no (found-last test ws w later fails))
+    (cases_Bool (test v))
+
+-- a call that has to wait makes no other ready
+pub still_quiet : (s : State) (client : ℕ) (call : Call) → first_ready s ≡ None → proceeds (decide s client call) ≡ false → first_ready (record s { parked = s.parked ++ record { client = client; call = call } ∷ [] }) ≡ None
+still_quiet s client call quiet waits =
+    let w : Waiting = record { client = client; call = call } in
+    let longer = s.parked ++ w ∷ [] in
+    ap (λ test. find test longer) (λ i (v : Waiting). parked_alike s longer v.client v.call i) ∙ found-last (is_ready s) s.parked w quiet waits
+
+-- nor does the clock
+pub quiet-at_time : (s : State) (now : ℕ) → first_ready s ≡ None → first_ready (at_time s now) ≡ None
+quiet-at_time s now quiet = ap (λ test. find test s.parked) (λ i (w : Waiting). clock_alike s now w.client w.call i) ∙ quiet
+
+pub found-nothing : (test : Waiting → Bool) (ws : List Waiting) → AllByRecursion (λ w. test w ≡ false) ws → find test ws ≡ None
+found-nothing test [] fails = refl
+found-nothing test (w ∷ ws) fails = let no = fails.0 in rw no (found-nothing test ws fails.1)
+
+-- a call that isn't granted ends none where none is ready
+pub entered-refused : (s : State) (client : ℕ) (call : Call) (rule : Rule) → first_ready s ≡ None → decide s client call ≡ Refuse rule → enter s client call ≡ record { state = s; own = Some (Err rule); ended = [] }
+entered-refused s client call rule quiet is =
+    ap (entered s client call) is ∙ ap (λ (m : Moved). stepped (Some (Err rule)) m) (settled-none s quiet)
+
+pub entered-waiting : (s new : State) (client : ℕ) (call : Call) → first_ready s ≡ None → decide s client call ≡ Wait → new ≡ record s { parked = s.parked ++ record { client = client; call = call } ∷ [] }
+    → enter s client call ≡ record { state = new; own = None; ended = [] }
+entered-waiting s new client call quiet is same =
+    ap (entered s client call) is
+    ∙ ap (λ (m : Moved). stepped None m) (settled-none (record s { parked = s.parked ++ record { client = client; call = call } ∷ [] }) (still_quiet s client call quiet (ap proceeds is)) ∙ (λ i. record { state = sym same i; ended = [] }))
+
+pub entered-granted : (s t new : State) (client : ℕ) (call : Call) (own : Option Outcome) (first ended : List Ended) → t ≡ (moved_by s client call).state → first ≡ (moved_by s client call).ended
+    → own_of (decide s client call) ≡ own → new ≡ (settled t).state → ended ≡ first ++ (settled t).ended → enter s client call ≡ record { state = new; own = own; ended = ended }
+entered-granted s t new client call own first ended moved cancels is settles ends = λ i. record {
+  state = (ap (λ (u : State). (settled u).state) (sym moved) ∙ sym settles) i;
+  own = is i;
+  ended = (ap (λ (u : State). (moved_by s client call).ended ++ (settled u).ended) (sym moved) ∙ ap (λ es. es ++ (settled t).ended) (sym cancels) ∙ sym ends) i;
+}

@@ -1,9 +1,9 @@
 -- What is true of the calls that wait, and what a granted call ends of them.
-use Rattle.std.specs.Prelude.{◌≡◌, ℕ, suc, ◌+◌, ◌<◌, ◌==◌, Bool, true, false, List, [], ◌∷◌, filter, flat_map, is_none, Option, Some, None, if◌then◌else◌}
+use Rattle.std.specs.Prelude.{◌≡◌, ℕ, ◌+◌, ◌<◌, ◌==◌, Bool, true, false, List, [], ◌∷◌, filter, flat_map, is_none, Option, Some, None, if◌then◌else◌}
 use Rattle.std.specs.List.{AllByRecursion}
 use Rattle.ipc_call.specs.declared.replies.Waiting.{Waiting}
 use Rattle.ipc_call.specs.declared.calls.Call.{Call}
-use Rattle.ipc_call.specs.declared.calls.Call.TheVariants.{MsgGet, MsgSnd, MsgRcv, IpcStat, IpcSet, IpcRmid, Interrupt}
+use Rattle.ipc_call.specs.declared.calls.Call.TheVariants.{MsgSnd}
 use Rattle.ipc_call.specs.declared.replies.Ended.{Ended}
 use Rattle.ipc_call.specs.declared.rules.Rule.{Rule}
 use Rattle.ipc_call.specs.declared.rules.Rule.TheVariants.{Removed, Interrupted}
@@ -13,16 +13,11 @@ use Rattle.ipc_perm.specs.Access.{Need, Permission}
 use Rattle.ipc_perm.specs.declared.access.Want.{Want}
 use Rattle.ipc_model.specs.State.{Queue, State, creds_at, pid_of}
 use Rattle.ipc_model.specs.Decide.{can_wait, decide, needs}
-use Rattle.ipc_model.specs.Forced.{first_denial, waits_on}
-use Rattle.ipc_model.specs.Step.{Moved, forced_by, state_by, told_forced}
+use Rattle.ipc_model.specs.Cancelled.{first_denial, waits_on}
+use Rattle.ipc_model.specs.Step.{Moved, cancelled_by, state_by, told_cancelled}
 use Rattle.ipc_parked.specs.Parked.{AreApart}
-use Rattle.ipc_namespace.specs.declared.forcing.Forcing.{Forcing}
-use Rattle.ipc_namespace.specs.declared.forcing.Forcing.TheVariants as forcings
-
--- what a namespace is to its space: its state, and the place of the latest event whose call waits, 0 where none does
-pub record Kept : Type 0 where
-  pub state : State
-  pub latest : ℕ
+use Rattle.ipc_namespace.specs.declared.cancelling.Cancelling.{Cancelling}
+use Rattle.ipc_namespace.specs.declared.cancelling.Cancelling.TheVariants as cancellings
 
 -- each is of a client that there is, of so many, and may wait; no two are of one client
 unfoldable pub AreParked : ℕ → List Waiting → Type 0
@@ -31,12 +26,7 @@ AreParked clients ws = AllByRecursion (λ w. (w.client < clients) × (can_wait w
 -- the queue that the call sends to
 abbrev pub sent_to : Call → Option ℕ
 sent_to (MsgSnd id mtype text flags) = Some id
-sent_to (MsgGet key flags) = None
-sent_to (MsgRcv id size msgtyp flags) = None
-sent_to (IpcStat kind id) = None
-sent_to (IpcSet kind id uid gid mode qbytes) = None
-sent_to (IpcRmid kind id) = None
-sent_to (Interrupt pid) = None
+sent_to call = None
 
 abbrev pub is_at : ℕ → Option ℕ → Bool
 is_at id None = false
@@ -51,16 +41,12 @@ abbrev pub sends_on : ℕ → List Waiting → ℕ
 sends_on id [] = 0
 sends_on id (w ∷ ws) = one_if (is_send_to id w.call) + sends_on id ws
 
--- the place in the list of the first call of the client
-abbrev pub place_of : ℕ → List Waiting → ℕ
-place_of client [] = 0
-place_of client (w ∷ ws) = if w.client == client then 0 else suc (place_of client ws)
-
 -- the rule by which a waiting call ends
-abbrev pub forced_as : State → Forcing → Waiting → Option Rule
-forced_as s (forcings.Denied kind id) w = if waits_on kind id w.call then first_denial (creds_at s w.client) (needs s w.client w.call) else None
-forced_as s (forcings.Removed kind id) w = if waits_on kind id w.call then Some Removed else None
-forced_as s (forcings.Interrupted pid) w = if pid == pid_of w.client then Some Interrupted else None
+abbrev pub cancelled_as : State → Cancelling → Waiting → Option Rule
+cancelled_as s (cancellings.Denied kind id) w =
+    if waits_on kind id w.call then first_denial (creds_at s w.client) (needs s w.client w.call) else None
+cancelled_as s (cancellings.Removed kind id) w = if waits_on kind id w.call then Some Removed else None
+cancelled_as s (cancellings.Interrupted pid) w = if pid == pid_of w.client then Some Interrupted else None
 
 -- what a call that waits needs on its queue
 abbrev pub needs_for : Want → Option Queue → List Need
@@ -72,11 +58,11 @@ abbrev pub left_by : (Waiting → Option Rule) → List Waiting → List Waiting
 left_by rule ws = filter (λ w. is_none (rule w)) ws
 
 abbrev pub ended_as : (Waiting → Option Rule) → List Waiting → List Ended
-ended_as rule ws = flat_map (λ w. told_forced w.client (rule w)) ws
+ended_as rule ws = flat_map (λ w. told_cancelled w.client (rule w)) ws
 
 -- the state after a call, and the waiting calls that its grant ended
 abbrev pub moved_by : State → ℕ → Call → Moved
-moved_by s client call = forced_by (state_by s client call (decide s client call)) call (decide s client call)
+moved_by s client call = cancelled_by (state_by s client call (decide s client call)) call (decide s client call)
 
 -- in each queue a place is reserved for each waiting call that sends to it, and no other
 abbrev pub IsReserved : Table Held → List Waiting → Type 0

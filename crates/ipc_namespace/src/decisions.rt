@@ -1,12 +1,11 @@
 // What is decided on a call, before anything changes.
 
 ghost use Rattle.std.specs.Prelude.{◌≡◌};
-ghost use Rattle.ipc_model.specs.Decide.{can_wait as may_wait};
 ghost use Rattle.ipc_model.specs.Plan.{or_wait as refuse_or_wait};
 ghost use Rattle.ipc_model.specs.State.{State};
 ghost use Rattle.ipc_namespace.specs.Decisions.{decided, decided_by};
 
-use ipc_call::{Call, IPC_NOWAIT, Rule};
+use ipc_call::{Rule, may_wait};
 use ipc_perm::{Verdict, Want};
 
 /// The decision on a call.
@@ -17,7 +16,7 @@ pub enum Decided {
     /// The call waits.
     Wait,
     /// The call is granted.
-    Go,
+    Grant,
 }
 
 /// The right that a call asks which changes what is in an object.
@@ -32,37 +31,23 @@ pub const TO_READ: Want = Want {
     alter: false,
 };
 
-/// The decision on a call that can't go on now: it waits, or with IPC_NOWAIT it is refused.
+/// The decision on a call that can't proceed now: it waits, or with IPC_NOWAIT it is refused.
 pub fn or_wait(flags: u32, rule: Rule) -> Decided
     ensures { result ≡ decided {X = State} (refuse_or_wait flags rule) }
 {
-    if flags & IPC_NOWAIT == 0 {
+    if may_wait(flags) {
         Decided::Wait
     } else {
         Decided::Refuse(rule)
     }
 }
 
-/// The decision on a call that asks for nothing but this verdict.
+/// The decision on a call that needs nothing but this verdict.
 pub fn go_if(verdict: Verdict) -> Decided
     ensures { result ≡ decided_by verdict }
 {
     match verdict {
-        Verdict::Allowed(_) => Decided::Go,
+        Verdict::Allowed(_) => Decided::Grant,
         Verdict::Denied(rule) => Decided::Refuse(rule),
-    }
-}
-
-/// Whether the call is of a kind that may wait.
-pub fn can_wait(call: &Call) -> bool
-    ensures { result ≡ may_wait call.now }
-{
-    match call {
-        Call::MsgSnd { .. } | Call::MsgRcv { .. } => true,
-        Call::MsgGet { .. }
-        | Call::IpcStat { .. }
-        | Call::IpcSet { .. }
-        | Call::IpcRmid { .. }
-        | Call::Interrupt { .. } => false,
     }
 }

@@ -3,15 +3,16 @@
 ghost use Rattle.std.specs.Prelude.{◌≡◌, ◌||◌, nat_le, ℕ, ◌<◌, List, length, IfOk, OnErr, Some, None};
 ghost use Rattle.ipc_creds.specs.Credentials.{Credentials};
 ghost use Rattle.ipc_model.specs.State.{State, creds_at, queue_with_key as queue_of_key};
-ghost use Rattle.ipc_model.specs.Decision.{Serve};
+ghost use Rattle.ipc_model.specs.Decision.{Grant};
 ghost use Rattle.ipc_model.specs.Plan.{decision};
-ghost use Rattle.ipc_model.specs.Messages.{cuts, receive_message, send_message};
+ghost use Rattle.ipc_call.specs.Flags.{has_flag, msg_noerror};
+ghost use Rattle.ipc_model.specs.Messages.{receive_message, send_message};
 ghost use Rattle.ipc_model.specs.Queues.{get_queue, get_found, make_queue as make_queue_by, new_queue as new_queue_by};
 ghost use Rattle.ipc_namespace.specs.Decisions.{decided};
 
 use crate::decisions::{Decided, TO_ALTER, TO_READ, go_if, or_wait};
 use crate::namespace::Namespace;
-use ipc_call::{Answer, IPC_CREAT, IPC_EXCL, Items, MSG_EXCEPT, MSG_NOERROR, Memory, Rule};
+use ipc_call::{Answer, Items, Memory, Rule, creates, cuts_text, is_exclusive, takes_other_types};
 use ipc_control::Queue;
 use ipc_creds::Creds;
 use ipc_perm::{Mode, Perm, Verdict, asked_of_flags, decide};
@@ -26,7 +27,7 @@ impl Namespace {
         len: usize,
         flags: u32,
     ) -> Decided
-        ensures { (client : ℕ) (text : List ℕ) → length text ≡ len → result ≡ decided (decision creds.now (send_message self.now.state client id flags (record { mtype = mtype; text = text }))) }
+        ensures { (client : ℕ) (text : List ℕ) → length text ≡ len → result ≡ decided (decision creds.now (send_message self.now client id flags (record { mtype = mtype; text = text }))) }
     {
         if mtype < 1 {
             return Decided::Refuse(Rule::BadType);
@@ -41,7 +42,7 @@ impl Namespace {
             return Decided::Refuse(rule);
         }
         if queue.fits(len) {
-            Decided::Go
+            Decided::Grant
         } else {
             or_wait(flags, Rule::QueueFull)
         }
@@ -56,13 +57,12 @@ impl Namespace {
         text: Items<u8>,
         flags: u32,
     ) -> Result<Answer, Memory>
-        requires known { client < length self.old.state.clients }
-        requires go { decided (decision (creds_at self.old.state client) (send_message self.old.state client id flags (record { mtype = mtype; text = text }))) ≡ Decided.Go }
-        ensures served { IfOk result (λ answer. decision (creds_at self.old.state client) (send_message self.old.state client id flags (record { mtype = mtype; text = text })) ≡ Serve answer self.new.state) }
-        ensures parked { self.new.state.parked ≡ self.old.state.parked }
-        ensures limits { self.new.state.limits ≡ self.old.state.limits }
-        ensures clients { self.new.state.clients ≡ self.old.state.clients }
-        ensures latest { self.new.latest ≡ self.old.latest }
+        requires known { client < length self.old.clients }
+        requires go { decided (decision (creds_at self.old client) (send_message self.old client id flags (record { mtype = mtype; text = text }))) ≡ Decided.Grant }
+        ensures served { IfOk result (λ answer. decision (creds_at self.old client) (send_message self.old client id flags (record { mtype = mtype; text = text })) ≡ Grant answer self.new) }
+        ensures parked { self.new.parked ≡ self.old.parked }
+        ensures limits { self.new.limits ≡ self.old.limits }
+        ensures clients { self.new.clients ≡ self.old.clients }
         ensures err { OnErr result (self.new ≡ self.old) }
     {
         self.queues.reserve(id)?;
@@ -79,7 +79,7 @@ impl Namespace {
         msgtyp: i64,
         flags: u32,
     ) -> Decided
-        ensures { (client : ℕ) → result ≡ decided (decision creds.now (receive_message self.now.state client id size msgtyp flags)) }
+        ensures { (client : ℕ) → result ≡ decided (decision creds.now (receive_message self.now client id size msgtyp flags)) }
     {
         let Some(queue) = self.queues.get(id) else {
             return Decided::Refuse(Rule::BadId);
@@ -87,9 +87,9 @@ impl Namespace {
         if let Verdict::Denied(rule) = decide(creds, &queue.perm(), TO_READ) {
             return Decided::Refuse(rule);
         }
-        match queue.chosen_len(msgtyp, flags & MSG_EXCEPT != 0) {
+        match queue.chosen_len(msgtyp, takes_other_types(flags)) {
             None => or_wait(flags, Rule::NoMessage),
-            Some(len) if hands_out(len, size, flags) => Decided::Go,
+            Some(len) if hands_out(len, size, flags) => Decided::Grant,
             Some(_) => Decided::Refuse(Rule::MessageTooLong),
         }
     }
@@ -103,15 +103,14 @@ impl Namespace {
         msgtyp: i64,
         flags: u32,
     ) -> Answer
-        requires known { client < length self.old.state.clients }
-        requires go { decided (decision (creds_at self.old.state client) (receive_message self.old.state client id size msgtyp flags)) ≡ Decided.Go }
-        ensures served { decision (creds_at self.old.state client) (receive_message self.old.state client id size msgtyp flags) ≡ Serve result self.new.state }
-        ensures parked { self.new.state.parked ≡ self.old.state.parked }
-        ensures limits { self.new.state.limits ≡ self.old.state.limits }
-        ensures clients { self.new.state.clients ≡ self.old.state.clients }
-        ensures latest { self.new.latest ≡ self.old.latest }
+        requires known { client < length self.old.clients }
+        requires go { decided (decision (creds_at self.old client) (receive_message self.old client id size msgtyp flags)) ≡ Decided.Grant }
+        ensures served { decision (creds_at self.old client) (receive_message self.old client id size msgtyp flags) ≡ Grant result self.new }
+        ensures parked { self.new.parked ≡ self.old.parked }
+        ensures limits { self.new.limits ≡ self.old.limits }
+        ensures clients { self.new.clients ≡ self.old.clients }
     {
-        let except = flags & MSG_EXCEPT != 0;
+        let except = takes_other_types(flags);
         let (mtype, text) = self
             .queues
             .receive(id, client, size, msgtyp, except, self.clock);
@@ -120,7 +119,7 @@ impl Namespace {
 
     /// The decision on msgget. Key 0 is IPC_PRIVATE, and has no queue.
     pub(super) fn decide_get_queue(&self, creds: &Creds, key: u32, flags: u32) -> Decided
-        ensures { result ≡ decided (decision creds.now (get_queue self.now.state creds.now key flags)) }
+        ensures { result ≡ decided (decision creds.now (get_queue self.now creds.now key flags)) }
     {
         if key == 0 {
             return self.decide_make_queue();
@@ -133,9 +132,9 @@ impl Namespace {
 
     /// The decision on a get whose key has no queue.
     fn decide_absent_queue(&self, flags: u32) -> Decided
-        ensures { (creds : Credentials) (key : ℕ) → result ≡ decided (decision creds (get_found self.now.state creds key flags None)) }
+        ensures { (creds : Credentials) (key : ℕ) → result ≡ decided (decision creds (get_found self.now creds key flags None)) }
     {
-        if flags & IPC_CREAT == 0 {
+        if !creates(flags) {
             return Decided::Refuse(Rule::NoKey);
         }
         self.decide_make_queue()
@@ -143,11 +142,11 @@ impl Namespace {
 
     /// The decision on a new queue, whoever makes it.
     fn decide_make_queue(&self) -> Decided
-        ensures { (creds : Credentials) (key flags : ℕ) → result ≡ decided (decision creds (make_queue_by self.now.state creds key flags)) }
+        ensures { (creds : Credentials) (key flags : ℕ) → result ≡ decided (decision creds (make_queue_by self.now creds key flags)) }
     {
         match self.queues.next_id() {
             None => Decided::Refuse(Rule::NoSlot),
-            Some(_) => Decided::Go,
+            Some(_) => Decided::Grant,
         }
     }
 
@@ -158,13 +157,12 @@ impl Namespace {
         key: u32,
         flags: u32,
     ) -> Result<Answer, Memory>
-        requires known { client < length self.old.state.clients }
-        requires go { decided (decision (creds_at self.old.state client) (get_queue self.old.state (creds_at self.old.state client) key flags)) ≡ Decided.Go }
-        ensures served { IfOk result (λ answer. decision (creds_at self.old.state client) (get_queue self.old.state (creds_at self.old.state client) key flags) ≡ Serve answer self.new.state) }
-        ensures parked { self.new.state.parked ≡ self.old.state.parked }
-        ensures limits { self.new.state.limits ≡ self.old.state.limits }
-        ensures clients { self.new.state.clients ≡ self.old.state.clients }
-        ensures latest { self.new.latest ≡ self.old.latest }
+        requires known { client < length self.old.clients }
+        requires go { decided (decision (creds_at self.old client) (get_queue self.old (creds_at self.old client) key flags)) ≡ Decided.Grant }
+        ensures served { IfOk result (λ answer. decision (creds_at self.old client) (get_queue self.old (creds_at self.old client) key flags) ≡ Grant answer self.new) }
+        ensures parked { self.new.parked ≡ self.old.parked }
+        ensures limits { self.new.limits ≡ self.old.limits }
+        ensures clients { self.new.clients ≡ self.old.clients }
         ensures err { OnErr result (self.new ≡ self.old) }
     {
         if key == 0 {
@@ -178,14 +176,13 @@ impl Namespace {
 
     /// Makes the queue on which that was decided.
     fn make_queue(&mut self, client: u32, key: u32, flags: u32) -> Result<Answer, Memory>
-        requires known { client < length self.old.state.clients }
-        requires go { decided (decision (creds_at self.old.state client) (make_queue_by self.old.state (creds_at self.old.state client) key flags)) ≡ Decided.Go }
-        requires free { queue_of_key self.old.state key ≡ None }
-        ensures served { IfOk result (λ answer. decision (creds_at self.old.state client) (make_queue_by self.old.state (creds_at self.old.state client) key flags) ≡ Serve answer self.new.state) }
-        ensures parked { self.new.state.parked ≡ self.old.state.parked }
-        ensures limits { self.new.state.limits ≡ self.old.state.limits }
-        ensures clients { self.new.state.clients ≡ self.old.state.clients }
-        ensures latest { self.new.latest ≡ self.old.latest }
+        requires known { client < length self.old.clients }
+        requires go { decided (decision (creds_at self.old client) (make_queue_by self.old (creds_at self.old client) key flags)) ≡ Decided.Grant }
+        requires free { queue_of_key self.old key ≡ None }
+        ensures served { IfOk result (λ answer. decision (creds_at self.old client) (make_queue_by self.old (creds_at self.old client) key flags) ≡ Grant answer self.new) }
+        ensures parked { self.new.parked ≡ self.old.parked }
+        ensures limits { self.new.limits ≡ self.old.limits }
+        ensures clients { self.new.clients ≡ self.old.clients }
         ensures err { OnErr result (self.new ≡ self.old) }
     {
         let Some(id) = self.queues.next_id() else {
@@ -198,15 +195,15 @@ impl Namespace {
 
     /// The identifier and permissions of the queue of a key.
     fn queue_with_key(&self, key: u32) -> Option<(u32, Perm)>
-        ensures { result ≡ queue_of_key self.now.state key }
+        ensures { result ≡ queue_of_key self.now key }
     {
         self.queues.find(key)
     }
 
     /// A queue that the client owns and made, with the mode in the flags.
     fn new_queue(&self, client: u32, key: u32, flags: u32) -> Queue
-        requires { client < length self.now.state.clients }
-        ensures queue { result.queue ≡ new_queue_by self.now.state (creds_at self.now.state client) key flags }
+        requires { client < length self.now.clients }
+        ensures queue { result.queue ≡ new_queue_by self.now (creds_at self.now client) key flags }
         ensures reserved { result.reserved ≡ 0 }
     {
         let creds = &self.clients[client as usize];
@@ -227,7 +224,7 @@ impl Namespace {
 fn decide_found_queue(creds: &Creds, perm: &Perm, flags: u32) -> Decided
     ensures { (s : State) (key id : ℕ) → result ≡ decided (decision creds.now (get_found s creds.now key flags (Some (id, perm.now)))) }
 {
-    if flags & IPC_CREAT != 0 && flags & IPC_EXCL != 0 {
+    if creates(flags) && is_exclusive(flags) {
         return Decided::Refuse(Rule::KeyExists);
     }
     go_if(decide(creds, perm, asked_of_flags(flags)))
@@ -235,7 +232,7 @@ fn decide_found_queue(creds: &Creds, perm: &Perm, flags: u32) -> Decided
 
 /// Whether msgrcv hands out a text of this length: it isn't longer than asked for, or it is cut.
 fn hands_out(len: usize, size: u64, flags: u32) -> bool
-    ensures { result ≡ (nat_le len size || cuts flags) }
+    ensures { result ≡ (nat_le len size || has_flag flags msg_noerror) }
 {
-    len as u64 <= size || flags & MSG_NOERROR != 0
+    len as u64 <= size || cuts_text(flags)
 }

@@ -14,12 +14,7 @@ pub fn sent_to(call: &Call) -> Option<u32>
 {
     match call {
         Call::MsgSnd { id, .. } => Some(*id),
-        Call::MsgGet { .. }
-        | Call::MsgRcv { .. }
-        | Call::IpcStat { .. }
-        | Call::IpcSet { .. }
-        | Call::IpcRmid { .. }
-        | Call::Interrupt { .. } => None,
+        _ => None,
     }
 }
 

@@ -1,4 +1,3 @@
 pub mod Clients
 pub mod Listed
 pub mod Picking
-pub mod Places

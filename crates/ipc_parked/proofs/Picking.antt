@@ -8,7 +8,7 @@ use Rattle.ipc_call.specs.declared.calls.Call.{Call}
 use Rattle.ipc_call.specs.declared.calls.Kind.{Kind}
 use Rattle.ipc_call.specs.declared.replies.Waiting.{Waiting}
 use Rattle.ipc_parked.specs.declared.parked.Arrival.{Arrival}
-use Rattle.ipc_model.specs.Forced.{waits_on}
+use Rattle.ipc_model.specs.Cancelled.{waits_on}
 use Rattle.ipc_parked.specs.Parked.{waiting, on_object, MayAsk, Answers, Picks}
 
 told : (post : ℕ → Bor Call → Bool → Type 0) (test : ℕ → Call → Bool) (e : ℕ × Arrival) (answer : Bool) → Answers post e answer

@@ -1,12 +1,12 @@
 -- The calls that wait, as one list of clients with their calls, in order of arrival. The list is the project's own.
-use Rattle.std.specs.Prelude.{◌≡◌, ℕ, ◌==◌, ◌<◌, ◌⊎◌, Bool, true, false, not, List, [], ◌∷◌, map, filter, fold, Option, Some, None}
+use Rattle.std.specs.Prelude.{◌≡◌, ℕ, ◌==◌, ◌⊎◌, Bool, true, false, not, List, [], ◌∷◌, map, filter, Option, Some, None}
 use Rattle.std.specs.List.{find, list_any, AllByRecursion}
 use Rattle.std.specs.Option.{option_map}
 use Rattle.std.specs.Borrow.{Bor}
 use Rattle.ipc_call.specs.declared.calls.Call.{Call}
 use Rattle.ipc_call.specs.declared.calls.Kind.{Kind}
 use Rattle.ipc_call.specs.declared.replies.Waiting.{Waiting}
-use Rattle.ipc_model.specs.Forced.{waits_on}
+use Rattle.ipc_model.specs.Cancelled.{waits_on}
 use Rattle.ipc_parked.specs.declared.parked.Arrival.{Arrival}
 
 -- each client with its call
@@ -25,10 +25,6 @@ arrival_of client es = option_map (λ e. e.1) (find (λ e. e.0 == client) es)
 abbrev pub others : ℕ → List (ℕ × Arrival) → List (ℕ × Arrival)
 others client es = filter (λ e. not (e.0 == client)) es
 
--- the place of the last, 0 where none waits
-abbrev pub latest : List (ℕ × Arrival) → ℕ
-latest es = fold (λ _ e. e.1.place) 0 es
-
 -- each is of another client
 unfoldable pub AreDistinct : List (ℕ × Arrival) → Type 0
 AreDistinct [] = Unit {0}
@@ -38,11 +34,6 @@ AreDistinct (e ∷ es) = (is_there e.0 es ≡ false) × AreDistinct es
 unfoldable pub AreApart : List Waiting → Type 0
 AreApart [] = Unit {0}
 AreApart (w ∷ ws) = (list_any (λ v. v.client == w.client) ws ≡ false) × AreApart ws
-
--- the place of each is above this one, and above those before it
-unfoldable pub AreRising : ℕ → List (ℕ × Arrival) → Type 0
-AreRising place [] = Unit {0}
-AreRising place (e ∷ es) = (place < e.1.place) × AreRising e.1.place es
 
 -- those that wait on this object
 abbrev pub on_object : Kind → ℕ → List (ℕ × Arrival) → List (ℕ × Arrival)

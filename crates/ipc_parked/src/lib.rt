@@ -6,4 +6,4 @@ mod parked;
 #[cfg(test)]
 mod tests;
 
-pub use parked::{Arrival, Parked, waits_on};
+pub use parked::{Arrival, Parked, waits_at, waits_on};

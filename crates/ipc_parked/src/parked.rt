@@ -1,13 +1,13 @@
 // The calls that wait.
 
-ghost use Rattle.std.specs.Prelude.{◌≡◌, ◌<◌, ◌≤◌, true, false, [], ◌∷◌, ◌++◌, length, OnOk, OnErr, Some};
+ghost use Rattle.std.specs.Prelude.{◌≡◌, true, false, [], ◌∷◌, ◌++◌, length, OnOk, OnErr, Some};
 ghost use Rattle.std.specs.Option.{option_map};
-ghost use Rattle.ipc_model.specs.Forced.{waits_on as call_waits_on};
+ghost use Rattle.ipc_model.specs.Cancelled.{waits_on as call_waits_on};
+ghost use Rattle.ipc_model.specs.Decide.{waits_at as call_waits_at};
 ghost use Rattle.ipc_parked.specs.Parked.{
   is_there,
   arrival_of,
   others,
-  latest,
   on_object as those_on_object,
   MayAsk,
   Answers,
@@ -39,13 +39,13 @@ pub struct Parked {
 impl Model for Parked {
     ghost use Rattle.std.specs.Prelude.{ℕ, List};
     ghost use Rattle.ipc_parked.specs.declared.parked.Arrival.{Arrival};
-    ghost use Rattle.ipc_parked.specs.Parked.{AreDistinct, AreRising};
+    ghost use Rattle.ipc_parked.specs.Parked.{AreDistinct};
 
     ghost Value = { List (ℕ × Arrival) };
 
     ghost view = { λ p. p.arrivals.entries };
 
-    ghost invariant = { λ p. AreDistinct p.arrivals.entries × AreRising 0 p.arrivals.entries };
+    ghost invariant = { λ p. AreDistinct p.arrivals.entries };
 }
 
 impl Parked {
@@ -58,11 +58,10 @@ impl Parked {
         }
     }
 
-    /// The call of a client waits from now on, after those that are there. None of the client is there, and
-    /// its place is above theirs. Memory comes where a growth was refused, and then nothing has changed.
+    /// The call of a client waits from now on, after those that are there, none of which is the client's. The
+    /// error comes only where an allocation fails.
     pub fn park(&mut self, client: u32, place: u64, call: Call) -> Result<(), Memory>
         requires free { is_there client self.old ≡ false }
-        requires later { latest self.old < place }
         ensures ok { OnOk result (self.new ≡ self.old ++ (client, record { place = place; call = call }) ∷ []) }
         ensures err { OnErr result (self.new ≡ self.old) }
     {
@@ -134,24 +133,27 @@ impl Parked {
         requires { is_there client self.old ≡ true }
         ensures call { option_map (λ a. a.call) (arrival_of client self.old) ≡ Some result }
         ensures rest { self.new ≡ others client self.old }
-        ensures latest { latest self.new ≤ latest self.old }
     {
         self.arrivals.shift_remove(&client).unwrap().call
     }
 }
 
-/// Whether the call waits on the object of this kind and identifier: msgsnd and msgrcv on their queue
-/// (msgop(2)). Takes no memory.
+/// The kind and identifier of the object at which the call may wait: msgsnd and msgrcv at their queue (msgop(2)).
+pub fn waits_at(call: &Call) -> Option<(Kind, u32)>
+    ensures { result ≡ call_waits_at call.now }
+{
+    match call {
+        Call::MsgSnd { id, .. } | Call::MsgRcv { id, .. } => Some((Kind::Queue, *id)),
+        _ => None,
+    }
+}
+
+/// Whether the call waits at the object of this kind and identifier.
 pub fn waits_on(kind: Kind, id: u32, call: &Call) -> bool
     ensures { result ≡ call_waits_on kind id call.now }
 {
-    match call {
-        Call::MsgSnd { id: other, .. } | Call::MsgRcv { id: other, .. } => kind == Kind::Queue
-            && *other == id,
-        Call::MsgGet { .. }
-        | Call::IpcStat { .. }
-        | Call::IpcSet { .. }
-        | Call::IpcRmid { .. }
-        | Call::Interrupt { .. } => false,
-    }
+    let Some((at, other)) = waits_at(call) else {
+        return false;
+    };
+    at == kind && other == id
 }

@@ -1,28 +1,30 @@
 -- After every history a client has as many calls as it has replies and calls that wait; so an event tells a client one thing at most,
 -- and none but the namespace's clients.
-use Rattle.std.proofs.Common.{◌≡◌, ℕ, zero, suc, ◌+◌, ◌≤◌, Bool, true, false, cond, List, [], ◌∷◌, ◌++◌, map, length, refl, sym, ap, ◌∙◌, subst, arith, Option, Some, None, length-append, append-nil, append_assoc, ⊎_elim, eqb, eq-eqb, ne_eqb, ◌<◌, All, lt_of_not-le}
-use Rattle.std.specs.Prelude.{◌==◌, ◌||◌, filter, flat_map, is_none, slice_get, option_map, unwrap_or, remove}
+use Rattle.std.proofs.Common.{◌≡◌, ℕ, zero, suc, ◌+◌, ◌≤◌, Bool, true, false, cond, List, [], ◌∷◌, ◌++◌, map, length, refl, sym, ap, ◌∙◌, arith, Option, Some, None, length-append, append-nil, append_assoc, ⊎_elim, eq-eqb, ne_eqb, ◌<◌, All, lt_of_not-le}
+use Rattle.std.specs.Prelude.{◌==◌, ◌||◌, filter, flat_map, is_none}
 use Rattle.std.specs.List.{list_any}
 use mathlib.Core.Logic.{dite}
 use native.Mathlib.Decide.{dec_le}
 use Rattle.std.proofs.lemmas.List.{length-map, map-append}
 use Rattle.std.proofs.lemmas.List.Elements.{All-nil, All-cons}
 use Rattle.std.proofs.lemmas.Bool.{true≢false, or_parts, cases_Bool, eq-eqb, eqb-true}
-use Rattle.std.proofs.lemmas.Option.{none-some, same_Some}
 use Rattle.ipc_call.specs.declared.calls.Call.{Call}
 use Rattle.ipc_call.specs.declared.replies.Waiting.{Waiting}
 use Rattle.ipc_call.specs.declared.replies.Ended.{Ended}
 use Rattle.ipc_call.specs.declared.rules.Rule.{Rule}
 use Rattle.ipc_model.specs.State.{State, opening, is_waiting}
-use Rattle.ipc_model.specs.Decision.{Decision, Refuse, Wait, Serve, goes_on}
+use Rattle.ipc_model.specs.Decision.{Decision, Refuse, Wait, Grant, proceeds}
 use Rattle.ipc_model.specs.Decide.{decide}
-use Rattle.ipc_model.specs.Forced.{forced}
-use Rattle.ipc_model.specs.Step.{Event, Moved, Outcome, Stepped, and_then, at_moment, end_at, end_waiting, ended_by, entered, first_ready, force, forced_by, is_ready, own_of, settle, settle_from, settled, state_by, step, told_forced, without}
+use Rattle.ipc_model.specs.Cancelled.{cancelled}
+use Rattle.ipc_model.specs.Step.{Event, Moved, Outcome, Stepped, at_time, end_waiting, ended_by, first_ready, cancelled_by, is_ready, own_of, settle, settle_from, settled, state_by, step, told_cancelled, without}
 use Rattle.ipc_model.specs.History.{AreLegalFrom, History, IsLegal, IsLegalAt, Told, answers_from, answers, next_step, own, replies, reply_of, run, run_from, told_by, told_ended, told_own, with_event}
 use Rattle.ipc_call.specs.declared.replies.Reply.{Reply}
 use Rattle.ipc_space.specs.Telling.{told_to, told_of, replies_in}
 use Rattle.ipc_space.proofs.Keeping.{Keeps, Keeps-decide, Follows-step}
-use Rattle.ipc_namespace.proofs.Settling.{ready_at}
+use Rattle.ipc_parked.specs.Parked.{AreApart}
+use Rattle.ipc_namespace.proofs.Deciding.{parked_alike}
+use Rattle.ipc_namespace.proofs.Own.{At, found-at, others}
+use Rattle.ipc_space.proofs.Once.{apart-cancelled_by, apart-end_waiting, apart-state_by, apart-run, apart-step, none_apart}
 
 -- how many calls of the client wait
 abbrev pub waits_of : ℕ → List Waiting → ℕ
@@ -45,70 +47,70 @@ ends-append : (r : ℕ) (a b : List Ended) → ends_of r (a ++ b) ≡ ends_of r 
 ends-append r [] b = omega arith
 ends-append r (w ∷ a) b = let rest = ends-append r a b in omega (arith, rest)
 
-waits-remove : (r k : ℕ) (ws : List Waiting) (w : Waiting) → slice_get ws k ≡ Some w → waits_of r (remove ws k) + cond (w.client == r) 1 0 ≡ waits_of r ws
-waits-remove r k [] w is = absurd (none-some w is)
-waits-remove r zero (v ∷ ws) w is = let same = ap {B = ℕ} (λ (x : Waiting). cond (x.client == r) 1 0) (same_Some v w is) in omega (arith, same)
-waits-remove r (suc k) (v ∷ ws) w is = let rest = waits-remove r k ws w is in omega (arith, rest)
+waits-others : (r : ℕ) (test : Waiting → Bool) (ws : List Waiting) (w : Waiting) → At test ws w → waits_of r (others w.client ws) + cond (w.client == r) 1 0 ≡ waits_of r ws
+waits-others r test ws w at =
+    let left = ap (waits_of r) at.left ∙ waits-append r at.before at.after in
+    let all = ap (waits_of r) at.is ∙ waits-append r at.before (w ∷ at.after) in
+    omega (arith, left, all)
 
-force-one : (r : ℕ) (w : Waiting) (o : Option Rule) (ws rest : List Waiting) (es : List Ended) → waits_of r rest + ends_of r es ≡ waits_of r ws
-    → waits_of r (cond (is_none o) (w ∷ rest) rest) + ends_of r (told_forced w.client o ++ es) ≡ cond (w.client == r) 1 0 + waits_of r ws
-force-one r w None ws rest es even = omega (arith, even)
-force-one r w (Some rule) ws rest es even = omega (arith, even)
+cancel-one : (r : ℕ) (w : Waiting) (o : Option Rule) (ws rest : List Waiting) (es : List Ended) → waits_of r rest + ends_of r es ≡ waits_of r ws
+    → waits_of r (cond (is_none o) (w ∷ rest) rest) + ends_of r (told_cancelled w.client o ++ es) ≡ cond (w.client == r) 1 0 + waits_of r ws
+cancel-one r w None ws rest es even = omega (arith, even)
+cancel-one r w (Some rule) ws rest es even = omega (arith, even)
 
-force-all : (r : ℕ) (f : Waiting → Option Rule) (ws : List Waiting) → waits_of r (filter (λ w. is_none (f w)) ws) + ends_of r (flat_map (λ w. told_forced w.client (f w)) ws) ≡ waits_of r ws
-force-all r f [] = omega arith
-force-all r f (w ∷ ws) = force-one r w (f w) ws (filter (λ v. is_none (f v)) ws) (flat_map (λ v. told_forced v.client (f v)) ws) (force-all r f ws)
+cancel-all : (r : ℕ) (f : Waiting → Option Rule) (ws : List Waiting) → waits_of r (filter (λ w. is_none (f w)) ws) + ends_of r (flat_map (λ w. told_cancelled w.client (f w)) ws) ≡ waits_of r ws
+cancel-all r f [] = omega arith
+cancel-all r f (w ∷ ws) = cancel-one r w (f w) ws (filter (λ v. is_none (f v)) ws) (flat_map (λ v. told_cancelled v.client (f v)) ws) (cancel-all r f ws)
 
 -- what leaves the list is told
 abbrev IsEven : ℕ → State → Moved → Type 0
 IsEven r s m = waits_of r m.state.parked + ends_of r m.ended ≡ waits_of r s.parked
 
-even-ended_by : (r : ℕ) (s : State) (client : ℕ) (d : Decision State) → goes_on d ≡ true → Keeps s d → waits_of r (ended_by s client d).state.parked + ends_of r (ended_by s client d).ended ≡ waits_of r s.parked + cond (client == r) 1 0
+even-ended_by : (r : ℕ) (s : State) (client : ℕ) (d : Decision State) → proceeds d ≡ true → Keeps s d → waits_of r (ended_by s client d).state.parked + ends_of r (ended_by s client d).ended ≡ waits_of r s.parked + cond (client == r) 1 0
 even-ended_by r s client (Refuse rule) goes keeps = omega arith
 even-ended_by r s client Wait goes keeps = absurd (true≢false (sym goes))
-even-ended_by r s client (Serve answer new) goes keeps = let same = ap (waits_of r) keeps.0 in omega (arith, same)
+even-ended_by r s client (Grant answer new) goes keeps = let same = ap (waits_of r) keeps.0 in omega (arith, same)
 
-even-end_waiting : (r : ℕ) (s : State) (place : ℕ) (o : Option Waiting) → o ≡ slice_get s.parked place
-    → unwrap_or (option_map (λ (w : Waiting). goes_on (decide (without s place) w.client w.call)) o) false ≡ true → IsEven r s (end_waiting s place o)
-even-end_waiting r s place None is ready = absurd (true≢false (sym ready))
-even-end_waiting r s place (Some w) is ready =
-    let rest = without s place in
+even-end_waiting : (r : ℕ) (s : State) (w : Waiting) → AreApart s.parked → first_ready s ≡ Some w → IsEven r s (end_waiting s w)
+even-end_waiting r s w apart first =
+    let rest = without s w.client in
+    let at = found-at (is_ready s) s.parked w apart first in
+    let ready = parked_alike s rest.parked w.client w.call ∙ at.passes in
     let one = even-ended_by r rest w.client (decide rest w.client w.call) ready (Keeps-decide rest w.client w.call) in
-    let left = waits-remove r place s.parked w (sym is) in omega (arith, one, left)
-
-even-end_at : (r : ℕ) (s : State) (place : ℕ) → is_ready s place ≡ true → IsEven r s (end_at s place)
-even-end_at r s place ready = even-end_waiting r s place (slice_get s.parked place) refl ready
+    let left = waits-others r (is_ready s) s.parked w at in omega (arith, one, left)
 
 even-then : (r : ℕ) (s : State) (m n : Moved) → IsEven r s m → IsEven r m.state n → waits_of r n.state.parked + ends_of r (m.ended ++ n.ended) ≡ waits_of r s.parked
 even-then r s m n one two = let both = ends-append r m.ended n.ended in omega (arith, one, two, both)
 
-even-settle_from : (r n : ℕ) → ((t : State) → IsEven r t (settle n t)) → (s : State) (place : Option ℕ) → place ≡ first_ready s → IsEven r s (settle_from (settle n) s place)
-even-settle_from r n even s None is = omega arith
-even-settle_from r n even s (Some place) is = even-then r s (end_at s place) (settle n (end_at s place).state) (even-end_at r s place (ready_at s place (sym is)).0) (even (end_at s place).state)
+even-settle_from : (r n : ℕ) → ((t : State) → AreApart t.parked → IsEven r t (settle n t)) → (s : State) (o : Option Waiting) → AreApart s.parked → o ≡ first_ready s → IsEven r s (settle_from (settle n) s o)
+even-settle_from r n even s None apart is = omega arith
+even-settle_from r n even s (Some w) apart is =
+    even-then r s (end_waiting s w) (settle n (end_waiting s w).state) (even-end_waiting r s w apart (sym is)) (even (end_waiting s w).state (apart-end_waiting s w apart))
 
-even-settle : (r n : ℕ) (s : State) → IsEven r s (settle n s)
-even-settle r zero s = omega arith
-even-settle r (suc n) s = even-settle_from r n (even-settle r n) s (first_ready s) refl
+even-settle : (r n : ℕ) (s : State) → AreApart s.parked → IsEven r s (settle n s)
+even-settle r zero s apart = omega arith
+even-settle r (suc n) s apart = even-settle_from r n (even-settle r n) s (first_ready s) apart refl
 
 even-state_by : (r : ℕ) (s : State) (client : ℕ) (call : Call) (d : Decision State) → Keeps s d → waits_of r (state_by s client call d).parked + own_told r client (own_of d) ≡ waits_of r s.parked + cond (client == r) 1 0
 even-state_by r s client call (Refuse rule) keeps = refl
 even-state_by r s client call Wait keeps = let one = waits-append r s.parked (record { client = client; call = call } ∷ []) in omega (arith, one)
-even-state_by r s client call (Serve answer new) keeps = let same = ap (waits_of r) keeps.0 in omega (arith, same)
+even-state_by r s client call (Grant answer new) keeps = let same = ap (waits_of r) keeps.0 in omega (arith, same)
 
-even-forced_by : (r : ℕ) (s : State) (call : Call) (d : Decision State) → IsEven r s (forced_by s call d)
-even-forced_by r s call (Refuse rule) = omega arith
-even-forced_by r s call Wait = omega arith
-even-forced_by r s call (Serve answer new) = force-all r (forced s call) s.parked
+even-cancelled_by : (r : ℕ) (s : State) (call : Call) (d : Decision State) → IsEven r s (cancelled_by s call d)
+even-cancelled_by r s call (Refuse rule) = omega arith
+even-cancelled_by r s call Wait = omega arith
+even-cancelled_by r s call (Grant answer new) = cancel-all r (cancelled s call) s.parked
 
 -- an event: its own call is told or waits, and what leaves the list is told
-pub even-step : (r : ℕ) (s : State) (e : Event) → waits_of r (step s e).state.parked + (own_told r e.client (step s e).own + ends_of r (step s e).ended) ≡ waits_of r s.parked + cond (e.client == r) 1 0
-even-step r s e =
-    let now = at_moment s e.now in
+pub even-step : (r : ℕ) (s : State) (e : Event) → IsLegalAt s e → AreApart s.parked → waits_of r (step s e).state.parked + (own_told r e.client (step s e).own + ends_of r (step s e).ended) ≡ waits_of r s.parked + cond (e.client == r) 1 0
+even-step r s e legal apart =
+    let now = at_time s e.now in
     let d = decide now e.client e.call in
     let by = state_by now e.client e.call d in
-    let m = forced_by by e.call d in
+    let m = cancelled_by by e.call d in
     let first = even-state_by r now e.client e.call d (Keeps-decide now e.client e.call) in
-    let rest = even-then r by m (settled m.state) (even-forced_by r by e.call d) (even-settle r (length m.state.parked) m.state) in
+    let left = apart-cancelled_by by e.call d (apart-state_by now e.client e.call d (Keeps-decide now e.client e.call) legal.free apart) in
+    let rest = even-then r by m (settled m.state) (even-cancelled_by r by e.call d) (even-settle r (length m.state.parked) m.state left) in
     omega (arith, first, rest)
 
 abbrev pub tolds_of : ℕ → List Told → ℕ
@@ -148,21 +150,21 @@ tolds-by r client place m =
 abbrev pub events_of : ℕ → List Event → List Event
 events_of r es = filter (λ (e : Event). e.client == r) es
 
-even-run_from : (r place : ℕ) (s : State) (es : List Event) → length (events_of r es) + waits_of r s.parked ≡ tolds_of r (answers_from place s es) + waits_of r (run_from s es).parked
-even-run_from r place s [] = refl
-even-run_from r place s (e ∷ es) =
+even-run_from : (r place : ℕ) (s : State) (es : List Event) → AreLegalFrom s es → AreApart s.parked → length (events_of r es) + waits_of r s.parked ≡ tolds_of r (answers_from place s es) + waits_of r (run_from s es).parked
+even-run_from r place s [] legal apart = refl
+even-run_from r place s (e ∷ es) legal apart =
     let later = (step s e).state in
     let calls = length-filter_if (e.client == r) e (events_of r es) in
-    let one = even-step r s e in
+    let one = even-step r s e legal.0 apart in
     let told = tolds-by r e.client place (step s e) in
     let both = tolds-append r (told_by e.client place (step s e)) (answers_from (place + 1) later es) in
-    let rest = even-run_from r (place + 1) later es in
+    let rest = even-run_from r (place + 1) later es legal.1 (apart-step s e legal.0 apart) in
     omega (arith, calls, one, told, both, rest)
 
 -- a client has as many calls as replies and calls that wait
-pub even_run : (h : History) (r : ℕ) → length (own h r) ≡ length (replies h r) + waits_of r (run h).parked
-even_run h r =
-    let even = even-run_from r 1 (opening h.limits h.clients) h.events in
+pub even_run : (h : History) (r : ℕ) → IsLegal h → length (own h r) ≡ length (replies h r) + waits_of r (run h).parked
+even_run h r legal =
+    let even = even-run_from r 1 (opening h.limits h.clients) h.events legal none_apart in
     let calls = length-map {B = ℕ × Call} (events_of r h.events) (λ (e : Event). (e.now, e.call)) in
     let told = length-map (filter (λ (t : Told). t.client == r) (answers h)) reply_of in
     omega (arith, even, calls, told)
@@ -180,21 +182,21 @@ some_wait r (w ∷ ws) some = ⊎_elim
     (cases_Bool (w.client == r))
 
 -- no client has two calls that wait
-few-step : (r : ℕ) (s : State) (e : Event) → IsLegalAt s e → waits_of r s.parked ≤ 1 → waits_of r (step s e).state.parked + (own_told r e.client (step s e).own + ends_of r (step s e).ended) ≤ 1
-few-step r s e legal few = let even = even-step r s e in ⊎_elim
+few-step : (r : ℕ) (s : State) (e : Event) → IsLegalAt s e → AreApart s.parked → waits_of r s.parked ≤ 1 → waits_of r (step s e).state.parked + (own_told r e.client (step s e).own + ends_of r (step s e).ended) ≤ 1
+few-step r s e legal apart few = let even = even-step r s e legal apart in ⊎_elim
     (λ (own : (e.client == r) ≡ true). let none = none_waits e.client s.parked legal.free in let same = ap (λ k. waits_of k s.parked) (eqb-true e.client r own) in let one = ap {B = ℕ} (λ b. cond b 1 0) own in omega (arith, even, none, same, one))
     (λ (other : (e.client == r) ≡ false). let one = ap {B = ℕ} (λ b. cond b 1 0) other in omega (arith, even, few, one))
     (cases_Bool (e.client == r))
 
-few-run : (r : ℕ) (s : State) (es : List Event) → AreLegalFrom s es → waits_of r s.parked ≤ 1 → waits_of r (run_from s es).parked ≤ 1
-few-run r s [] legal few = few
-few-run r s (e ∷ es) legal few = let one = few-step r s e legal.0 few in few-run r (step s e).state es legal.1 (omega (arith, one))
+few-run : (r : ℕ) (s : State) (es : List Event) → AreLegalFrom s es → AreApart s.parked → waits_of r s.parked ≤ 1 → waits_of r (run_from s es).parked ≤ 1
+few-run r s [] legal apart few = few
+few-run r s (e ∷ es) legal apart few = let one = few-step r s e legal.0 apart few in few-run r (step s e).state es legal.1 (apart-step s e legal.0 apart) (omega (arith, one))
 
 -- a client has as many calls as it has replies, and one more where its last one waits
 pub balanced : (h : History) (r : ℕ) → IsLegal h → length (own h r) ≡ length (replies h r) + cond (is_waiting (run h) r) 1 0
 balanced h r legal =
-    let even = even_run h r in
-    let few = few-run r (opening h.limits h.clients) h.events legal (omega arith) in ⊎_elim
+    let even = even_run h r legal in
+    let few = few-run r (opening h.limits h.clients) h.events legal none_apart (omega arith) in ⊎_elim
     (λ (some : is_waiting (run h) r ≡ true). let one = ap {B = ℕ} (λ b. cond b 1 0) some in let least = some_wait r (run h).parked some in omega (arith, even, few, one, least))
     (λ (none : is_waiting (run h) r ≡ false). let zero = ap {B = ℕ} (λ b. cond b 1 0) none in let no = none_waits r (run h).parked none in omega (arith, even, zero, no))
     (cases_Bool (is_waiting (run h) r))
@@ -227,17 +229,17 @@ told_count h e r =
 pub told_once : (h : History) (e : Event) (r : ℕ) → IsLegal (with_event h e) → length (replies_in (told_of h e) r) ≤ 1
 told_once h e r legal =
     let before = legal_before h e legal in
-    let few = few-run r (opening h.limits h.clients) h.events before.0 (omega arith) in
-    let step_few = few-step r (run h) e before.1 few in
+    let few = few-run r (opening h.limits h.clients) h.events before.0 none_apart (omega arith) in
+    let step_few = few-step r (run h) e before.1 (apart-run h before.0) few in
     let count = told_count h e r in omega (arith, step_few, count)
 
 -- and none but clients of the namespace
 abbrev NoneWait : ℕ → State → Type 0
 NoneWait n s = (r : ℕ) → n ≤ r → waits_of r s.parked ≡ 0
 
-none-step : (n : ℕ) (s : State) (e : Event) → e.client < n → NoneWait n s → (r : ℕ) → n ≤ r → waits_of r (step s e).state.parked + (own_told r e.client (step s e).own + ends_of r (step s e).ended) ≡ 0
-none-step n s e known none r above =
-    let even = even-step r s e in
+none-step : (n : ℕ) (s : State) (e : Event) → e.client < n → IsLegalAt s e → AreApart s.parked → NoneWait n s → (r : ℕ) → n ≤ r → waits_of r (step s e).state.parked + (own_told r e.client (step s e).own + ends_of r (step s e).ended) ≡ 0
+none-step n s e known legal apart none r above =
+    let even = even-step r s e legal apart in
     let other = ap {B = ℕ} (λ b. cond b 1 0) (ne_eqb e.client r (λ same. absurd (omega (arith, same, known, above)))) in
     let was = none r above in omega (arith, even, other, was)
 
@@ -248,12 +250,12 @@ clients-run : (s : State) (es : List Event) → (run_from s es).clients ≡ s.cl
 clients-run s [] = refl
 clients-run s (e ∷ es) = clients-run (step s e).state es ∙ clients-step s e
 
-none-run : (s : State) (es : List Event) → AreLegalFrom s es → NoneWait (length s.clients) s → NoneWait (length s.clients) (run_from s es)
-none-run s [] legal none = none
-none-run s (e ∷ es) legal none =
+none-run : (s : State) (es : List Event) → AreLegalFrom s es → AreApart s.parked → NoneWait (length s.clients) s → NoneWait (length s.clients) (run_from s es)
+none-run s [] legal apart none = none
+none-run s (e ∷ es) legal apart none =
     let same = ap length (clients-step s e) in
-    let later : NoneWait (length (step s e).state.clients) (step s e).state = λ r above. (let now = none-step (length s.clients) s e legal.0.known none r (omega (arith, same, above)) in omega (arith, now)) in
-    λ r above. none-run (step s e).state es legal.1 later r (omega (arith, same, above))
+    let later : NoneWait (length (step s e).state.clients) (step s e).state = λ r above. (let now = none-step (length s.clients) s e legal.0.known legal.0 apart none r (omega (arith, same, above)) in omega (arith, now)) in
+    λ r above. none-run (step s e).state es legal.1 (apart-step s e legal.0 apart) later r (omega (arith, same, above))
 
 all_known : (n : ℕ) (l : List (ℕ × Reply)) → ((r : ℕ) → n ≤ r → length (replies_in l r) ≡ 0) → All (λ t. t.0 < n) l
 all_known n [] none = All-nil (λ t. t.0 < n)
@@ -273,7 +275,7 @@ told_known h e legal =
     let start = opening h.limits h.clients in
     let same = ap length (clients-run start h.events) in
     let known = before.1.known in
-    all_known (length h.clients) (told_of h e) (λ r above. let now = none-step (length h.clients) (run h) e (omega (arith, same, known)) (none-run start h.events before.0 (λ q far. refl)) r above in let count = told_count h e r in omega (arith, now, count))
+    all_known (length h.clients) (told_of h e) (λ r above. let now = none-step (length h.clients) (run h) e (omega (arith, same, known)) before.1 (apart-run h before.0) (none-run start h.events before.0 none_apart (λ q far. refl)) r above in let count = told_count h e r in omega (arith, now, count))
 
 -- what one more event adds to a client's calls and replies
 pub own_push : (h : History) (e : Event) (r : ℕ) → own (with_event h e) r ≡ own h r ++ cond (e.client == r) ((e.now, e.call) ∷ []) []
@@ -300,13 +302,13 @@ replies_push h e r =
     ∙ map-append reply_of (filter (λ (t : Told). t.client == r) (answers h)) (filter (λ (t : Told). t.client == r) more)
     ∙ ap (λ l. replies h r ++ l) (sym (in-told r more))
 
-pub no_more_replies : (h : History) (r : ℕ) → length (replies h r) ≤ length (own h r)
-no_more_replies h r = let even = even_run h r in omega (arith, even)
+pub no_more_replies : (h : History) (r : ℕ) → IsLegal h → length (replies h r) ≤ length (own h r)
+no_more_replies h r legal = let even = even_run h r legal in omega (arith, even)
 
 -- a client each of whose calls has its reply has no call that waits
-pub is_free : (h : History) (r : ℕ) → length (own h r) ≡ length (replies h r) → is_waiting (run h) r ≡ false
-is_free h r same =
-    let even = even_run h r in ⊎_elim
+pub is_free : (h : History) (r : ℕ) → IsLegal h → length (own h r) ≡ length (replies h r) → is_waiting (run h) r ≡ false
+is_free h r legal same =
+    let even = even_run h r legal in ⊎_elim
     (λ (some : is_waiting (run h) r ≡ true). let least = some_wait r (run h).parked some in absurd (omega (arith, even, same, least)))
     (λ (none : is_waiting (run h) r ≡ false). none)
     (cases_Bool (is_waiting (run h) r))

@@ -1,37 +1,37 @@
 -- What no event undoes: the tables stay sound, and an identifier that was used stays used.
-use Rattle.std.proofs.Common.{◌≡◌, ℕ, zero, suc, Bool, true, false, not, cond, List, [], ◌∷◌, map, length, refl, sym, ◌∙◌, subst, Option, Some, None}
-use Rattle.std.specs.Prelude.{if◌then◌else◌, ◌==◌, ◌&&◌, ◌||◌, ℤ, pos, int_le, nat_le, take, bit_and, slice_get, option_map}
+use Rattle.std.proofs.Common.{◌≡◌, ℕ, zero, suc, Bool, true, false, cond, [], ◌∷◌, length, refl, sym, ◌∙◌, subst, Option, Some, None}
+use Rattle.std.specs.Prelude.{if◌then◌else◌, ◌==◌, option_map}
 use Rattle.std.specs.FinMap as finite
 use Rattle.std.proofs.lemmas.Option.{none-some}
+use Rattle.ipc_call.specs.Flags.{has_flag, msg_except}
 use Rattle.ipc_call.specs.declared.calls.Call.{Call}
 use Rattle.ipc_call.specs.declared.calls.Call.TheVariants.{MsgGet, MsgSnd, MsgRcv, IpcStat, IpcSet, IpcRmid, Interrupt}
 use Rattle.ipc_call.specs.declared.calls.Kind.{Kind}
 use Rattle.ipc_call.specs.declared.calls.Kind.TheVariants as kinds
-use Rattle.ipc_call.specs.declared.replies.Answer.{Answer}
-use Rattle.ipc_call.specs.declared.replies.Answer.TheVariants.{Done, Message as MessageAnswer, Status}
+use Rattle.ipc_call.specs.declared.replies.Answer.TheVariants.{Done}
+use Rattle.ipc_call.specs.declared.settings.Settings.{Settings}
 use Rattle.ipc_call.specs.declared.replies.Waiting.{Waiting}
 use Rattle.ipc_call.specs.declared.rules.Rule.{Rule}
 use Rattle.ipc_call.specs.declared.rules.Rule.TheVariants.{BadId, NoProcess, NoSlot}
 use Rattle.ipc_creds.specs.Credentials.{Credentials}
 use Rattle.ipc_perm.specs.declared.perms.Perm.{Perm}
-use Rattle.ipc_perm.specs.Access.{Need, Resource, denial}
+use Rattle.ipc_perm.specs.Access.{Resource}
 use Rattle.msg_queue.specs.declared.messages.Message.{Message}
-use Rattle.msg_queue.specs.Messages.{is_full}
-use Rattle.ipc_ids.specs.Table.{IsSound, WasUsed, next_id, without_object}
+use Rattle.ipc_ids.specs.Table.{IsSound, WasUsed, next_id}
 use Rattle.ipc_ids.proofs.Sound.{IsSound-change, IsSound-new, IsSound-without, WasUsed-with, WasUsed-without, next_id-fresh}
 use Rattle.ipc_model.specs.State.{Queue, State, creds_at, queue_with_key}
-use Rattle.ipc_model.specs.Decision.{Decision, Refuse, Wait, Serve}
+use Rattle.ipc_model.specs.Decision.{Decision, Refuse, Wait, Grant}
 use Rattle.ipc_model.specs.Plan.{IsPlain, Needs, Plan, found, in_order}
 use Rattle.ipc_namespace.proofs.Plans.{end_of}
 use Rattle.ipc_space.proofs.Ends.{by-end}
 use Rattle.ipc_model.specs.Plan as plans
 use Rattle.ipc_model.specs.Queues.{get_found, make_queue, new_queue}
-use Rattle.ipc_model.specs.Messages.{chosen, excepts, queue_at, take_chosen, with_changed}
+use Rattle.ipc_model.specs.Messages.{chosen, queue_at, take_chosen, with_changed}
 use Rattle.ipc_model.specs.Interrupts.{process}
 use Rattle.ipc_model.specs.Controls.{is_within, perm_of, stat_object, with_change, with_set, with_settings, without as without_object_of}
 use Rattle.ipc_model.specs.Decide.{decide, plan}
 use Rattle.ipc_namespace.specs.Namespace.{moved_by}
-use Rattle.ipc_model.specs.Step.{Event, Moved, at_moment, end_at, end_waiting, ended_by, first_ready, force, forced_by, settle, settle_from, settled, state_by, step, without}
+use Rattle.ipc_model.specs.Step.{Event, Moved, at_time, end_waiting, ended_by, first_ready, cancel, cancelled_by, settle, settle_from, settled, state_by, step, without}
 
 -- the second state may come after the first
 pub record Follows (s t : State) : Type 0 where
@@ -57,7 +57,7 @@ Follows-on s t u first second = record {
 abbrev pub Keeps : State → Decision State → Type 0
 Keeps s (Refuse rule) = Unit {0}
 Keeps s Wait = Unit {0}
-Keeps s (Serve answer new) = (new.parked ≡ s.parked) × Follows s new
+Keeps s (Grant answer new) = (new.parked ≡ s.parked) × Follows s new
 
 abbrev Serves : State → Plan State → Type 0
 Serves s p = Keeps s (end_of p)
@@ -128,22 +128,22 @@ Follows-changed s id change (Some queue) is = record {
   used = λ sound j was. WasUsed-with s.queues id (change queue) j was;
 }
 
-Serves-set : (s : State) (kind : Kind) (id uid gid mode : ℕ) (qbytes : Option ℕ) (within : Bool) → Serves s (in_order (if within then [] else Needs Resource ∷ []) (plans.Serve Done (with_set s kind id uid gid mode qbytes)))
-Serves-set s kinds.Queue id uid gid mode qbytes true = (refl, Follows-changed s id (λ queue. with_settings queue s.clock uid gid mode qbytes) (finite.get s.queues.objects id) refl)
-Serves-set s kinds.Queue id uid gid mode qbytes false = (refl, Follows-changed s id (λ queue. with_settings queue s.clock uid gid mode qbytes) (finite.get s.queues.objects id) refl)
-Serves-set s kinds.Sems id uid gid mode qbytes true = Serves-same s
-Serves-set s kinds.Sems id uid gid mode qbytes false = Serves-same s
-Serves-set s kinds.Segment id uid gid mode qbytes true = Serves-same s
-Serves-set s kinds.Segment id uid gid mode qbytes false = Serves-same s
+Serves-set : (s : State) (kind : Kind) (id : ℕ) (set : Settings) (within : Bool) → Serves s (in_order (if within then [] else Needs Resource ∷ []) (plans.Grant Done (with_set s kind id set)))
+Serves-set s kinds.Queue id set true = (refl, Follows-changed s id (λ queue. with_settings queue s.clock set) (finite.get s.queues.objects id) refl)
+Serves-set s kinds.Queue id set false = (refl, Follows-changed s id (λ queue. with_settings queue s.clock set) (finite.get s.queues.objects id) refl)
+Serves-set s kinds.Sems id set true = Serves-same s
+Serves-set s kinds.Sems id set false = Serves-same s
+Serves-set s kinds.Segment id set true = Serves-same s
+Serves-set s kinds.Segment id set false = Serves-same s
 
 -- each call
 Serves-plan : (s : State) (client : ℕ) (call : Call) → Serves s (plan s client call)
 unfolding plan
 Serves-plan s client (MsgGet key flags) = Serves-get s (creds_at s client) key flags (key == 0) (queue_with_key s key)
 Serves-plan s client (MsgSnd id mtype text flags) = Serves-found s (queue_at s id) BadId tt _ (λ queue is. Serves-changed s id queue _ is)
-Serves-plan s client (MsgRcv id size msgtyp flags) = Serves-found s (queue_at s id) BadId tt _ (λ (queue : Queue) is. Serves-taken s client id size flags queue (chosen queue.messages msgtyp (excepts flags)) is)
+Serves-plan s client (MsgRcv id size msgtyp flags) = Serves-found s (queue_at s id) BadId tt _ (λ (queue : Queue) is. Serves-taken s client id size flags queue (chosen queue.messages msgtyp (has_flag flags msg_except)) is)
 Serves-plan s client (IpcStat kind id) = Serves-stat s kind id
-Serves-plan s client (IpcSet kind id uid gid mode qbytes) = Serves-found s (perm_of s kind id) BadId tt _ (λ perm is. Serves-set s kind id uid gid mode qbytes (is_within s qbytes))
+Serves-plan s client (IpcSet kind id uid gid mode qbytes) = Serves-found s (perm_of s kind id) BadId tt _ (λ perm is. Serves-set s kind id (record { uid = uid; gid = gid; mode = mode; qbytes = qbytes }) (is_within s qbytes))
 Serves-plan s client (IpcRmid kind id) = Serves-found s (perm_of s kind id) BadId tt _ (λ perm is. Serves-removed s kind id perm is)
 Serves-plan s client (Interrupt pid) = Serves-found s (process s pid) NoProcess tt _ (λ target is. Serves-same s)
 
@@ -153,23 +153,22 @@ Keeps-decide s client call = by-end (creds_at s client) (Keeps s) (λ rule. tt) 
 Follows-state_by : (s : State) (client : ℕ) (call : Call) (d : Decision State) → Keeps s d → Follows s (state_by s client call d)
 Follows-state_by s client call (Refuse rule) keeps = Follows-same s s refl refl
 Follows-state_by s client call Wait keeps = Follows-same s (state_by s client call Wait) refl refl
-Follows-state_by s client call (Serve answer new) keeps = keeps.1
+Follows-state_by s client call (Grant answer new) keeps = keeps.1
 
 Follows-ended_by : (s : State) (client : ℕ) (d : Decision State) → Keeps s d → Follows s (ended_by s client d).state
 Follows-ended_by s client (Refuse rule) keeps = Follows-same s s refl refl
 Follows-ended_by s client Wait keeps = Follows-same s s refl refl
-Follows-ended_by s client (Serve answer new) keeps = keeps.1
+Follows-ended_by s client (Grant answer new) keeps = keeps.1
 
-Follows-end_waiting : (s : State) (place : ℕ) (w : Option Waiting) → Follows s (end_waiting s place w).state
-Follows-end_waiting s place None = Follows-same s s refl refl
-Follows-end_waiting s place (Some w) =
-    let rest = without s place in
+Follows-end_waiting : (s : State) (w : Waiting) → Follows s (end_waiting s w).state
+Follows-end_waiting s w =
+    let rest = without s w.client in
     Follows-on s rest (ended_by rest w.client (decide rest w.client w.call)).state (Follows-same s rest refl refl) (Follows-ended_by rest w.client (decide rest w.client w.call) (Keeps-decide rest w.client w.call))
 
-Follows-settle_from : (go : State → Moved) → ((t : State) → Follows t (go t).state) → (s : State) (place : Option ℕ) → Follows s (settle_from go s place).state
+Follows-settle_from : (go : State → Moved) → ((t : State) → Follows t (go t).state) → (s : State) (o : Option Waiting) → Follows s (settle_from go s o).state
 Follows-settle_from go goes s None = Follows-same s s refl refl
-Follows-settle_from go goes s (Some place) =
-    let ended = (end_at s place).state in Follows-on s ended (go ended).state (Follows-end_waiting s place (slice_get s.parked place)) (goes ended)
+Follows-settle_from go goes s (Some w) =
+    let ended = (end_waiting s w).state in Follows-on s ended (go ended).state (Follows-end_waiting s w) (goes ended)
 
 Follows-settle : (n : ℕ) (s : State) → Follows s (settle n s).state
 Follows-settle zero s = Follows-same s s refl refl
@@ -178,21 +177,21 @@ Follows-settle (suc n) s = Follows-settle_from (settle n) (Follows-settle n) s (
 pub Follows-settled : (s : State) → Follows s (settled s).state
 Follows-settled s = Follows-settle (length s.parked) s
 
-pub Follows-forced_by : (s : State) (call : Call) (d : Decision State) → Follows s (forced_by s call d).state
-Follows-forced_by s call (Refuse rule) = Follows-same s s refl refl
-Follows-forced_by s call Wait = Follows-same s s refl refl
-Follows-forced_by s call (Serve answer new) = Follows-same s (force s call).state refl refl
+pub Follows-cancelled_by : (s : State) (call : Call) (d : Decision State) → Follows s (cancelled_by s call d).state
+Follows-cancelled_by s call (Refuse rule) = Follows-same s s refl refl
+Follows-cancelled_by s call Wait = Follows-same s s refl refl
+Follows-cancelled_by s call (Grant answer new) = Follows-same s (cancel s call).state refl refl
 
--- what a call leaves before the waiting ones go on may follow
+-- what a call leaves before the waiting ones proceed may follow
 pub Follows-moved : (s : State) (client : ℕ) (call : Call) → Follows s (moved_by s client call).state
 Follows-moved s client call =
     let d = decide s client call in
     let entered = state_by s client call d in
-    Follows-on s entered (forced_by entered call d).state (Follows-state_by s client call d (Keeps-decide s client call)) (Follows-forced_by entered call d)
+    Follows-on s entered (cancelled_by entered call d).state (Follows-state_by s client call d (Keeps-decide s client call)) (Follows-cancelled_by entered call d)
 
 -- the state after an event may follow the one before it
 pub Follows-step : (s : State) (e : Event) → Follows s (step s e).state
 Follows-step s e =
-    let now = at_moment s e.now in
+    let now = at_time s e.now in
     let moved = (moved_by now e.client e.call).state in
     Follows-on s now (settled moved).state (Follows-same s now refl refl) (Follows-on now moved (settled moved).state (Follows-moved now e.client e.call) (Follows-settled moved))

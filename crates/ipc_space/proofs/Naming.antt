@@ -1,31 +1,27 @@
 -- An identifier that an event gives to a new object was never used before, so none is given twice.
-use Rattle.std.proofs.Common.{◌≡◌, ℕ, ◌≤◌, Bool, true, false, eqb, not, cond, List, [], ◌∷◌, ◌++◌, refl, sym, ap, ◌∙◌, subst, Option, Some, None, Ok, Err}
-use Rattle.std.specs.Prelude.{bit_and, ◌==◌, ◌&&◌, option_map, if◌then◌else◌, is_none}
+use Rattle.std.proofs.Common.{◌≡◌, ℕ, ◌≤◌, Bool, true, false, eqb, cond, List, [], ◌∷◌, ◌++◌, refl, sym, subst, Option, Some, None, Ok}
+use Rattle.std.specs.Prelude.{◌==◌, if◌then◌else◌, is_none}
 use Rattle.std.specs.List.{AllByRecursion, IsDistinct}
 use Rattle.std.proofs.lemmas.Bool.{true≢false, ne_eqb}
-use Rattle.std.proofs.lemmas.Option.{none-some}
 use Rattle.ipc_call.specs.declared.calls.Call.{Call}
 use Rattle.ipc_call.specs.declared.calls.Call.TheVariants.{MsgGet}
 use Rattle.ipc_call.specs.declared.calls.Kind.{Kind}
 use Rattle.ipc_call.specs.declared.calls.Kind.TheVariants as kinds
 use Rattle.ipc_call.specs.declared.replies.Answer.TheVariants.{Id}
-use Rattle.ipc_call.specs.declared.rules.Rule.{Rule}
 use Rattle.ipc_call.specs.declared.rules.Rule.TheVariants.{NoSlot}
 use Rattle.ipc_creds.specs.Credentials.{Credentials}
 use Rattle.ipc_perm.specs.declared.perms.Perm.{Perm}
-use Rattle.ipc_perm.specs.Access.{Permission, asked_of, denial}
-use Rattle.ipc_ids.specs.Table.{IsSound, WasUsed, find_object, next_id, with_object}
-use Rattle.ipc_ids.proofs.Searches.{find_object-found}
+use Rattle.ipc_ids.specs.Table.{IsSound, WasUsed, next_id, with_object}
 use Rattle.ipc_ids.proofs.Sound.{IsFresh, IsSound-empty, WasUsed-there, fresh-unused, get-insert-same, next_id-fresh}
-use Rattle.ipc_model.specs.State.{Queue, State, creds_at, has_key, opening, queue_with_key}
-use Rattle.ipc_model.specs.Decision.{Decision, Refuse, Wait, Serve}
+use Rattle.ipc_model.specs.State.{Queue, State, creds_at, opening, queue_with_key}
+use Rattle.ipc_model.specs.Decision.{Decision, Grant}
 use Rattle.ipc_model.specs.Plan.{Plan, decision, found}
 use Rattle.ipc_namespace.proofs.Plans.{end_of}
 use Rattle.ipc_space.proofs.Ends.{by-end}
 use Rattle.ipc_model.specs.Plan as plans
 use Rattle.ipc_model.specs.Queues.{get_found, get_queue, make_queue, new_queue}
 use Rattle.ipc_model.specs.Decide.{plan}
-use Rattle.ipc_model.specs.Step.{Event, Outcome, at_moment, force, forced_by, own_of, settled, state_by, step}
+use Rattle.ipc_model.specs.Step.{Event, Outcome, at_time, cancel, cancelled_by, own_of, settled, state_by, step}
 use Rattle.ipc_model.specs.History.{History}
 use Rattle.ipc_model.specs.Made.{id_in, made, made_by, made_from, makes}
 use Rattle.ipc_space.proofs.Keeping.{Follows, Follows-settled, Follows-step, Keeps, Keeps-decide}
@@ -38,7 +34,7 @@ IsUsed s kinds.Segment id = ⊥
 
 -- a grant that answers an identifier creates its object, and the identifier is fresh
 abbrev pub NamesFresh : State → Decision State → Type 0
-NamesFresh s (Serve (Id id) new) = IsFresh s.queues id × WasUsed new.queues id
+NamesFresh s (Grant (Id id) new) = IsFresh s.queues id × WasUsed new.queues id
 NamesFresh s d = Unit {0}
 
 -- the same of what a plan serves
@@ -46,7 +42,7 @@ abbrev Names : State → Plan State → Type 0
 Names s p = NamesFresh s (end_of p)
 
 Names-made : (s : State) (queue : Queue) (id : Option ℕ) → s.queues.slots ≤ 32768 → next_id s.queues ≡ id
-    → Names s (found id NoSlot tt (λ id. plans.Serve (Id id) (record s { queues = with_object s.queues id queue })))
+    → Names s (found id NoSlot tt (λ id. plans.Grant (Id id) (record s { queues = with_object s.queues id queue })))
 Names-made s queue None few is = tt
 Names-made s queue (Some id) few is =
     (next_id-fresh s.queues few id is, WasUsed-there (with_object s.queues id queue) id queue (get-insert-same s.queues.objects id queue))
@@ -70,17 +66,17 @@ all-where P true xs named = named refl
 all-where P false xs named = tt
 
 named-in : (s : State) (d : Decision State) (client : ℕ) (call : Call) → NamesFresh s d → Keeps s d → IsSound s.queues
-    → AllByRecursion (IsNamed s kinds.Queue (settled (forced_by (state_by s client call d) call d).state).state) (id_in (own_of d))
-named-in s (Serve (Id id) new) client call names keeps sound =
-    let forced = (force new call).state in
-    ((fresh-unused s.queues id names.0, (Follows-settled forced).used (keeps.1.sound sound) id names.1), tt)
+    → AllByRecursion (IsNamed s kinds.Queue (settled (cancelled_by (state_by s client call d) call d).state).state) (id_in (own_of d))
+named-in s (Grant (Id id) new) client call names keeps sound =
+    let cancelled = (cancel new call).state in
+    ((fresh-unused s.queues id names.0, (Follows-settled cancelled).used (keeps.1.sound sound) id names.1), tt)
 named-in s d client call names keeps sound = tt
 
 named-by : (kind : Kind) (s : State) (client now : ℕ) (call : Call) → IsSound s.queues
     → AllByRecursion (IsNamed s kind (step s (record { client = client; now = now; call = call })).state) (made_by kind s (record { client = client; now = now; call = call }))
 unfolding plan
 named-by kinds.Queue s client now (MsgGet key flags) sound =
-    let here = at_moment s now in
+    let here = at_time s now in
     let d = decision (creds_at s client) (get_queue here (creds_at s client) key flags) in
     all-where _ (is_none (queue_with_key s key)) _ (λ absent.
     named-in here d client (MsgGet key flags) (NamesFresh-get_queue here (creds_at s client) key flags sound.few absent) (Keeps-decide here client (MsgGet key flags)) sound)

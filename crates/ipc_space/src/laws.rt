@@ -9,7 +9,7 @@ ghost use Rattle.ipc_call.specs.declared.rules.Rule.{Rule as RuleOf};
 ghost use Rattle.ipc_call.specs.declared.replies.Answer.{Answer as AnswerOf};
 ghost use Rattle.ipc_model.specs.Access.{AreMet, IsDenied, caller_of, checks_of, needs_of};
 ghost use Rattle.ipc_model.specs.Plan.{is_denial};
-ghost use Rattle.ipc_model.specs.Step.{Event, Stepped, at_moment};
+ghost use Rattle.ipc_model.specs.Step.{Event, Stepped, at_time};
 ghost use Rattle.ipc_model.specs.State.{is_waiting};
 ghost use Rattle.ipc_model.specs.History.{History, IsLegal, run, own, replies, with_event, next_step};
 ghost use Rattle.ipc_space.specs.Telling.{told_of, replies_in};
@@ -26,7 +26,7 @@ pub fn ids_once()
 /// A call that is refused moves the clock on and changes nothing else: no object, and no call that waits.
 pub fn refused_calls_change_nothing()
     ensures { (h : History) (e : Event) (rule : RuleOf) → IsLegal h → (next_step h e).own ≡ Some (Err rule)
-        → next_step h e ≡ record { state = at_moment (run h) e.now; own = Some (Err rule); ended = [] } }
+        → next_step h e ≡ record { state = at_time (run h) e.now; own = Some (Err rule); ended = [] } }
 {}
 
 /// No waiting call is ready or unpermitted after a call: after every history each call that waits would still

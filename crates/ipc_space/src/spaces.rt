@@ -36,6 +36,8 @@ use std::marker::Model;
 /// What an event tells the clients.
 #[derive(Debug, Drop)]
 pub struct Effects {
+    /// The number of the event among those of the namespace, from 1.
+    pub place: u64,
     /// The reply to the event's own call, with turn 0. None where the call waits.
     pub own: Option<Reply>,
     /// The replies to the waiting calls that the event ended, each with its client, by turn from 1.
@@ -54,14 +56,13 @@ pub struct Space {
 
 impl Model for Space {
     ghost use Rattle.ipc_model.specs.History.{History};
-    ghost use Rattle.std.specs.Prelude.{◌≤◌};
     ghost use Rattle.ipc_space.specs.Spaces.{history_in, IsOfHistory};
 
     ghost Value = { History };
 
-    ghost view = { λ s. history_in s.namespace.state s.journal.rows };
+    ghost view = { λ s. history_in s.namespace s.journal.rows };
 
-    ghost invariant = { λ s. IsOfHistory s.namespace.state s.journal.rows s.events × (s.namespace.latest ≤ s.events) };
+    ghost invariant = { λ s. IsOfHistory s.namespace s.journal.rows s.events };
 }
 
 impl Space {
@@ -83,7 +84,7 @@ impl Space {
         })
     }
 
-    /// Serves a call of a client at a moment in seconds, as the next event. The client is one of the
+    /// Serves a call of a client at a time in seconds, as the next event. The client is one of the
     /// namespace, and has no call that waits. A call that waits ends no other. Afterwards no waiting call is
     /// ready, each one's client has the rights that it needs, and no client waits twice. Memory (ENOMEM) comes
     /// where a growth was refused, and then nothing has changed, the clock and the journal included.
@@ -92,6 +93,7 @@ impl Space {
         requires known { client < length self.old.clients }
         requires free { waits (run self.old) client ≡ false }
         ensures event { OnOk result (self.new ≡ with_event self.old (record { client = client; now = now; call = call })) }
+        ensures place { IfOk result (λ effects. effects.place ≡ length self.old.events + 1) }
         ensures own { IfOk result (λ effects.
             effects.own ≡ own_reply (length self.old.events + 1) (next_step self.old (record { client = client; now = now; call = call })).own) }
         ensures others { IfOk result (λ effects.
@@ -103,7 +105,7 @@ impl Space {
         ensures once { WaitOnce (run self.new) }
         ensures err { OnErr result (self.new ≡ self.old) }
     {
-        let most = self.namespace.most_ended(&call);
+        let most = self.namespace.most_ended();
         self.journal.reserve(most + 2)?;
         let mut others = Vec::with_capacity(self.alloc, most)?;
         let copied = call.copy()?;
@@ -118,7 +120,7 @@ impl Space {
         self.journal.enter(row);
         let own = tell_own(&mut self.journal, client, place, served.own);
         tell_others(&mut self.journal, &mut others, place, served.ended);
-        Ok(Effects { own, others })
+        Ok(Effects { place, own, others })
     }
 
     /// How many clients there are, at most 64. They are numbered from 0.
@@ -143,7 +145,7 @@ impl Space {
         self.namespace.is_waiting(client)
     }
 
-    /// The clock in seconds: the latest moment of an event, 0 before the first.
+    /// The clock in seconds: the latest time of an event, 0 before the first.
     pub fn clock(&self) -> u64
         ensures { result ≡ (run self.now).clock }
     {

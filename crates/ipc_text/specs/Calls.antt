@@ -51,7 +51,9 @@ msgrcv_of (id ∷ size ∷ msgtyp ∷ flags ∷ more ∷ others) = None
 
 -- KIND: q queue, s semaphore set, m segment
 unfoldable pub kind_named : List ℕ → Option Kind
-kind_named word = if bytes_eq word (codes "q") then Some Queue else (if bytes_eq word (codes "s") then Some Sems else (if bytes_eq word (codes "m") then Some Segment else None))
+kind_named word =
+    if bytes_eq word (codes "q") then Some Queue
+    else (if bytes_eq word (codes "s") then Some Sems else (if bytes_eq word (codes "m") then Some Segment else None))
 
 -- KIND ID
 abbrev pub object_of : List (List ℕ) → Option (Kind × ℕ)

@@ -28,7 +28,9 @@ group_list text = numbers_32 (fields_of text) >>= at_most_32
 
 unfoldable pub capability_named : List ℕ → Option ℕ
 capability_named word =
-    if bytes_eq word (codes "IPC_OWNER") then Some cap_ipc_owner else (if bytes_eq word (codes "SYS_ADMIN") then Some cap_sys_admin else (if bytes_eq word (codes "SYS_RESOURCE") then Some cap_sys_resource else None))
+    if bytes_eq word (codes "IPC_OWNER") then Some cap_ipc_owner
+    else (if bytes_eq word (codes "SYS_ADMIN") then Some cap_sys_admin
+    else (if bytes_eq word (codes "SYS_RESOURCE") then Some cap_sys_resource else None))
 
 -- the capabilities so far with those that the words name
 abbrev pub with_capabilities : ℕ → List (List ℕ) → Option ℕ
@@ -44,7 +46,8 @@ option_text prefix [] = None
 option_text prefix (w ∷ ws) = option_map (λ text. (text, ws)) (after_prefix prefix w)
 
 -- an option of a client's line that may be missing, and the words behind it
-abbrev pub optional_at : {A : Type 0} → (List ℕ → Option A) → A → List (List ℕ) → Option (List ℕ × List (List ℕ)) → Option (A × List (List ℕ))
+abbrev pub optional_at : {A : Type 0} → (List ℕ → Option A) → A → List (List ℕ) → Option (List ℕ × List (List ℕ))
+    → Option (A × List (List ℕ))
 optional_at read none words None = Some (none, words)
 optional_at read none words (Some (text, ws)) = option_map (λ x. (x, ws)) (read text)
 

@@ -13,7 +13,8 @@ is_directive word = bytes_eq word (codes "client") || (bytes_eq word (codes "lim
 
 unfoldable pub is_name : List ℕ → Bool
 is_name [] = false
-is_name (b ∷ bs) = nat_le (length (b ∷ bs)) 16 && (is_letter b && (list_all is_name_byte bs && not (is_directive (b ∷ bs))))
+is_name (b ∷ bs) =
+    nat_le (length (b ∷ bs)) 16 && (is_letter b && (list_all is_name_byte bs && not (is_directive (b ∷ bs))))
 
 abbrev pub name_of : List ℕ → Option (List ℕ)
 name_of word = if is_name word then Some word else None

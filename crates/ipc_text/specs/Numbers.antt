@@ -6,7 +6,8 @@ use Rattle.std.specs.Str.Parse.{digits_value}
 
 -- the number that these digits of a base write
 abbrev pub numeral : ℕ → List ℕ → Option ℕ
-numeral base digits = if list_all (λ c. nat_lt (digit_value c) base) digits then Some (digits_value base digits) else None
+numeral base digits =
+    if list_all (λ c. nat_lt (digit_value c) base) digits then Some (digits_value base digits) else None
 
 -- behind 0x (byte 120) a digit at least has to stand
 abbrev pub hexadecimal : List ℕ → Option ℕ

@@ -31,7 +31,8 @@ bad_row line reason = codes "line " ++ (decimal line ++ (codes ": " ++ (name_of_
 -- an error with its number, its name, and the rule or the lack of memory that caused it
 abbrev pub error_text : Errno → List ℕ → List ℕ
 error_text error cause =
-    codes "error " ++ (decimal (number_of error) ++ (codes " " ++ (name_of error ++ (codes " " ++ (cause ++ codes "\n")))))
+    codes "error "
+    ++ (decimal (number_of error) ++ (codes " " ++ (name_of error ++ (codes " " ++ (cause ++ codes "\n")))))
 
 -- a key: 0x and eight hexadecimal digits, as {:08x} writes them
 unfoldable pub key_text : ℕ → List ℕ
@@ -43,17 +44,24 @@ mode_text mode = padded_integral (format_spec 32 0 4 4 (2 ^ 64 - 1)) false [] (d
 
 abbrev pub owners_text : QueueStatus → List ℕ
 owners_text q =
-    codes " uid " ++ (decimal q.uid ++ (codes " gid " ++ (decimal q.gid ++ (codes " cuid " ++ (decimal q.cuid ++ (codes " cgid " ++ decimal q.cgid))))))
+    codes " uid "
+    ++ (decimal q.uid
+    ++ (codes " gid "
+    ++ (decimal q.gid ++ (codes " cuid " ++ (decimal q.cuid ++ (codes " cgid " ++ decimal q.cgid))))))
 
 abbrev pub access_text : QueueStatus → List ℕ
 access_text q = codes "queue key " ++ (key_text q.key ++ (owners_text q ++ (codes " mode " ++ mode_text q.mode)))
 
 abbrev pub times_text : QueueStatus → List ℕ
-times_text q = codes " stime " ++ (decimal q.stime ++ (codes " rtime " ++ (decimal q.rtime ++ (codes " ctime " ++ (decimal q.ctime ++ codes "\n")))))
+times_text q =
+    codes " stime "
+    ++ (decimal q.stime
+    ++ (codes " rtime " ++ (decimal q.rtime ++ (codes " ctime " ++ (decimal q.ctime ++ codes "\n")))))
 
 abbrev pub contents_text : QueueStatus → List ℕ
 contents_text q =
-    (codes " cbytes " ++ (decimal q.cbytes ++ (codes " qnum " ++ (decimal q.qnum ++ (codes " qbytes " ++ decimal q.qbytes)))))
+    (codes " cbytes "
+    ++ (decimal q.cbytes ++ (codes " qnum " ++ (decimal q.qnum ++ (codes " qbytes " ++ decimal q.qbytes)))))
     ++ ((codes " lspid " ++ (decimal q.lspid ++ (codes " lrpid " ++ decimal q.lrpid))) ++ times_text q)
 
 -- the state of a queue
@@ -62,7 +70,8 @@ queue_text q = access_text q ++ contents_text q
 
 -- a message: its type and the bytes of its text
 abbrev pub message_text : ℤ → List ℕ → List ℕ
-message_text mtype text = codes "message " ++ (signed_decimal mtype ++ (codes " x:" ++ (encode_lower text ++ codes "\n")))
+message_text mtype text =
+    codes "message " ++ (signed_decimal mtype ++ (codes " x:" ++ (encode_lower text ++ codes "\n")))
 
 abbrev pub outcome_text : Outcome → List ℕ
 outcome_text (Ok (Id id)) = codes "id " ++ (decimal id ++ codes "\n")
@@ -95,4 +104,5 @@ other_row names other = reply_row (name_at names other.0) other.1
 
 -- the rows of an event: its own first, then those of the waiting calls that it ended, by turn
 abbrev pub effect_rows : List (List ℕ) → ℕ → ℕ → Option Reply → List (ℕ × Reply) → List ℕ
-effect_rows names client place own others = own_row place (name_at names client) own ++ flat_map (other_row names) others
+effect_rows names client place own others =
+    own_row place (name_at names client) own ++ flat_map (other_row names) others

@@ -7,7 +7,13 @@ use Rattle.ipc_text.specs.Numbers.{number_within}
 
 unfoldable pub limit_named : List ℕ → Option Limit
 limit_named word =
-    if bytes_eq word (codes "slots") then Some Slots else (if bytes_eq word (codes "first-seq") then Some FirstSeq else (if bytes_eq word (codes "msgmax") then Some MsgMax else (if bytes_eq word (codes "msgmnb") then Some MsgMnb else (if bytes_eq word (codes "semmsl") then Some SemMsl else (if bytes_eq word (codes "semopm") then Some SemOpm else (if bytes_eq word (codes "shmmax") then Some ShmMax else None))))))
+    if bytes_eq word (codes "slots") then Some Slots
+    else (if bytes_eq word (codes "first-seq") then Some FirstSeq
+    else (if bytes_eq word (codes "msgmax") then Some MsgMax
+    else (if bytes_eq word (codes "msgmnb") then Some MsgMnb
+    else (if bytes_eq word (codes "semmsl") then Some SemMsl
+    else (if bytes_eq word (codes "semopm") then Some SemOpm
+    else (if bytes_eq word (codes "shmmax") then Some ShmMax else None))))))
 
 abbrev pub at_least : ℕ → ℕ → Option ℕ
 at_least low n = if nat_le low n then Some n else None

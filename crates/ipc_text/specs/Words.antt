@@ -25,7 +25,8 @@ onto_word b (w ∷ ws) = (b ∷ w) ∷ ws
 -- the words of a text, which blanks separate
 abbrev pub words_of : List ℕ → List (List ℕ)
 words_of [] = []
-words_of (b ∷ bs) = if is_blank b then words_of bs else (if begins_blank bs then (b ∷ []) ∷ words_of bs else onto_word b (words_of bs))
+words_of (b ∷ bs) =
+    if is_blank b then words_of bs else (if begins_blank bs then (b ∷ []) ∷ words_of bs else onto_word b (words_of bs))
 
 -- the fields of a word, which commas (byte 44) separate: there is at least one
 abbrev pub fields_of : List ℕ → List (List ℕ)

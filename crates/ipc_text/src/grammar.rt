@@ -169,7 +169,7 @@ pub fn limit_of(words: &[u8]) -> Option<(Limit, u32)>
     Some((limit, value))
 }
 
-/// The moment of `N`, the word behind `clock`, in seconds; `None` where it isn't a number of 64 bits. The
+/// The time of `N`, the word behind `clock`, in seconds; `None` where it isn't a number of 64 bits. The
 /// directive is the project's own.
 #[tactic(auto, unfolding(crate::specs::Grammar::clock_of))]
 pub fn clock_of(words: &[u8]) -> Option<u64>

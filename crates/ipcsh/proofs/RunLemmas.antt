@@ -26,7 +26,7 @@ pub record Going (r0 r1 w0 w1 : Option (List ℕ)) (text written : List ℕ) (i 
 abbrev between : Option (List ℕ) → Option (List ℕ) → Option (List ℕ) → Option (List ℕ) → Transfer
 between r0 r1 w0 w1 = record { read_before = r0; read_after = r1; written_before = w0; written_after = w1 }
 
--- the session at a moment with what was written so far
+-- the session at a place of the input with what was written so far
 abbrev printed : ScriptInput → List ℕ → Printed
 printed i written = record { session = i.session; output = written }
 

@@ -11,7 +11,7 @@ session_of a = record {
   names = a.names.items;
   clients = a.clients.items;
   limits = a.limits;
-  moment = a.moment;
+  time = a.time;
   history = a.space;
   lines = a.lines;
   bad = a.bad;
@@ -28,5 +28,3 @@ pub record IsSession (a : Inside) : Type 0 where
   pub alike : length a.clients.items ≡ length a.names.items
   pub started : HasClients a.space a.clients.items
   pub bad_lines : a.bad ≤ a.lines
-  pub calls : a.events ≡ session.events_in a.space
-  pub few_calls : a.events ≤ a.lines

@@ -23,14 +23,16 @@ pub record Answered : Type 0 where
   pub rows : List ℕ
 
 abbrev pub call_event : Session → ℕ → Call → Event
-call_event s client call = record { client = client; now = s.moment; call = call }
+call_event s client call = record { client = client; now = s.time; call = call }
 
 abbrev pub event_rows : List (List ℕ) → ℕ → ℕ → Stepped → List ℕ
-event_rows names client place stepped = effect_rows names client place (own_reply place stepped.own) (other_replies place stepped.ended)
+event_rows names client place stepped =
+    effect_rows names client place (own_reply place stepped.own) (other_replies place stepped.ended)
 
 -- the event is entered, or memory was refused: then it is left out of the history
 abbrev pub called : Session → ℕ → Call → History → Bool → Answered
-called s client call h true = record { session = record s { history = Some h }; rows = reply_row (name_at s.names client) Memory }
+called s client call h true =
+    record { session = record s { history = Some h }; rows = reply_row (name_at s.names client) Memory }
 called s client call h false = record {
   session = record s { history = Some (with_event h (call_event s client call)) };
   rows = event_rows s.names client (length h.events + 1) (next_step h (call_event s client call));
@@ -38,10 +40,13 @@ called s client call h false = record {
 
 abbrev pub carried_out : Session → Reading → Bool → Answered
 carried_out s readings.Skip refused = record { session = s; rows = [] }
-carried_out s (readings.Bad reason) refused = record { session = record s { bad = s.bad + 1 }; rows = bad_row s.lines reason }
-carried_out s (readings.Client name creds) refused = record { session = record s { names = s.names ++ name ∷ []; clients = s.clients ++ creds ∷ [] }; rows = [] }
-carried_out s (readings.Limit limit n) refused = record { session = record s { limits = with_limit s.limits limit n }; rows = [] }
-carried_out s (readings.Clock now) refused = record { session = record s { moment = now }; rows = [] }
+carried_out s (readings.Bad reason) refused =
+    record { session = record s { bad = s.bad + 1 }; rows = bad_row s.lines reason }
+carried_out s (readings.Client name creds) refused =
+    record { session = record s { names = s.names ++ name ∷ []; clients = s.clients ++ creds ∷ [] }; rows = [] }
+carried_out s (readings.Limit limit n) refused =
+    record { session = record s { limits = with_limit s.limits limit n }; rows = [] }
+carried_out s (readings.Clock now) refused = record { session = record s { time = now }; rows = [] }
 carried_out s (readings.Call client call) refused = called s client call (history_of s) refused
 
 abbrev pub counted : Session → Session
@@ -54,7 +59,8 @@ pub record IsAnswer (a : Answered) (new : Session) (old_rows new_rows : List ℕ
 
 -- carried out, whether or not memory refused the call
 abbrev pub CarriesOut : Session → Reading → Session → List ℕ → List ℕ → Type 0
-CarriesOut old reading new old_rows new_rows = (refused : Bool) × IsAnswer (carried_out old reading refused) new old_rows new_rows
+CarriesOut old reading new old_rows new_rows =
+    (refused : Bool) × IsAnswer (carried_out old reading refused) new old_rows new_rows
 
 -- a line, and whether memory refused the call that it makes
 abbrev pub Input : Type 0
@@ -65,7 +71,8 @@ answered s input = carried_out (counted s) (reading_of (counted s) input.0) inpu
 
 -- the line was answered, whether or not memory refused its call
 abbrev pub Answers : Session → Option (List ℕ) → Session → List ℕ → List ℕ → Type 0
-Answers old line new old_rows new_rows = (refused : Bool) × IsAnswer (answered old (line, refused)) new old_rows new_rows
+Answers old line new old_rows new_rows =
+    (refused : Bool) × IsAnswer (answered old (line, refused)) new old_rows new_rows
 
 abbrev pub with_rows : Printed → Answered → Printed
 with_rows p a = record { session = a.session; output = p.output ++ a.rows }

@@ -24,7 +24,9 @@ unless (Some reason) reading = readings.Bad reason
 -- a client comes before the start, not twice, and not as the 65th
 abbrev pub client_fault : Session → List ℕ → Option Reason
 client_fault s name =
-    if has_started s then Some reasons.Late else (if is_some (client_named s name) then Some reasons.Twice else (if nat_le 64 (length s.names) then Some reasons.Many else None))
+    if has_started s then Some reasons.Late
+    else (if is_some (client_named s name) then Some reasons.Twice
+    else (if nat_le 64 (length s.names) then Some reasons.Many else None))
 
 abbrev pub client_line : Session → Option (List ℕ × Credentials) → Reading
 client_line s None = readings.Bad reasons.BadLine
@@ -49,13 +51,17 @@ call_line s (Some client) words = call_by s client (call_of words)
 -- the first word is a directive or a client's name
 abbrev pub words_line : Session → List ℕ → List (List ℕ) → Reading
 words_line s word words =
-    if bytes_eq word (codes "client") then client_line s (client_of words) else (if bytes_eq word (codes "limit") then limit_line s (limit_of words) else (if bytes_eq word (codes "clock") then clock_line (clock_of words) else call_line s (client_named s word) words))
+    if bytes_eq word (codes "client") then client_line s (client_of words)
+    else (if bytes_eq word (codes "limit") then limit_line s (limit_of words)
+    else (if bytes_eq word (codes "clock") then clock_line (clock_of words)
+    else call_line s (client_named s word) words))
 
 -- a line without a word, or whose first word begins with a number sign, is skipped, whatever bytes it has
 abbrev pub text_line : Session → List ℕ → List (List ℕ) → Reading
 text_line s text [] = readings.Skip
 text_line s text (word ∷ words) =
-    if begins_comment word then readings.Skip else (if is_plain text then words_line s word words else readings.Bad reasons.BadLine)
+    if begins_comment word then readings.Skip
+    else (if is_plain text then words_line s word words else readings.Bad reasons.BadLine)
 
 -- what a line says; None is a line that is too long
 unfoldable pub reading_of : Session → Option (List ℕ) → Reading

@@ -56,13 +56,17 @@ abbrev pub WritesWhole : Transfer → Summary → Type 0
 WritesWhole t summary = (text : List ℕ) × (printed : Printed) × IsWhole t summary text printed
 
 abbrev pub WritesFront : Transfer → Type 0
-WritesFront t = (text : List ℕ) × (printed : Printed) × (written : List ℕ) × (rest : List ℕ) × IsFront t text printed written rest
+WritesFront t =
+    (text : List ℕ) × (printed : Printed) × (written : List ℕ) × (rest : List ℕ) × IsFront t text printed written rest
 
 -- what a fault says: a failed read comes after the rows of the complete lines read so far; an input that is too long
 -- was read to the byte behind the longest script, and no further; what was written before a failed write or for want
 -- of memory is a front of the output
 abbrev pub StopsBy : Transfer → Fault → Type 0
-StopsBy t faults.Read = (text : List ℕ) × (printed : Printed) × (length text ≤ longest_input) × IsComplete t text text printed
-StopsBy t faults.TooMuch = (text : List ℕ) × (printed : Printed) × (length text ≡ longest_input + 1) × IsComplete t text (take longest_input text) printed
+StopsBy t faults.Read =
+    (text : List ℕ) × (printed : Printed) × (length text ≤ longest_input) × IsComplete t text text printed
+StopsBy t faults.TooMuch =
+    (text : List ℕ) × (printed : Printed) × (length text ≡ longest_input + 1)
+    × IsComplete t text (take longest_input text) printed
 StopsBy t faults.Write = WritesFront t
 StopsBy t faults.Memory = WritesFront t

@@ -1,4 +1,4 @@
--- A script's session: the clients and limits so far, the moment handed in, the history of the namespace once it was
+-- A script's session: the clients and limits so far, the time passed in, the history of the namespace once it was
 -- started, and the counts of the summary.
 use Rattle.std.specs.Prelude.{ℕ, Bool, false, List, [], length, Option, Some, None, is_some, bytes_eq}
 use Rattle.std.specs.List.{position_from}
@@ -12,14 +12,15 @@ pub record Session : Type 0 where
   pub names : List (List ℕ)
   pub clients : List Credentials
   pub limits : Limits
-  pub moment : ℕ
+  pub time : ℕ
   pub history : Option History
   pub lines : ℕ
   pub bad : ℕ
 
 -- before the first line
 abbrev pub fresh_session : Session
-fresh_session = record { names = []; clients = []; limits = default_limits; moment = 0; history = None; lines = 0; bad = 0 }
+fresh_session =
+    record { names = []; clients = []; limits = default_limits; time = 0; history = None; lines = 0; bad = 0 }
 
 abbrev pub has_started : Session → Bool
 has_started s = is_some s.history

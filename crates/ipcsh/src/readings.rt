@@ -36,7 +36,7 @@ pub(crate) enum Reading {
     Client(Name, Creds),
     /// A limit and its value.
     Limit(Limit, u32),
-    /// The moment handed in from here on, in seconds.
+    /// The time from here on, in seconds.
     Clock(u64),
     /// A call of the client of this number.
     Call(u32, Call),

@@ -30,11 +30,10 @@ pub(crate) struct Session {
     names: Vec<Name>,
     clients: Vec<Creds>,
     limits: Limits,
-    moment: u64,
+    time: u64,
     space: Option<Space>,
     lines: u64,
     bad: u64,
-    events: u64,
 }
 
 impl Model for Session {
@@ -58,11 +57,10 @@ impl Session {
             names: Vec::new(alloc),
             clients: Vec::new(alloc),
             limits: Limits::default(),
-            moment: 0,
+            time: 0,
             space: None,
             lines: 0,
             bad: 0,
-            events: 0,
         }
     }
 
@@ -80,7 +78,10 @@ impl Session {
         Summary {
             lines: self.lines,
             bad: self.bad,
-            events: self.events,
+            events: match &self.space {
+                Some(space) => space.events(),
+                None => 0,
+            },
         }
     }
 
@@ -134,7 +135,6 @@ impl Session {
     ) -> Result<(), Memory>
         requires sound { IsSound self.old reading }
         requires counted { self.old.bad < self.old.lines }
-        requires events { events_of self.old < self.old.lines }
         ensures does { OnOk result (CarriesOut self.old reading self.new (string_bytes rows.old) (string_bytes rows.new)) }
         ensures lines { OnOk result (self.new.lines ≡ self.old.lines) }
     {
@@ -147,7 +147,7 @@ impl Session {
                 Ok(())
             }
             Reading::Clock(now) => {
-                self.set_moment(now);
+                self.set_time(now);
                 Ok(())
             }
             Reading::Call(client, call) => self.call(alloc, client, call, rows),
@@ -182,10 +182,10 @@ impl Session {
         self.limits = self.limits.with_limit(limit, value);
     }
 
-    fn set_moment(&mut self, now: u64)
-        ensures { self.new ≡ record self.old { moment = now } }
+    fn set_time(&mut self, now: u64)
+        ensures { self.new ≡ record self.old { time = now } }
     {
-        self.moment = now;
+        self.time = now;
     }
 
     /// Makes a call, and prints the rows of its event, or the row of a refusal of memory.
@@ -198,7 +198,6 @@ impl Session {
     ) -> Result<(), Memory>
         requires known { client < length self.old.names }
         requires free { waits self.old client ≡ false }
-        requires room { events_of self.old < self.old.lines }
         ensures does { OnOk result (CarriesOut self.old (Reading.Call client call) self.new (string_bytes rows.old) (string_bytes rows.new)) }
         ensures lines { OnOk result (self.new.lines ≡ self.old.lines) }
     {
@@ -221,13 +220,13 @@ impl Session {
         Ok(())
     }
 
-    /// Enters a call in the namespace, at the moment handed in.
+    /// Enters a call in the namespace, at the time passed in.
     fn apply(&mut self, client: u32, call: Call) -> Result<Effects, Memory>
         requires started { started self.old ≡ true }
         requires known { client < length self.old.names }
         requires free { waits self.old client ≡ false }
-        requires room { events_of self.old < self.old.lines }
         ensures session { OnOk result (self.new ≡ record self.old { history = Some (with_event (history_of self.old) (call_event self.old client call)) }) }
+        ensures place { IfOk result (λ effects. effects.place ≡ events_of self.new) }
         ensures own { IfOk result (λ effects.
             effects.own ≡ own_reply (events_of self.old + 1) (next_step (history_of self.old) (call_event self.old client call)).own) }
         ensures others { IfOk result (λ effects.
@@ -237,17 +236,15 @@ impl Session {
         let Some(space) = &mut self.space else {
             unreachable!()
         };
-        let effects = space.apply(client, self.moment, call)?;
-        self.events += 1;
-        Ok(effects)
+        space.apply(client, self.time, call)
     }
 
     fn print_effects(&self, client: u32, effects: &Effects, rows: &mut String) -> Result<(), Memory>
-        ensures { OnOk result (string_bytes rows.new ≡ string_bytes rows.old ++ effect_rows self.now.names client (events_of self.now) effects.now.own effects.now.others.items) }
+        ensures { OnOk result (string_bytes rows.new ≡ string_bytes rows.old ++ effect_rows self.now.names client effects.now.place effects.now.own effects.now.others.items) }
     {
         match &effects.own {
             Some(reply) => print_reply(rows, self.name_at(client), reply)?,
-            None => print_waits(rows, self.events, self.name_at(client))?,
+            None => print_waits(rows, effects.place, self.name_at(client))?,
         }
         self.print_others(effects.others.as_slice(), rows)
     }

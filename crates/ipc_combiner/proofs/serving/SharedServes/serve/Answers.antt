@@ -1,11 +1,14 @@
 use Rattle.std.proofs.Common.{sym, subst, box_value}
 use Rattle.pub_list.specs.Clients.{view}
 use Rattle.ipc_combiner.specs.Serving.{Serves}
-use Rattle.ipc_combiner.proofs.Handing.{is_client, is_replied, may_answer, may_park, replied, parked, parked_far, serves_still, dealt_reply}
+use Rattle.ipc_combiner.proofs.Handing.{is_client, is_lawful, is_replied, may_answer, may_park, replied, parked, parked_far, serves_still, dealt_reply}
 use Rattle.ipc_combiner.proofs.serving.SharedServes.serve.Goals as goal
 
 pub apply-requires-clause-known : goal.apply-requires-clause-known
 apply-requires-clause-known c = is_client c.args.list.now.clients c.args.client c.args.call.0 c.args.call.1 (view c.args.combiner.now) c.args.state c.requires.taken
+
+pub apply-requires-clause-legal : goal.apply-requires-clause-legal
+apply-requires-clause-legal c = is_lawful c.args.list.now.clients c.args.client c.args.call.0 c.args.call.1 (view c.args.combiner.now) c.args.state c.requires.taken
 
 pub apply-requires-clause-free : goal.apply-requires-clause-free
 apply-requires-clause-free c = is_replied c.args.list.now.clients c.args.client c.args.call.0 c.args.call.1 (view c.args.combiner.now) c.args.state c.requires.taken

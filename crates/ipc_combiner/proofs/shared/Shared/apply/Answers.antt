@@ -6,7 +6,7 @@ use Rattle.ipc_combiner.proofs.Handing.{calls_freely, entered_if}
 use Rattle.ipc_combiner.proofs.shared.Shared.apply.Goals as goal
 
 pub apply-requires-clause-free : goal.apply-requires-clause-free
-apply-requires-clause-free c = subst (λ h. is_waiting (run h) c.args.client ≡ false) (sym c.deref_mut.ensures.value) (calls_freely (box_value c.args.self.now.space) c.args.client c.requires.free)
+apply-requires-clause-free c = subst (λ h. is_waiting (run h) c.args.client ≡ false) (sym c.deref_mut.ensures.value) (calls_freely (box_value c.args.self.now.space) c.args.client c.requires.legal c.requires.free)
 
 pub returns-clause-ok : goal.returns-clause-ok
 returns-clause-ok c = subst (λ h. IfOk c.apply.result (λ x. HasEntered c.args.client c.args.now c.args.call h c.apply.new.self x.own x.others.items)) c.deref_mut.ensures.value

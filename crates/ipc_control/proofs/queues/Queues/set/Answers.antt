@@ -22,7 +22,7 @@ returns-clause-queues c =
     let slots = c.self.inside.slots in
     let old = c.in-Some.queue.now in
     let there : map.get slots.objects c.args.id ≡ Some old = sym c.in-Some.ensures.value in
-    let change : Queue → Queue = λ queue. with_settings queue c.args.now c.args.uid c.args.gid c.args.mode c.args.qbytes in
+    let change : Queue → Queue = λ queue. with_settings queue c.args.now c.args.new in
     changed-queues slots c.args.id old c.set.new.self there ∙ ap (λ (q : Queue). with_object (queues_of slots) c.args.id q) c.set.ensures.queue
     ∙ ap (λ o. with_change (queues_of slots) c.args.id change o) (sym (queue-there slots c.args.id old there))
     ∙ ap (λ (t : Table Held). with_change (queues_of t) c.args.id change (map.get (queues_of t).objects c.args.id)) c.self.view_is

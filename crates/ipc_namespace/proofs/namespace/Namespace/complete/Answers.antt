@@ -1,10 +1,9 @@
-use Rattle.std.proofs.Common.{◌≡◌, ℕ, ℤ, List, Ok, ◌+◌, ◌<◌, true, length, refl, sym, ap, ◌∙◌, subst, arith, Some, w64, rules}
+use Rattle.std.proofs.Common.{◌≡◌, ℕ, ℤ, List, [], ◌∷◌, Ok, ◌+◌, ◌<◌, true, length, refl, sym, ap, ◌∙◌, subst, arith, Some, w64, rules}
 use mir.Val.{SFits}
 use Rattle.std.proofs.lemmas.Bool.{eq-eqb}
 use Rattle.std.proofs.lemmas.Int.{to_z-of_z}
-use Rattle.std.proofs.lemmas.Option.{slice_get_within}
-use Rattle.std.proofs.lemmas.List.Edits.{length-remove}
-use Rattle.std.specs.Prelude.{remove, slice_get, IfSome}
+use Rattle.std.specs.Prelude.{◌==◌, not, IfSome}
+use Rattle.std.specs.List.{find}
 use Rattle.ipc_call.specs.declared.calls.Call.{Call}
 use Rattle.ipc_call.specs.declared.calls.Call.TheVariants.{MsgSnd}
 use Rattle.ipc_call.specs.declared.replies.Answer.TheVariants.{Done}
@@ -12,73 +11,69 @@ use Rattle.ipc_call.specs.declared.replies.Answer.{Answer}
 use Rattle.ipc_call.specs.declared.replies.Waiting.{Waiting}
 use Rattle.ipc_control.specs.Held.{one_if, queues_of, room}
 use Rattle.ipc_model.specs.Plan.{decision}
-use Rattle.ipc_model.specs.State.{Queue, State, creds_at, is_waiting}
+use Rattle.ipc_model.specs.State.{Queue, State, creds_at, is_waiting, waiting_of}
 use Rattle.ipc_ids.specs.Table.{Table, with_object}
 use Rattle.msg_queue.specs.declared.messages.Message.{Message}
-use Rattle.ipc_model.specs.Decision.{Serve}
+use Rattle.ipc_model.specs.Decision.{Grant}
 use Rattle.ipc_model.specs.Decide.{can_wait, decide, plan}
 use Rattle.ipc_model.specs.Messages.{queue_at, receive_message, with_message}
-use Rattle.ipc_model.specs.Step.{without}
+use Rattle.ipc_model.specs.Step.{end_waiting, without}
 use Rattle.ipc_namespace.specs.declared.decisions.Decided.TheVariants as ways
 use Rattle.ipc_namespace.specs.Decisions.{decided}
-use Rattle.ipc_parked.specs.Parked.{waiting}
-use Rattle.ipc_parked.proofs.Listed.{any_waiting}
-use Rattle.ipc_namespace.specs.Namespace.{AreParked, Kept, is_send_to, place_of, sends_on}
-use Rattle.ipc_namespace.proofs.Places.{waiting-at, waiting-others}
-use Rattle.ipc_namespace.proofs.Deciding.{end_at-left, ended-served}
+use Rattle.ipc_parked.specs.Parked.{AreApart, waiting}
+use Rattle.ipc_parked.proofs.Listed.{any_waiting, waiting_at, waiting-others}
+use Rattle.ipc_namespace.specs.Namespace.{AreParked, is_send_to, sends_on}
+use Rattle.ipc_namespace.proofs.Own.{length-others, others}
+use Rattle.ipc_namespace.proofs.Deciding.{end_waiting-left, ended-served}
 use Rattle.ipc_namespace.proofs.Granting.{IfSome-map, send-room, send-served}
-use Rattle.ipc_namespace.proofs.Parked.{AreParked-remove, apart-parked, parked_at}
+use Rattle.ipc_namespace.proofs.Parked.{AreParked-filter, apart-parked, parked_found}
 use Rattle.ipc_namespace.proofs.Reserved.{no_other, room-left, sent-roomy}
-use Rattle.ipc_namespace.proofs.Kept.{state_of}
 use Rattle.ipc_namespace.proofs.namespace.Namespace.complete.Goals as goal
 use Rattle.ipc_namespace.proofs.namespace.Namespace.complete.Goals.{After-finish-call, in-MsgSnd, in-MsgRcv}
 
 pub finish-call-requires : goal.finish-call-requires
-finish-call-requires c = sym (any_waiting c.args.client c.self.inside.parked) ∙ ap (λ (s : State). is_waiting s c.args.client) (state_of c.self.view_is) ∙ c.requires.waits
+finish-call-requires c = sym (any_waiting c.args.client c.self.inside.parked) ∙ ap (λ (s : State). is_waiting s c.args.client) c.self.view_is ∙ c.requires.waits
 
 abbrev ended : After-finish-call → Waiting
 ended c = record { client = c.args.client; call = c.finish-call.result }
 
-abbrev place : After-finish-call → ℕ
-place c = place_of c.args.client (waiting c.self.inside.parked)
+own : (c : After-finish-call) → find (λ w. w.client == c.args.client) (waiting c.self.inside.parked) ≡ Some (ended c)
+own c = waiting_at c.args.client c.finish-call.result c.self.inside.parked c.finish-call.ensures.call
 
-inside_at : (c : After-finish-call) → slice_get (waiting c.self.inside.parked) (place c) ≡ Some (ended c)
-inside_at c = waiting-at c.args.client c.finish-call.result c.self.inside.parked c.finish-call.ensures.call
+apart : (c : After-finish-call) → AreApart (waiting c.self.inside.parked)
+apart c = apart-parked (length c.self.inside.clients.items) (waiting c.self.inside.parked) c.self.invariant.1
 
-others_left : (c : After-finish-call) → waiting c.finish-call.new.self ≡ remove (waiting c.self.inside.parked) (place c)
-others_left c = ap waiting c.finish-call.ensures.rest ∙ waiting-others c.args.client c.self.inside.parked c.finish-call.result (apart-parked (length c.self.inside.clients.items) (waiting c.self.inside.parked) c.self.invariant.1) (inside_at c)
+others_left : (c : After-finish-call) → waiting c.finish-call.new.self ≡ others c.args.client (waiting c.self.inside.parked)
+others_left c = ap waiting c.finish-call.ensures.rest ∙ waiting-others c.args.client c.self.inside.parked
 
-same_place : (c : After-finish-call) → place c ≡ place_of c.args.client c.args.self.now.state.parked
-same_place c = ap (λ (s : State). place_of c.args.client s.parked) (state_of c.self.view_is)
-
-at_place : (c : After-finish-call) → slice_get c.args.self.now.state.parked (place_of c.args.client c.args.self.now.state.parked) ≡ Some (ended c)
-at_place c = sym (ap (λ (s : State). slice_get s.parked (place_of c.args.client s.parked)) (state_of c.self.view_is)) ∙ inside_at c
+is_own : (c : After-finish-call) → waiting_of c.args.self.now c.args.client ≡ Some (ended c)
+is_own c = sym (ap (λ (s : State). waiting_of s c.args.client) c.self.view_is) ∙ own c
 
 of_client : (c : After-finish-call) → (c.args.client < length c.self.inside.clients.items) × (can_wait c.finish-call.result ≡ true)
 of_client c =
     let n = c.self.inside in
-    parked_at (length n.clients.items) (waiting n.parked) (place c) (ended c) c.self.invariant.1 (inside_at c)
+    parked_found (length n.clients.items) (λ w. w.client == c.args.client) (waiting n.parked) (ended c) c.self.invariant.1 (own c)
 
 rest : (c : After-finish-call) → State
 rest c = let n = c.self.inside in record { limits = n.limits; clients = n.clients.items; clock = n.clock; queues = queues_of n.queues; parked = waiting c.finish-call.new.self }
 
-left : (c : After-finish-call) → rest c ≡ without c.args.self.now.state (place_of c.args.client c.args.self.now.state.parked)
+left : (c : After-finish-call) → rest c ≡ without c.args.self.now c.args.client
 unfolding rest
 left c =
     let n = c.self.inside in
     (λ i. record { limits = n.limits; clients = n.clients.items; clock = n.clock; queues = queues_of n.queues; parked = others_left c i })
-    ∙ ap (λ (s : State). without s (place_of c.args.client s.parked)) (state_of c.self.view_is)
+    ∙ ap (λ (s : State). without s c.args.client) c.self.view_is
 
-go : (c : After-finish-call) → decided (decide (rest c) c.args.client c.finish-call.result) ≡ ways.Go
+go : (c : After-finish-call) → decided (decide (rest c) c.args.client c.finish-call.result) ≡ ways.Grant
 go c =
     let w = ended c in
-    let asked = subst (λ o. IfSome o (λ (v : Waiting). decided (decide (without c.args.self.now.state (place_of c.args.client c.args.self.now.state.parked)) v.client v.call) ≡ ways.Go)) (at_place c) c.requires.go in
+    let asked = subst (λ o. IfSome o (λ (v : Waiting). decided (decide (without c.args.self.now c.args.client) v.client v.call) ≡ ways.Grant)) (is_own c) c.requires.go in
     ap (λ (s : State). decided (decide s w.client w.call)) (left c) ∙ asked
 
 parked : (c : After-finish-call) → AreParked (length c.self.inside.clients.items) (waiting c.finish-call.new.self)
 parked c =
     let n = c.self.inside in
-    subst (λ ws. AreParked (length n.clients.items) ws) (sym (others_left c)) (AreParked-remove (length n.clients.items) (waiting n.parked) (place c) c.self.invariant.1)
+    subst (λ ws. AreParked (length n.clients.items) ws) (sym (others_left c)) (AreParked-filter (length n.clients.items) (λ w. not (w.client == c.args.client)) (waiting n.parked) c.self.invariant.1)
 
 pub send-requires-clause-client : goal.send-requires-clause-client
 send-requires-clause-client c = let b = (goal.at.send-requires-clause-client c).After-finish-call in omega (arith, (of_client b).0, c.self.invariant.0, c.self.inside.clients.ok.0)
@@ -88,7 +83,7 @@ send-requires-clause-reserved c =
     let b = (goal.at.send-requires-clause-reserved c).After-finish-call in
     let id = c.in-MsgSnd.id in
     let sends : is_send_to id c.finish-call.result ≡ true = ap (λ (call : Call). is_send_to id call) c.in-MsgSnd.is ∙ eq-eqb id id refl in
-    sent-roomy id (waiting c.self.inside.parked) (place b) (ended b) _ (inside_at b) sends (c.self.invariant.2 id)
+    sent-roomy id c.args.client (waiting c.self.inside.parked) (ended b) (apart b) (own b) refl _ sends (c.self.invariant.2 id)
 
 pub send-requires-clause-room : goal.send-requires-clause-room
 unfolding plan rest
@@ -103,7 +98,7 @@ invariant_of-self c =
     let b = (goal.at.invariant_of-self c).After-finish-call in (
       c.self.invariant.0,
       parked b,
-      λ id. room-left id (waiting c.self.inside.parked) (place b) (ended b) _ _ (inside_at b)
+      λ id. room-left id c.args.client (waiting c.self.inside.parked) (ended b) (apart b) (own b) refl _ _
           (ap (λ (call : Call). room c.send.new.self id + one_if (is_send_to id call)) c.in-MsgSnd.is ∙ c.send.ensures.room id) (c.self.invariant.2 id) ∙ ap (λ ws. sends_on id ws) (sym (others_left b)),
     )
 
@@ -112,7 +107,7 @@ invariant_of-self-in-MsgRcv c =
     let b = (goal.at.invariant_of-self-in-MsgRcv c).After-finish-call in (
       c.self.invariant.0,
       parked b,
-      λ id. room-left id (waiting c.self.inside.parked) (place b) (ended b) _ _ (inside_at b)
+      λ id. room-left id c.args.client (waiting c.self.inside.parked) (ended b) (apart b) (own b) refl _ _
           (let none = ap (λ (call : Call). one_if (is_send_to id call)) c.in-MsgRcv.is in omega (arith, none)) (c.self.invariant.2 id) ∙ ap (λ ws. sends_on id ws) (sym (others_left b)),
     )
 
@@ -136,7 +131,7 @@ unreachable-requires c =
 -- what a call that sends leaves
 sent : (c : After-finish-call) (id flags : ℕ) (mtype read : ℤ) (text : List ℕ) (queues : Table Queue) → c.finish-call.result ≡ MsgSnd id mtype text flags → read ≡ mtype
     → IfSome (queue_at (rest c) id) (λ q. queues ≡ with_object (rest c).queues id (with_message q c.args.client (rest c).clock (record { mtype = read; text = text })))
-    → decide (rest c) c.args.client c.finish-call.result ≡ Serve Done (record (rest c) { queues = queues })
+    → decide (rest c) c.args.client c.finish-call.result ≡ Grant Done (record (rest c) { queues = queues })
 unfolding plan rest
 sent c id flags mtype read text queues is back left_it =
     let client = c.args.client in
@@ -151,21 +146,22 @@ returns-clause-ended c =
     let b = (goal.at.returns-clause-ended c).After-finish-call in
     let w = (ended b) in
     let d = decide (rest b) w.client w.call in
-    end_at-left c.args.self.now.state (rest b) (place_of c.args.client c.args.self.now.state.parked) w (at_place b) (left b)
+    subst (λ o. IfSome o (λ (v : Waiting). end_waiting c.args.self.now v ≡ record { state = c.match-call.self; ended = record { client = c.args.client; outcome = Ok c.match-call.answer } ∷ [] })) (sym (is_own b))
+    (end_waiting-left c.args.self.now (rest b) w (left b)
     ∙ elim c.match-call.branch [
-      | in-MsgSnd p ↦ ended-served (rest b) c.match-call.self.state _ w.client d Done (Ok c.match-call.answer) (sent b p.in-MsgSnd.id p.in-MsgSnd.flags p.in-MsgSnd.mtype _ p.in-MsgSnd.text (queues_of p.send.new.self) p.in-MsgSnd.is (to_z-of_z w64 p.in-MsgSnd.mtype (let fits : SFits w64 p.in-MsgSnd.mtype = search rules in fits)) p.send.ensures.queues) (state_of p.self-is) (ap (λ (a : Answer). Ok a) p.answer-is)
-      | in-MsgRcv p ↦ ended-served (rest b) c.match-call.self.state _ w.client d p.grant_receive-answer.result (Ok c.match-call.answer) (ap (λ (call : Call). decide (rest b) w.client call) p.in-MsgRcv.is ∙ ap (λ z. decision (creds_at (rest b) w.client) (receive_message (rest b) w.client p.in-MsgRcv.id p.in-MsgRcv.size z p.in-MsgRcv.flags)) (sym (to_z-of_z w64 p.in-MsgRcv.msgtyp (let fits : SFits w64 p.in-MsgRcv.msgtyp = search rules in fits))) ∙ p.grant_receive-answer.ensures.served) (state_of p.self-is) (ap (λ (a : Answer). Ok a) p.answer-is)
-    ]
+      | in-MsgSnd p ↦ ended-served (rest b) c.match-call.self _ w.client d Done (Ok c.match-call.answer) (sent b p.in-MsgSnd.id p.in-MsgSnd.flags p.in-MsgSnd.mtype _ p.in-MsgSnd.text (queues_of p.send.new.self) p.in-MsgSnd.is (to_z-of_z w64 p.in-MsgSnd.mtype (let fits : SFits w64 p.in-MsgSnd.mtype = search rules in fits)) p.send.ensures.queues) p.self-is (ap (λ (a : Answer). Ok a) p.answer-is)
+      | in-MsgRcv p ↦ ended-served (rest b) c.match-call.self _ w.client d p.grant_receive-answer.result (Ok c.match-call.answer) (ap (λ (call : Call). decide (rest b) w.client call) p.in-MsgRcv.is ∙ ap (λ z. decision (creds_at (rest b) w.client) (receive_message (rest b) w.client p.in-MsgRcv.id p.in-MsgRcv.size z p.in-MsgRcv.flags)) (sym (to_z-of_z w64 p.in-MsgRcv.msgtyp (let fits : SFits w64 p.in-MsgRcv.msgtyp = search rules in fits))) ∙ p.grant_receive-answer.ensures.served) p.self-is (ap (λ (a : Answer). Ok a) p.answer-is)
+    ])
 
-shorter : (c : After-finish-call) → length (waiting c.finish-call.new.self) + 1 ≡ length c.args.self.now.state.parked
+shorter : (c : After-finish-call) → length (waiting c.finish-call.new.self) + 1 ≡ length c.args.self.now.parked
 shorter c =
-    ap (λ ws. length ws + 1) (others_left c) ∙ length-remove (waiting c.self.inside.parked) (place c) (slice_get_within (waiting c.self.inside.parked) (place c) (ended c) (inside_at c))
-    ∙ ap (λ (s : State). length s.parked) (state_of c.self.view_is)
+    ap (λ ws. length ws + 1) (others_left c) ∙ length-others (waiting c.self.inside.parked) c.args.client (ended c) (apart c) (own c) refl
+    ∙ ap (λ (s : State). length s.parked) c.self.view_is
 
 pub returns-clause-shorter : goal.returns-clause-shorter
 returns-clause-shorter c =
     let b = (goal.at.returns-clause-shorter c).After-finish-call in
     elim c.match-call.branch [
-      | in-MsgSnd p ↦ ap (λ (k : Kept). length k.state.parked + 1) p.self-is ∙ shorter b
-      | in-MsgRcv p ↦ ap (λ (k : Kept). length k.state.parked + 1) p.self-is ∙ ap (λ ws. length ws + 1) p.grant_receive-answer.ensures.parked ∙ shorter b
+      | in-MsgSnd p ↦ ap (λ (s : State). length s.parked + 1) p.self-is ∙ shorter b
+      | in-MsgRcv p ↦ ap (λ (s : State). length s.parked + 1) p.self-is ∙ ap (λ ws. length ws + 1) p.grant_receive-answer.ensures.parked ∙ shorter b
     ]

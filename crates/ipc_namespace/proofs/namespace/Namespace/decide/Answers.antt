@@ -12,35 +12,35 @@ use Rattle.ipc_model.specs.Controls.{remove_object, set_object}
 use Rattle.ipc_model.specs.Interrupts.{interrupt}
 use Rattle.ipc_model.specs.Decide.{decide, plan}
 use Rattle.ipc_namespace.specs.Decisions.{decided}
-use Rattle.ipc_namespace.proofs.Kept.{state_of}
 use Rattle.ipc_namespace.proofs.namespace.Namespace.decide.Goals as goal
 use Rattle.ipc_namespace.proofs.namespace.Namespace.decide.Goals.{After-index-creds}
 
-caller : (c : After-index-creds) → c.index-creds.result.now ≡ creds_at c.args.self.now.state c.args.client
+caller : (c : After-index-creds) → c.index-creds.result.now ≡ creds_at c.args.self.now c.args.client
 caller c =
     let n = c.self.inside in
-    c.index-creds.ensures ∙ get_or_default n.clients.items c.args.client c.index-creds.result.now nobody (subst (λ (s : State). c.args.client < length s.clients) (sym (state_of c.self.view_is)) c.requires)
-    ∙ ap (λ (s : State). creds_at s c.args.client) (state_of c.self.view_is)
+    c.index-creds.ensures ∙ get_or_default n.clients.items c.args.client c.index-creds.result.now nobody (subst (λ (s : State). c.args.client < length s.clients) (sym c.self.view_is) c.requires)
+    ∙ ap (λ (s : State). creds_at s c.args.client) c.self.view_is
 
 pub returns-in-MsgGet : goal.returns-in-MsgGet
 unfolding plan
 returns-in-MsgGet c =
-    let s = c.args.self.now.state in
+    let s = c.args.self.now in
     c.decide_get_queue.ensures ∙ ap (λ (creds : Credentials). decided (decision creds (get_queue s creds c.in-MsgGet.key c.in-MsgGet.flags))) (caller (goal.at.returns-in-MsgGet c).After-index-creds)
     ∙ ap (λ (call : Call). decided (decide s c.args.client call)) (sym c.in-MsgGet.is)
 
 pub returns-in-IpcSet : goal.returns-in-IpcSet
 unfolding plan
 returns-in-IpcSet c =
-    let s = c.args.self.now.state in
-    c.decide_set.ensures c.in-IpcSet.uid c.in-IpcSet.gid c.in-IpcSet.mode
-    ∙ ap (λ (creds : Credentials). decided (decision creds (set_object s c.in-IpcSet.kind c.in-IpcSet.id c.in-IpcSet.uid c.in-IpcSet.gid c.in-IpcSet.mode c.in-IpcSet.qbytes))) (caller (goal.at.returns-in-IpcSet c).After-index-creds)
+    let s = c.args.self.now in
+    let n = c.in-IpcSet in
+    c.decide_set.ensures
+    ∙ ap (λ (creds : Credentials). decided (decision creds (set_object s n.kind n.id (record { uid = n.uid; gid = n.gid; mode = n.mode; qbytes = n.qbytes })))) (caller (goal.at.returns-in-IpcSet c).After-index-creds)
     ∙ ap (λ (call : Call). decided (decide s c.args.client call)) (sym c.in-IpcSet.is)
 
 pub returns-in-MsgSnd : goal.returns-in-MsgSnd
 unfolding plan
 returns-in-MsgSnd c =
-    let s = c.args.self.now.state in
+    let s = c.args.self.now in
     let n = c.in-MsgSnd in
     let client = c.args.client in
     let fits : SFits w64 n.mtype = search rules in
@@ -51,7 +51,7 @@ returns-in-MsgSnd c =
 pub returns-in-MsgRcv : goal.returns-in-MsgRcv
 unfolding plan
 returns-in-MsgRcv c =
-    let s = c.args.self.now.state in
+    let s = c.args.self.now in
     let n = c.in-MsgRcv in
     let client = c.args.client in
     let fits : SFits w64 n.msgtyp = search rules in
@@ -62,13 +62,13 @@ returns-in-MsgRcv c =
 pub returns-in-IpcRmid : goal.returns-in-IpcRmid
 unfolding plan
 returns-in-IpcRmid c =
-    let s = c.args.self.now.state in
+    let s = c.args.self.now in
     let n = c.in-IpcRmid in
     c.decide_remove.ensures ∙ ap (λ (creds : Credentials). decided (decision creds (remove_object s n.kind n.id))) (caller (goal.at.returns-in-IpcRmid c).After-index-creds) ∙ ap (λ (call : Call). decided (decide s c.args.client call)) (sym n.is)
 
 pub returns-in-Interrupt : goal.returns-in-Interrupt
 unfolding plan
 returns-in-Interrupt c =
-    let s = c.args.self.now.state in
+    let s = c.args.self.now in
     let n = c.in-Interrupt in
     c.decide_interrupt.ensures ∙ ap (λ (creds : Credentials). decided (decision creds (interrupt s n.pid))) (caller (goal.at.returns-in-Interrupt c).After-index-creds) ∙ ap (λ (call : Call). decided (decide s c.args.client call)) (sym n.is)

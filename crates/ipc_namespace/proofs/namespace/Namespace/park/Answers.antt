@@ -12,13 +12,12 @@ use Rattle.ipc_namespace.specs.Namespace.{AreParked, is_at, is_send_to, sends_on
 use Rattle.ipc_namespace.proofs.Deciding.{goes, goes-decided, only_parkable}
 use Rattle.ipc_namespace.proofs.Parked.{AreParked-push}
 use Rattle.ipc_namespace.proofs.Reserved.{sends_on-push}
-use Rattle.ipc_namespace.proofs.Kept.{state_of}
 use Rattle.ipc_namespace.proofs.namespace.Namespace.park.Goals as goal
 
-pub park-parked-requires-clause-free : goal.park-parked-requires-clause-free
-park-parked-requires-clause-free c =
+pub park-parked-requires : goal.park-parked-requires
+park-parked-requires c =
     let n = c.self.inside in
-    sym (any_waiting c.args.client n.parked) ∙ ap (λ (s : State). list_any (λ w. w.client == c.args.client) s.parked) (state_of c.self.view_is) ∙ c.requires.free
+    record { free = sym (any_waiting c.args.client n.parked) ∙ ap (λ (s : State). list_any (λ w. w.client == c.args.client) s.parked) c.self.view_is ∙ c.requires.free }
 
 went_well : {T E : Type 0} (r : Result T E) (P : Type 0) → is_err r ≡ false → OnOk r P → P
 went_well (Ok x) P good p = p
@@ -28,10 +27,10 @@ pub invariant_of-self-else-is_err : goal.invariant_of-self-else-is_err
 invariant_of-self-else-is_err c =
     let n = c.self.inside in
     let w : Waiting = record { client = c.args.client; call = c.args.call } in
-    let d = decide c.args.self.now.state c.args.client c.args.call in
-    let may : can_wait c.args.call ≡ true = only_parkable c.args.self.now.state c.args.client c.args.call (sym (goes-decided d) ∙ ap goes c.requires.waits) in
-    let known : c.args.client < length n.clients.items = subst (λ (s : State). c.args.client < length s.clients) (sym (state_of c.self.view_is)) c.requires.known in
-    let free : list_any (λ v. v.client == c.args.client) (waiting n.parked) ≡ false = ap (λ (s : State). list_any (λ v. v.client == c.args.client) s.parked) (state_of c.self.view_is) ∙ c.requires.free in
+    let d = decide c.args.self.now c.args.client c.args.call in
+    let may : can_wait c.args.call ≡ true = only_parkable c.args.self.now c.args.client c.args.call (sym (goes-decided d) ∙ ap goes c.requires.waits) in
+    let known : c.args.client < length n.clients.items = subst (λ (s : State). c.args.client < length s.clients) (sym c.self.view_is) c.requires.known in
+    let free : list_any (λ v. v.client == c.args.client) (waiting n.parked) ≡ false = ap (λ (s : State). list_any (λ v. v.client == c.args.client) s.parked) c.self.view_is ∙ c.requires.free in
     let pushed = went_well c.park-parked.result _ (sym c.is_err.ensures.value ∙ c.if-is_err.false) c.park-parked.ensures.ok in
     let longer : waiting c.park-parked.new.self ≡ waiting n.parked ++ w ∷ [] = ap waiting pushed ∙ waiting-push n.parked (c.args.client, record { place = c.args.place; call = c.args.call }) in (
       c.self.invariant.0,

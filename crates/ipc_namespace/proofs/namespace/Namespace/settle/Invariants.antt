@@ -5,14 +5,13 @@ use Rattle.ipc_namespace.proofs.namespace.Namespace.settle.Given as goal
 -- what is left to end completes what has ended
 abbrev pub invariant-loop-client : goal.invariant-loop-client
 invariant-loop-client l = record {
-  state : (settled l.initial.self.state).state ≡ (settled l.self.state).state;
-  ended : l.initial.ended.items ++ (settled l.initial.self.state).ended ≡ l.ended.items ++ (settled l.self.state).ended;
-  room : vec_len l.ended + length l.self.state.parked ≤ vec_capacity l.ended;
-  few : vec_len l.ended + length l.self.state.parked ≤ vec_len l.initial.ended + length l.initial.self.state.parked;
-  limits : l.self.state.limits ≡ l.initial.self.state.limits;
-  clients : l.self.state.clients ≡ l.initial.self.state.clients;
-  latest : l.self.latest ≤ l.initial.self.latest;
+  state : (settled l.initial.self).state ≡ (settled l.self).state;
+  ended : l.initial.ended.items ++ (settled l.initial.self).ended ≡ l.ended.items ++ (settled l.self).ended;
+  room : vec_len l.ended + length l.self.parked ≤ vec_capacity l.ended;
+  few : vec_len l.ended + length l.self.parked ≤ vec_len l.initial.ended + length l.initial.self.parked;
+  limits : l.self.limits ≡ l.initial.self.limits;
+  clients : l.self.clients ≡ l.initial.self.clients;
 }
 
 abbrev pub decreases-loop-client : goal.decreases-loop-client
-decreases-loop-client l = length l.self.state.parked
+decreases-loop-client l = length l.self.parked

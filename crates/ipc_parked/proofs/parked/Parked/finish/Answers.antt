@@ -1,10 +1,9 @@
-use Rattle.std.proofs.Common.{ap, subst, sym, ◌∙◌, ◌≡◌, ◌≤◌, ℕ, List, Option}
+use Rattle.std.proofs.Common.{ap, subst, sym, ◌∙◌, ◌≡◌, ℕ, List, Option}
 use Rattle.std.specs.Option.{option_map, is_some}
 use Rattle.ipc_call.specs.declared.calls.Call.{Call}
 use Rattle.ipc_parked.specs.declared.parked.Arrival.{Arrival}
-use Rattle.ipc_parked.specs.Parked.{is_there, arrival_of, others, latest, AreDistinct, AreRising}
+use Rattle.ipc_parked.specs.Parked.{is_there, arrival_of, others, AreDistinct}
 use Rattle.ipc_parked.proofs.Clients.{lookup_there, lookup_arrival, removed_others, AreDistinct-others}
-use Rattle.ipc_parked.proofs.Places.{AreRising-others, latest_others}
 use Rattle.ipc_parked.proofs.parked.Parked.finish.Goals as goal
 
 pub unwrap-requires : goal.unwrap-requires
@@ -15,12 +14,12 @@ unwrap-requires c =
 
 -- what the map holds after the call left
 left : (c : goal.After-unwrap) → c.shift_remove.new.self.entries ≡ others c.args.client c.self.inside.arrivals.entries
-left c = c.shift_remove.ensures.entries ∙ removed_others c.args.client c.self.inside.arrivals.entries c.self.invariant.0
+left c = c.shift_remove.ensures.entries ∙ removed_others c.args.client c.self.inside.arrivals.entries c.self.invariant
 
 pub invariant_of-self : goal.invariant_of-self
 invariant_of-self c =
     let before = c.self.inside.arrivals.entries in
-    subst (λ (es : List (ℕ × Arrival)). AreDistinct es × AreRising 0 es) (sym (left c)) (AreDistinct-others c.args.client before c.self.invariant.0, AreRising-others c.args.client 0 before c.self.invariant.1)
+    subst (λ (es : List (ℕ × Arrival)). AreDistinct es) (sym (left c)) (AreDistinct-others c.args.client before c.self.invariant)
 
 pub returns-clause-call : goal.returns-clause-call
 returns-clause-call c =
@@ -29,9 +28,3 @@ returns-clause-call c =
 
 pub returns-clause-rest : goal.returns-clause-rest
 returns-clause-rest c = left c ∙ ap (λ (es : List (ℕ × Arrival)). others c.args.client es) c.self.view_is
-
-pub returns-clause-latest : goal.returns-clause-latest
-returns-clause-latest c =
-    let before = c.self.inside.arrivals.entries in
-    subst (λ (es : List (ℕ × Arrival)). latest es ≤ latest c.args.self.now) (sym (left c))
-    (subst (λ (es : List (ℕ × Arrival)). latest (others c.args.client before) ≤ latest es) c.self.view_is (latest_others c.args.client before c.self.invariant.1))

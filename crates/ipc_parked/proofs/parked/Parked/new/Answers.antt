@@ -1,6 +1,5 @@
 use Rattle.ipc_parked.proofs.Clients.{AreDistinct-none}
-use Rattle.ipc_parked.proofs.Places.{AreRising-none}
 use Rattle.ipc_parked.proofs.parked.Parked.new.Goals as goal
 
 pub invariant_of-result : goal.invariant_of-result
-invariant_of-result c = (AreDistinct-none _ c.new.ensures.empty, AreRising-none _ c.new.ensures.empty)
+invariant_of-result c = AreDistinct-none _ c.new.ensures.empty

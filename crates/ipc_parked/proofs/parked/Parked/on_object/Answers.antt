@@ -1,7 +1,7 @@
 use Rattle.std.proofs.Common.{ℕ, sym, ap, ◌∙◌}
 use Rattle.ipc_call.specs.declared.calls.Call.{Call}
 use Rattle.ipc_parked.specs.declared.parked.Arrival.{Arrival}
-use Rattle.ipc_model.specs.Forced.{waits_on}
+use Rattle.ipc_model.specs.Cancelled.{waits_on}
 use Rattle.ipc_parked.proofs.Picking.{may_ask_filter, picks_filter}
 use Rattle.ipc_parked.proofs.parked.Parked.on_object.Goals as goal
 

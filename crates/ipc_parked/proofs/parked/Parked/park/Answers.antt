@@ -1,9 +1,8 @@
-use Rattle.std.proofs.Common.{ap, subst, sym, ◌∙◌, ℕ, eqb, List, [], ◌∷◌, ◌++◌, ◌≡◌, ◌<◌}
+use Rattle.std.proofs.Common.{ap, subst, sym, ◌∙◌, ℕ, eqb, List, [], ◌∷◌, ◌++◌, ◌≡◌}
 use Rattle.indexmap.proofs.CallerLemmas.{insert_entry-new}
 use Rattle.ipc_parked.specs.declared.parked.Arrival.{Arrival}
-use Rattle.ipc_parked.specs.Parked.{is_there, latest, AreDistinct, AreRising}
+use Rattle.ipc_parked.specs.Parked.{is_there, AreDistinct}
 use Rattle.ipc_parked.proofs.Clients.{lookup_free, AreDistinct-push}
-use Rattle.ipc_parked.proofs.Places.{AreRising-push}
 use Rattle.ipc_parked.proofs.parked.Parked.park.Goals as goal
 
 -- what the map holds after the call came
@@ -17,8 +16,7 @@ pub invariant_of-self-2 : goal.invariant_of-self-2
 invariant_of-self-2 c =
     let before = c.self.inside.arrivals.entries in
     let free = ap (λ (es : List (ℕ × Arrival)). is_there c.args.client es) c.self.view_is ∙ c.requires.free in
-    let later = subst (λ (es : List (ℕ × Arrival)). latest es < c.args.place) (sym c.self.view_is) c.requires.later in
-    subst (λ (es : List (ℕ × Arrival)). AreDistinct es × AreRising 0 es) (sym (entries c)) (AreDistinct-push before _ c.self.invariant.0 free, AreRising-push before _ c.self.invariant.1 later)
+    subst (λ (es : List (ℕ × Arrival)). AreDistinct es) (sym (entries c)) (AreDistinct-push before _ c.self.invariant free)
 
 pub returns-clause-ok : goal.returns-clause-ok
 returns-clause-ok c = entries c ∙ ap (λ (es : List (ℕ × Arrival)). es ++ (c.args.client, record { place = c.args.place; call = c.args.call }) ∷ []) c.self.view_is

@@ -4,6 +4,7 @@ use Rattle.ipc_call.specs.declared.replies.JournalRow.TheVariants.{Called}
 use Rattle.ipc_model.specs.State.{State, is_waiting}
 use Rattle.ipc_model.specs.Step.{Event, Outcome, Stepped, step}
 use Rattle.ipc_model.specs.History.{History, IsLegalAt, answered_row, next_step, rows_by, run, told_ended, told_own, with_event}
+use Rattle.ipc_model.specs.Waits.{AreNotReady}
 use Rattle.ipc_space.specs.Spaces.{IsOfHistory, history_in, other_replies, own_reply}
 use Rattle.ipc_space.proofs.Alone.{waits_alone}
 use Rattle.ipc_space.proofs.Histories.{IsOfHistory-push, length-events_in, rows_by-entered}
@@ -16,13 +17,13 @@ event : (c : After-tell_others) → Event
 event c = record { client = c.args.client; now = c.args.now; call = c.args.call }
 
 stepped : (c : After-tell_others) → Stepped
-stepped c = record { state = c.serve.new.self.state; own = c.in_ok-served.served.own; ended = c.in_ok-served.served.ended.items }
+stepped c = record { state = c.serve.new.self; own = c.in_ok-served.served.own; ended = c.in_ok-served.served.ended.items }
 
-legal : (c : After-tell_others) → IsLegalAt c.self.inside.namespace.state (event c)
+legal : (c : After-tell_others) → IsLegalAt c.self.inside.namespace (event c)
 unfolding event
 legal c = record {
   known = subst (λ (h : History). c.args.client < length h.clients) (sym c.self.view_is) c.requires.known;
-  free = ap (λ (s : State). is_waiting s c.args.client) (c.self.invariant.0.state ∙ ap run c.self.view_is) ∙ c.requires.free;
+  free = ap (λ (s : State). is_waiting s c.args.client) (c.self.invariant.state ∙ ap run c.self.view_is) ∙ c.requires.free;
 }
 
 rows : (c : After-tell_others) → c.tell_others.new.journal.rows ≡ c.self.inside.journal.rows ++ rows_by (c.self.inside.events + 1) (event c) (stepped c)
@@ -36,34 +37,37 @@ rows c =
     c.tell_others.ensures.rows ∙ ap (λ r. r ++ others) (c.tell_own-own.ensures.rows ∙ ap (λ r. r ++ own) called)
     ∙ rows_by-entered c.self.inside.journal.rows place (event c) (stepped c)
 
-longer : (c : After-tell_others) → IsOfHistory c.serve.new.self.state c.tell_others.new.journal.rows (c.self.inside.events + 1)
-    × (history_in c.serve.new.self.state c.tell_others.new.journal.rows ≡ with_event (history_in c.self.inside.namespace.state c.self.inside.journal.rows) (event c))
+longer : (c : After-tell_others) → IsOfHistory c.serve.new.self c.tell_others.new.journal.rows (c.self.inside.events + 1)
+    × (history_in c.serve.new.self c.tell_others.new.journal.rows ≡ with_event (history_in c.self.inside.namespace c.self.inside.journal.rows) (event c))
 unfolding event stepped
 longer c =
     let s = c.self.inside in
     let steps = c.in_ok-served.ensures.ok in
-    IsOfHistory-push s.namespace.state s.journal.rows c.tell_others.new.journal.rows s.events (event c) (stepped c) c.self.invariant.0 (legal c) steps c.serve.ensures.limits c.serve.ensures.clients (rows c)
+    IsOfHistory-push s.namespace s.journal.rows c.tell_others.new.journal.rows s.events (event c) (stepped c) c.self.invariant (legal c) steps c.serve.ensures.limits c.serve.ensures.clients (rows c)
 
 pub overflow_add-place : goal.overflow_add-place
 overflow_add-place c =
     let s = c.self.inside in
-    omega (arith, c.self.invariant.0.counted, length-events_in s.journal.rows, c.in_ok-reserve.ensures.fits, ap length c.reserve.ensures.rows)
+    omega (arith, c.self.invariant.counted, length-events_in s.journal.rows, c.in_ok-reserve.ensures.fits, ap length c.reserve.ensures.rows)
+
+pub serve-requires-clause-quiet : goal.serve-requires-clause-quiet
+serve-requires-clause-quiet c = subst AreNotReady (sym c.self.invariant.state) (run_not_ready (history_in c.self.inside.namespace c.self.inside.journal.rows))
 
 pub invariant_of-self-2 : goal.invariant_of-self-2
-invariant_of-self-2 c = ((longer c).0, c.serve.ensures.latest)
+invariant_of-self-2 c = (longer c).0
 
 pub returns-clause-event : goal.returns-clause-event
 unfolding event
 returns-clause-event c = (longer c).1 ∙ ap (λ (h : History). with_event h (event c)) c.self.view_is
 
 pub returns-clause-not_ready : goal.returns-clause-not_ready
-returns-clause-not_ready c = run_not_ready (history_in c.serve.new.self.state c.tell_others.new.journal.rows)
+returns-clause-not_ready c = run_not_ready (history_in c.serve.new.self c.tell_others.new.journal.rows)
 
 pub returns-clause-permitted : goal.returns-clause-permitted
-returns-clause-permitted c = run_permitted (history_in c.serve.new.self.state c.tell_others.new.journal.rows)
+returns-clause-permitted c = run_permitted (history_in c.serve.new.self c.tell_others.new.journal.rows)
 
 pub returns-clause-once : goal.returns-clause-once
-returns-clause-once c = waits_once (history_in c.serve.new.self.state c.tell_others.new.journal.rows) (longer c).0.legal
+returns-clause-once c = waits_once (history_in c.serve.new.self c.tell_others.new.journal.rows) (longer c).0.legal
 
 pub returns-clause-legal : goal.returns-clause-legal
 returns-clause-legal c = (longer c).0.legal
@@ -77,8 +81,8 @@ unfolding event stepped
 returns-clause-alone c = λ none.
     let s = c.self.inside in
     let place = s.events + 1 in
-    let h = history_in s.namespace.state s.journal.rows in
-    let is : next_step h (event c) ≡ stepped c = ap (λ (x : State). step x (event c)) (sym c.self.invariant.0.state) ∙ c.in_ok-served.ensures.ok in
+    let h = history_in s.namespace s.journal.rows in
+    let is : next_step h (event c) ≡ stepped c = ap (λ (x : State). step x (event c)) (sym c.self.invariant.state) ∙ c.in_ok-served.ensures.ok in
     let own : c.in_ok-served.served.own ≡ None = no_own place c.in_ok-served.served.own (sym c.tell_own-own.ensures.reply ∙ none) in
     let ended = waits_alone h (event c) (ap (λ (m : Stepped). m.own) is ∙ own) in
     c.tell_others.ensures.others ∙ ap (λ es. other_replies place es) (ap (λ (m : Stepped). m.ended) (sym is) ∙ ended)

@@ -6,61 +6,60 @@ use Rattle.ipc_call.specs.declared.calls.Kind.{Kind}
 use Rattle.ipc_call.specs.declared.rules.Rule.{Rule}
 use Rattle.ipc_call.specs.declared.rules.Rule.TheVariants.{Removed}
 use Rattle.ipc_model.specs.Decide.{can_wait, needs}
-use Rattle.ipc_model.specs.Forced.{first_denial, waits_on}
+use Rattle.ipc_model.specs.Cancelled.{first_denial, waits_on}
 use Rattle.ipc_model.specs.State.{State, creds_at}
 use Rattle.ipc_parked.specs.declared.parked.Arrival.{Arrival}
 use Rattle.ipc_parked.specs.Parked.{on_object, waiting}
 use Rattle.ipc_parked.proofs.Picking.{clients_found, find_filter, may_ask, may_ask_on_object, picks_find, picks_waiting}
-use Rattle.ipc_namespace.specs.declared.forcing.Forcing.{Forcing}
-use Rattle.ipc_namespace.specs.declared.forcing.Forcing.TheVariants as forcings
-use Rattle.ipc_namespace.specs.Namespace.{forced_as}
-use Rattle.ipc_namespace.proofs.Kept.{state_of}
+use Rattle.ipc_namespace.specs.declared.cancelling.Cancelling.{Cancelling}
+use Rattle.ipc_namespace.specs.declared.cancelling.Cancelling.TheVariants as cancellings
+use Rattle.ipc_namespace.specs.Namespace.{cancelled_as}
 use Rattle.ipc_namespace.proofs.Parked.{each-parked}
-use Rattle.ipc_namespace.proofs.namespace.Namespace.earliest_forced.Goals as goal
+use Rattle.ipc_namespace.proofs.namespace.Namespace.earliest_cancelled.Goals as goal
 
 pub earliest-requires : goal.earliest-requires
 earliest-requires c =
-    let s = c.args.self.now.state in
-    let each = subst (λ (s : State). AllByRecursion (λ w. (w.client < length s.clients) × (can_wait w.call ≡ true)) (waiting c.self.inside.parked)) (state_of c.self.view_is) (each-parked (length c.self.inside.clients.items) (waiting c.self.inside.parked) c.self.invariant.1) in
+    let s = c.args.self.now in
+    let each = subst (λ (s : State). AllByRecursion (λ w. (w.client < length s.clients) × (can_wait w.call ≡ true)) (waiting c.self.inside.parked)) c.self.view_is (each-parked (length c.self.inside.clients.items) (waiting c.self.inside.parked) c.self.invariant.1) in
     may_ask _ (λ w. (w.client < length s.clients) × (can_wait w.call ≡ true)) _ each (λ client call known. search rules)
 
 pub on_object-requires : goal.on_object-requires
 on_object-requires c =
-    let s = c.args.self.now.state in
-    let each = subst (λ (s : State). AllByRecursion (λ w. (w.client < length s.clients) × (can_wait w.call ≡ true)) (waiting c.self.inside.parked)) (state_of c.self.view_is) (each-parked (length c.self.inside.clients.items) (waiting c.self.inside.parked) c.self.invariant.1) in
+    let s = c.args.self.now in
+    let each = subst (λ (s : State). AllByRecursion (λ w. (w.client < length s.clients) × (can_wait w.call ≡ true)) (waiting c.self.inside.parked)) c.self.view_is (each-parked (length c.self.inside.clients.items) (waiting c.self.inside.parked) c.self.invariant.1) in
     may_ask_on_object _ (λ w. (w.client < length s.clients) × (can_wait w.call ≡ true)) c.in-Denied.kind c.in-Denied.id _ each (λ client call on known. search rules)
 
 pub returns-in-Interrupted : goal.returns-in-Interrupted
 returns-in-Interrupted c =
-    let s = c.args.self.now.state in
-    let rule = forced_as s c.args.forcing in
+    let s = c.args.self.now in
+    let rule = cancelled_as s c.args.cancelling in
     picks_waiting _ (λ client call. is_some (rule (record { client = client; call = call }))) _ _ c.earliest.ensures (λ client call answer says. search rules)
-    ∙ ap (λ (t : State). option_map (λ (w : Waiting). w.client) (find (λ w. is_some (rule w)) t.parked)) (state_of c.self.view_is)
+    ∙ ap (λ (t : State). option_map (λ (w : Waiting). w.client) (find (λ w. is_some (rule w)) t.parked)) c.self.view_is
 
 only_on : (b : Bool) (o : Option Rule) → (b && is_some (cond b o None)) ≡ is_some (cond b o None)
 only_on true o = refl
 only_on false o = refl
 
 -- only what waits on the object ends
-ends_on : (s : State) (forcing : Forcing) (kind : Kind) (id : ℕ) (w : Waiting) → (forcing ≡ forcings.Denied kind id) ⊎ (forcing ≡ forcings.Removed kind id)
-    → (waits_on kind id w.call && is_some (forced_as s forcing w)) ≡ is_some (forced_as s forcing w)
-ends_on s forcing kind id w is =
+ends_on : (s : State) (cancelling : Cancelling) (kind : Kind) (id : ℕ) (w : Waiting) → (cancelling ≡ cancellings.Denied kind id) ⊎ (cancelling ≡ cancellings.Removed kind id)
+    → (waits_on kind id w.call && is_some (cancelled_as s cancelling w)) ≡ is_some (cancelled_as s cancelling w)
+ends_on s cancelling kind id w is =
     ⊎_elim
-    (λ (denied : forcing ≡ forcings.Denied kind id). rw denied (only_on (waits_on kind id w.call) (first_denial (creds_at s w.client) (needs s w.client w.call))))
-    (λ (removed : forcing ≡ forcings.Removed kind id). rw removed (only_on (waits_on kind id w.call) (Some Removed)))
+    (λ (denied : cancelling ≡ cancellings.Denied kind id). rw denied (only_on (waits_on kind id w.call) (first_denial (creds_at s w.client) (needs s w.client w.call))))
+    (λ (removed : cancelling ≡ cancellings.Removed kind id). rw removed (only_on (waits_on kind id w.call) (Some Removed)))
     is
 
 pub returns-in-Denied : goal.returns-in-Denied
 returns-in-Denied c =
-    let s = c.args.self.now.state in
+    let s = c.args.self.now in
     let es = c.self.inside.parked in
     let kind = c.in-Denied.kind in
     let id = c.in-Denied.id in
-    let rule = forced_as s c.args.forcing in
+    let rule = cancelled_as s c.args.cancelling in
     let test = λ (e : ℕ × Arrival). is_some (rule (record { client = e.0; call = e.1.call })) in
     let all : find test (on_object kind id es) ≡ find test es = find_filter (λ e. waits_on kind id e.1.call) test es
-    ∙ ap (λ (t : ℕ × Arrival → Bool). find t es) (λ i e. ends_on s c.args.forcing kind id (record { client = e.0; call = e.1.call }) c.in-Denied.is i) in
+    ∙ ap (λ (t : ℕ × Arrival → Bool). find t es) (λ i e. ends_on s c.args.cancelling kind id (record { client = e.0; call = e.1.call }) c.in-Denied.is i) in
     picks_find _ (λ client call. is_some (rule (record { client = client; call = call }))) _ _ c.on_object.ensures (λ client call answer says. search rules)
     ∙ ap (λ (o : Option (ℕ × Arrival)). option_map (λ e. e.0) o) all
     ∙ clients_found (λ w. is_some (rule w)) es
-    ∙ ap (λ (t : State). option_map (λ (w : Waiting). w.client) (find (λ w. is_some (rule w)) t.parked)) (state_of c.self.view_is)
+    ∙ ap (λ (t : State). option_map (λ (w : Waiting). w.client) (find (λ w. is_some (rule w)) t.parked)) c.self.view_is

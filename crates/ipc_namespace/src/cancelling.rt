@@ -1,0 +1,132 @@
+// The waiting calls that a granted call cancels, whether they could proceed or not.
+
+ghost use Rattle.std.specs.Prelude.{
+  ◌≡◌,
+  ℕ,
+  ◌+◌,
+  ◌<◌,
+  ◌≤◌,
+  ◌++◌,
+  true,
+  length,
+  vec_len,
+  vec_capacity,
+  IfSome,
+  is_some,
+  option_map,
+  option_and_then,
+  Some,
+  None,
+};
+ghost use Rattle.std.specs.List.{find};
+ghost use Rattle.ipc_model.specs.State.{creds_at, is_waiting as waits, waiting_of};
+ghost use Rattle.ipc_model.specs.Decide.{needs, can_wait as may_wait};
+ghost use Rattle.ipc_model.specs.Cancelled.{first_denial, waits_on as call_waits_on};
+ghost use Rattle.ipc_model.specs.Messages.{queue_at};
+ghost use Rattle.ipc_namespace.specs.Namespace.{ended_as, cancelled_as, left_by, needs_for};
+ghost use Rattle.ipc_parked.specs.Parked.{AreApart};
+
+use crate::decisions::{TO_ALTER, TO_READ};
+use crate::namespace::Namespace;
+use ipc_call::{Call, Ended, Kind, Rule};
+use ipc_parked::waits_on;
+use ipc_perm::{Verdict, Want, decide};
+
+/// Why a granted call cancels waiting ones.
+#[derive(Clone, Copy, Debug)]
+pub enum Cancelling {
+    /// They wait on this object, and IPC_SET took their right.
+    Denied(Kind, u32),
+    /// They wait on this object, and it is removed.
+    Removed(Kind, u32),
+    /// Their client has this process, which is interrupted.
+    Interrupted(u32),
+}
+
+impl Namespace {
+    /// Ends the waiting calls that a granted call cancels, the earliest first. There is room for each in the list
+    /// of those that ended.
+    pub(super) fn cancel(&mut self, cancelling: Cancelling, ended: &mut Vec<Ended>)
+        requires { vec_len ended.old + length self.old.parked ≤ vec_capacity ended.old }
+        ensures state { self.new ≡ record self.old { parked = left_by (cancelled_as self.old cancelling) self.old.parked } }
+        ensures ended { ended.new.items ≡ ended.old.items ++ ended_as (cancelled_as self.old cancelling) self.old.parked }
+        ensures few { vec_len ended.new + length self.new.parked ≡ vec_len ended.old + length self.old.parked }
+        ensures room { vec_capacity ended.old ≤ vec_capacity ended.new }
+    {
+        while let Some((client, rule)) = self.first_cancelled(cancelling) {
+            let ending = self.end_refused(client, rule);
+            ended.push(ending).unwrap();
+        }
+    }
+
+    /// The client of the earliest waiting call that ends, and the rule.
+    fn first_cancelled(&self, cancelling: Cancelling) -> Option<(u32, Rule)>
+        ensures first { find (λ w. is_some (cancelled_as self.now cancelling w)) self.now.parked ≡ option_and_then (λ x. waiting_of self.now x.0) result }
+        ensures rule { IfSome result (λ x. IfSome (waiting_of self.now x.0) (λ w. cancelled_as self.now cancelling w ≡ Some x.1)) }
+        ensures waits { IfSome result (λ x. waits self.now x.0 ≡ true) }
+        ensures apart { IfSome result (λ _. AreApart self.now.parked) }
+    {
+        let client = self.earliest_cancelled(cancelling)?;
+        let rule = self.cancelled(cancelling, client, self.parked.call_of(client))?;
+        Some((client, rule))
+    }
+
+    /// The client of the earliest waiting call that ends.
+    fn earliest_cancelled(&self, cancelling: Cancelling) -> Option<u32>
+        ensures { result ≡ option_map (λ w. w.client) (find (λ w. is_some (cancelled_as self.now cancelling w)) self.now.parked) }
+    {
+        match cancelling {
+            Cancelling::Denied(kind, id) | Cancelling::Removed(kind, id) => self.parked.on_object(
+                kind,
+                id,
+                |client, call| self.cancelled(cancelling, client, call).is_some(),
+            ),
+            Cancelling::Interrupted(_) => self.parked.earliest(|client, call| self
+                .cancelled(cancelling, client, call)
+                .is_some()),
+        }
+    }
+
+    /// The rule by which a waiting call ends.
+    fn cancelled(&self, cancelling: Cancelling, client: u32, call: &Call) -> Option<Rule>
+        requires client { client < length self.now.clients }
+        requires waits { may_wait call.now ≡ true }
+        ensures { result ≡ cancelled_as self.now cancelling (record { client = client; call = call.now }) }
+    {
+        match cancelling {
+            Cancelling::Denied(kind, id) if waits_on(kind, id, call) => self.denial(client, call),
+            Cancelling::Removed(kind, id) if waits_on(kind, id, call) => Some(Rule::Removed),
+            Cancelling::Interrupted(pid) if u64::from(pid) == u64::from(client) + 1 => Some(
+                Rule::Interrupted,
+            ),
+            _ => None,
+        }
+    }
+
+    /// The rule of the right that the call needs on its object, where its client lacks it.
+    #[tactic(auto, unfolding(ipc_model::specs::Decide::plan))]
+    fn denial(&self, client: u32, call: &Call) -> Option<Rule>
+        requires client { client < length self.now.clients }
+        requires waits { may_wait call.now ≡ true }
+        ensures { result ≡ first_denial (creds_at self.now client) (needs self.now client call.now) }
+    {
+        match call {
+            Call::MsgSnd { id, .. } => self.denial_on(client, *id, TO_ALTER),
+            Call::MsgRcv { id, .. } => self.denial_on(client, *id, TO_READ),
+            _ => unreachable!(),
+        }
+    }
+
+    /// The rule of the right on a queue, where the client lacks it.
+    fn denial_on(&self, client: u32, id: u32, want: Want) -> Option<Rule>
+        requires { client < length self.now.clients }
+        ensures { result ≡ first_denial (creds_at self.now client) (needs_for want (queue_at self.now id)) }
+    {
+        let creds = &self.clients[client as usize];
+        let queue = self.queues.get(id)?;
+        match decide(creds, &queue.perm(), want) {
+            Verdict::Allowed(_) => None,
+            Verdict::Denied(rule) => Some(rule),
+        }
+    }
+}
