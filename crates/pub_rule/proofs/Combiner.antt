@@ -1,5 +1,6 @@
 -- The steps of the holder keep the rule.
-use Rattle.std.proofs.Common.{◌≡◌, ◌≢◌, ℕ, eqb, ◌<◌, List, length, get_or, set, sym, refl, ap, ◌∙◌, subst, inl, ⊎_elim, arith, lt_of_not-le}
+use Rattle.std.proofs.Common.{◌≡◌, ◌≢◌, ℕ, true, eqb, ◌<◌, List, length, get_or, set, sym, refl, ap, ◌∙◌, subst, inl, ⊎_elim, arith, lt_of_not-le}
+use lib.ListN.{get_elem?}
 use lib.Seq.{set-get_or}
 use mathlib.Core.Logic.{dite}
 use native.Mathlib.Decide.{dec_le, ℕ_discrete}
@@ -107,6 +108,36 @@ module _ {E C R S : Type 0} (history : S → List E) (legal : List E → Type 0)
   as_many : (hist seen : List E) (q : ℕ) (entered : List C) (got : List R) → seen ≡ hist → own hist q ≡ entered → replies hist q ≡ got → length entered ≡ length got → length (own seen q) ≡ length (replies seen q)
   as_many hist seen q entered got same calls answers even = subst (λ (h : List E). length (own h q) ≡ length (replies h q)) (sym same) (ap length calls ∙ (even ∙ sym (ap length answers)))
 
+  -- a record that isn't posted: a combiner has dealt with its client's last post
+  passes_by : (s : State (Slot C R S) (Work E C R)) (r : Half s) (id q : ℕ) (v : Work E C R) → get_elem? s.views id ≡ some v → v.holds ≡ true → v.serving ≡ Nothing → q < n → get_or s.words (state_word q) 0 ≢ 1
+      → Serves history legal own replies n (set s.words (state_word q) (get_or s.words (state_word q) 0)) s.homes (set s.views id (dealt q v))
+  passes_by s r id q v at holds nothing inside miss = let k = r.each_seat id v at in let o : Client E C R = r.truth q in let rec = r.each_client q inside in let b = k.combines holds in
+      let deal : IsDealt o.phase = is_dealt q o.phase r.desk.serving (subst is_nothing (sym nothing ∙ b.serving) tt) (λ e. miss (rec.word ∙ e)) rec.phase.taken_is in
+      subst (λ (ws : List ℕ). Serves history legal own replies n ws s.homes (set s.views id (dealt q v))) (sym (set-get_or s.words (state_word q) 0)) (view_step history legal own replies n s.words s.homes s.views r id (dealt q v) record {
+        maker = k.maker;
+        client = λ i is. let d = k.client i is in record {
+          made_it = d.made_it;
+          live = d.live;
+          seat_is = d.seat_is;
+          stage = d.stage;
+          entered = d.entered;
+          got = d.got;
+          posts = d.posts;
+          begun = d.begun;
+          past = λ h. ⊎_elim d.past (λ (e : i ≡ q). subst (λ (z : ℕ). IsDealt (r.truth z).phase) (sym e) deal) (past_is i q v.stage v.past is h);
+          found = d.found;
+          holds = d.holds;
+          waits = d.waits;
+        };
+        token = k.token;
+        combines = λ h. let c = k.combines h in record { client = c.client; seen = c.seen; before = c.before; paid = c.paid; serving = c.serving };
+        saw = k.saw;
+        was_told = k.was_told;
+        met = k.met;
+        heard = k.heard;
+        passed = λ i j m. ⊎_elim (λ (h : (i ≡ q) × IsMarked i j v.heard). let g = k.heard i j h.1 in (g.0, g.1, λ _. subst (λ (z : ℕ). IsDealt (r.truth z).phase) (sym h.0) deal)) (k.passed i j) (marks_are q i j v.heard v.passed m);
+      })
+
   pub take : KeptByTake history legal own replies n
   take size id p q me was holds nothing inside = let v : Work E C R = me.0.work in let then : ℕ → Me (Slot C R S) (View (Work E C R)) → Type 0 = λ k m'. call_taken (step size (state_word q) 1 2 none) me k m' own replies in
       let half : ℕ → Me (Slot C R S) (Work E C R) → Type 0 = λ k m'. then k (with_work m'.0 me.0, m'.1) in
@@ -133,34 +164,11 @@ module _ {E C R S : Type 0} (history : S → List E) (legal : List E → Type 0)
             (all_of r.desk.hist) r.is_legal (λ i h. subst (λ (z : ℕ). z < n) (sym h) inside) (λ _ _ m. inl m) (λ h. inl h)),
         ((λ _. (q, c, refl, even_now, (λ is. own_posted R q c v.stage is (subst (λ (z : Phase C R). IsInStage v.stage z) e (k.client q is).stage)), refl)), λ other. absurd (other hit)),
       ))
-      (λ miss. let deal : IsDealt o.phase = is_dealt q o.phase r.desk.serving unserved (λ e. miss (rec.word ∙ e)) rec.phase.taken_is in (
+      (λ miss. (
         dealt q v,
         keeps,
         tt,
-        subst (λ (ws : List ℕ). Serves history legal own replies n ws s.homes (set s.views id (dealt q v))) (sym (set-get_or s.words (state_word q) 0)) (view_step history legal own replies n s.words s.homes s.views r id (dealt q v) record {
-          maker = k.maker;
-          client = λ i is. let d = k.client i is in record {
-            made_it = d.made_it;
-            live = d.live;
-            seat_is = d.seat_is;
-            stage = d.stage;
-            entered = d.entered;
-            got = d.got;
-            posts = d.posts;
-            begun = d.begun;
-            past = λ h. ⊎_elim d.past (λ (e : i ≡ q). subst (λ (z : ℕ). IsDealt (r.truth z).phase) (sym e) deal) (past_is i q v.stage v.past is h);
-            found = d.found;
-            holds = d.holds;
-            waits = d.waits;
-          };
-          token = k.token;
-          combines = λ h. let c = k.combines h in record { client = c.client; seen = c.seen; before = c.before; paid = c.paid; serving = c.serving };
-          saw = k.saw;
-          was_told = k.was_told;
-          met = k.met;
-          heard = k.heard;
-          passed = λ i j m. ⊎_elim (λ (h : (i ≡ q) × IsMarked i j v.heard). let g = k.heard i j h.1 in (g.0, g.1, λ _. subst (λ (z : ℕ). IsDealt (r.truth z).phase) (sym h.0) deal)) (k.passed i j) (marks_are q i j v.heard v.passed m);
-        }),
+        passes_by s r id q v at holds nothing inside miss,
         ((λ hit. absurd (miss hit)), λ _. (q, refl, refl)),
       )))
       (λ _ _ _ h. h)
@@ -170,39 +178,14 @@ module _ {E C R S : Type 0} (history : S → List E) (legal : List E → Type 0)
       let half : ℕ → Me (Slot C R S) (Work E C R) → Type 0 = λ k m'. then k (with_work m'.0 me.0, m'.1) in
       lift n (Serves history legal own replies n) size id (state_word q) (λ k. k) me half then (λ e. state_from_head q (sym e)) (λ r e. state_from_next q r (sym e))
       (λ s r sz at _. let found : ℕ = get_or s.words (state_word q) 0 in
-      let k = r.each_seat id v at in let o : Client E C R = r.truth q in let b = k.combines holds in let rec = r.each_client q inside in
       let F : ℕ → Type 0 = λ x. (w : Work E C R) × (a : Act (Slot C R S)) × Valid s.homes me.1 a × Half (stepped s (state_word q) x id me.1 w a) × half found (w, carried_after me.1 a) in
-      let unserved : is_nothing r.desk.serving = subst is_nothing (sym nothing ∙ b.serving) tt in
       let answer : F found = dite (ℕ_discrete found 1)
       (λ hit. (v, keeps, tt, idle history legal own replies n s (state_word q) id v at r, ((λ _. refl), λ other. absurd (other hit))))
-      (λ miss. let deal : IsDealt o.phase = is_dealt q o.phase r.desk.serving unserved (λ e. miss (rec.word ∙ e)) rec.phase.taken_is in (
+      (λ miss. (
         dealt q v,
         keeps,
         tt,
-        subst (λ (ws : List ℕ). Serves history legal own replies n ws s.homes (set s.views id (dealt q v))) (sym (set-get_or s.words (state_word q) 0)) (view_step history legal own replies n s.words s.homes s.views r id (dealt q v) record {
-          maker = k.maker;
-          client = λ i is. let d = k.client i is in record {
-            made_it = d.made_it;
-            live = d.live;
-            seat_is = d.seat_is;
-            stage = d.stage;
-            entered = d.entered;
-            got = d.got;
-            posts = d.posts;
-            begun = d.begun;
-            past = λ h. ⊎_elim d.past (λ (e : i ≡ q). subst (λ (z : ℕ). IsDealt (r.truth z).phase) (sym e) deal) (past_is i q v.stage v.past is h);
-            found = d.found;
-            holds = d.holds;
-            waits = d.waits;
-          };
-          token = k.token;
-          combines = λ h. let c = k.combines h in record { client = c.client; seen = c.seen; before = c.before; paid = c.paid; serving = c.serving };
-          saw = k.saw;
-          was_told = k.was_told;
-          met = k.met;
-          heard = k.heard;
-          passed = λ i j m. ⊎_elim (λ (h : (i ≡ q) × IsMarked i j v.heard). let g = k.heard i j h.1 in (g.0, g.1, λ _. subst (λ (z : ℕ). IsDealt (r.truth z).phase) (sym h.0) deal)) (k.passed i j) (marks_are q i j v.heard v.passed m);
-        }),
+        passes_by s r id q v at holds nothing inside miss,
         ((λ hit. absurd (miss hit)), λ _. (q, refl, refl)),
       )) in answer)
       (λ _ _ _ h. h)

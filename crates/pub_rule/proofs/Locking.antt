@@ -1,7 +1,9 @@
 -- The steps on the lock word keep the rule.
-use Rattle.std.proofs.Common.{◌≡◌, ◌⊎◌, ℕ, true, eqb, ◌+◌, ◌-◌, ◌<◌, ◌≤◌, List, [], ◌∷◌, ◌++◌, length, get_or, set, sym, refl, ap, ◌∙◌, subst, inl, inr, ⊎_elim, arith, length-append, length-set, get_or-set_other, get_or-set_same}
+use Rattle.std.proofs.Common.{◌≡◌, ◌≢◌, ◌⊎◌, ℕ, true, false, eqb, ◌+◌, ◌-◌, ◌<◌, ◌≤◌, List, [], ◌∷◌, ◌++◌, length, get_or, set, sym, refl, ap, ◌∙◌, subst, inl, inr, ⊎_elim, arith, length-append, length-set, get_or-set_other, get_or-set_same}
 use Rattle.std.proofs.lemmas.Bool.{false≢true}
+use mathlib.Core.Logic.{dite}
 use mathlib.Core.Option.{Option, none, some}
+use native.Mathlib.Decide.{ℕ_discrete}
 use prog.Atomic.{either}
 use lib.ListN.{get_elem?}
 use lib.Seq.{set-get_or}
@@ -16,12 +18,12 @@ use Rattle.pub_rule.specs.declared.served.Slot.TheVariants as slots
 use Rattle.pub_rule.specs.Words.{lock_word, state_word}
 use Rattle.pub_rule.specs.Lists.{IsOn}
 use Rattle.pub_rule.specs.Work.{GoesOn, Phase, away, free, posted, taken, parked, resumed, refused, replied, HasReplies, IsSettled, Client, Desk, word_of, home_of, HasRecord, IsUnheld, IsHeld, IsInPhase, IsClient, Tells, Serves}
-use Rattle.pub_rule.specs.WorkSteps.{with_work, holding, meeting, state_seized, released, state_released}
-use Rattle.pub_rule.specs.WorkLaws.{KeptBySeize, KeptByRelease}
+use Rattle.pub_rule.specs.WorkSteps.{with_work, holding, meeting, state_seized, lock_peeked, released, state_released}
+use Rattle.pub_rule.specs.WorkLaws.{KeptBySeize, KeptByPeekLock, KeptByRelease}
 use Rattle.pub_rule.proofs.Numbers.{lock_from_head, lock_from_next, lock_within, state_from_lock}
 use Rattle.pub_rule.proofs.Moves.{Follows, follows_itself, stays_itself, sole, put_case, put_at, steps, mine_by, met_still, heard_still, passed_still, view_step}
 use Rattle.pub_rule.proofs.Lift.{Served, lift}
-use Rattle.pub_rule.proofs.Clientwork.{all_of}
+use Rattle.pub_rule.proofs.Clientwork.{all_of, idle}
 
 module _ {E C R S : Type 0} (history : S → List E) (legal : List E → Type 0) (own : List E → ℕ → List C) (replies : List E → ℕ → List R) (n : ℕ) where
   abbrev Half : State (Slot C R S) (Work E C R) → Type 0
@@ -65,6 +67,30 @@ module _ {E C R S : Type 0} (history : S → List E) (legal : List E → Type 0)
         (λ _. record { client = (p, was); seen = refl; before = sym u.before; paid = sym u.paid; serving = sym u.nothing }) (all_of s.desk.hist) (s.each_seat id v at).was_told
         (met_still history legal own replies n words homes works s id p t f id v at) (heard_still history legal own replies n words homes works s id p t f id v at) (passed_still history legal own replies n words homes works s id p t f id v at))
 
+  -- where the lock isn't 0, the seat has met the client that it names
+  meets : (s : State (Slot C R S) (Work E C R)) (r : Half s) (id : ℕ) (v : Work E C R) → get_elem? s.views id ≡ some v → v.holds ≡ false → get_or s.words lock_word 0 ≢ 0
+      → (c : ℕ) × Serves history legal own replies n (set s.words lock_word (get_or s.words lock_word 0)) s.homes (set s.views id (meeting c v)) × (get_or s.words lock_word 0 ≡ c + 1) × (c < n) × ((q : ℕ) → IsClient q v.stage → c ≢ q)
+  meets s r id v at waits miss = let found : ℕ = get_or s.words lock_word 0 in let k = r.each_seat id v at in ⊎_elim
+      (λ u. absurd (miss u.zero))
+      (λ (h : IsHeld r.made r.done n found s.homes r.truth). let c : ℕ = h.holder in let few = r.few in let below = h.client in (
+        c,
+        subst (λ (ws : List ℕ). Serves history legal own replies n ws s.homes (set s.views id (meeting c v))) (sym (set-get_or s.words lock_word 0))
+            (view_step history legal own replies n s.words s.homes s.views r id (meeting c v) record {
+              maker = k.maker;
+              client = λ q is. let d = k.client q is in record { made_it = d.made_it; live = d.live; seat_is = d.seat_is; stage = d.stage; entered = d.entered; got = d.got; posts = d.posts; begun = d.begun; past = d.past; found = d.found; holds = d.holds; waits = d.waits };
+              token = k.token;
+              combines = λ e. let b = k.combines e in record { client = b.client; seen = b.seen; before = b.before; paid = b.paid; serving = b.serving };
+              saw = k.saw;
+              was_told = k.was_told;
+              met = λ q on. ⊎_elim (λ (e : q ≡ c). subst (λ (z : ℕ). (z < r.made) × (1 ≤ (r.truth z).begun)) (sym e) (h.client, h.begun)) (λ t. k.met q t) on;
+              heard = k.heard;
+              passed = k.passed;
+            }),
+        h.number,
+        omega arith,
+        λ q is e. (k.client q is).waits waits (h.number ∙ ap (λ (z : ℕ). z + 1) e),
+      )) r.lock
+
   pub seize : KeptBySeize history legal own replies n
   seize size id p me was waits = let v : Work E C R = me.0.work in let then : ℕ → Me (Slot C R S) (View (Work E C R)) → Type 0 = λ k m'. state_seized (step size lock_word 0 (p + 1) none) me k m' history legal in
       let half : ℕ → Me (Slot C R S) (Work E C R) → Type 0 = λ k m'. then k (with_work m'.0 me.0, m'.1) in
@@ -89,35 +115,18 @@ module _ {E C R S : Type 0} (history : S → List E) (legal : List E → Type 0)
         ),
       ))
       (λ h. let number = h.number in absurd (omega arith)) r.lock)
-      (λ miss. ⊎_elim
-      (λ u. absurd (miss u.zero))
-      (λ (h : IsHeld r.made r.done n found s.homes r.truth). let c : ℕ = h.holder in let few = r.few in let below = h.client in (
-        meeting c v,
-        keeps,
-        tt,
-        subst (λ (ws : List ℕ). Serves history legal own replies n ws s.homes (set s.views id (meeting c v))) (sym (set-get_or s.words lock_word 0))
-            (view_step history legal own replies n s.words s.homes s.views r id (meeting c v) record {
-              maker = k.maker;
-              client = λ q is. let d = k.client q is in record { made_it = d.made_it; live = d.live; seat_is = d.seat_is; stage = d.stage; entered = d.entered; got = d.got; posts = d.posts; begun = d.begun; past = d.past; found = d.found; holds = d.holds; waits = d.waits };
-              token = k.token;
-              combines = λ e. let b = k.combines e in record { client = b.client; seen = b.seen; before = b.before; paid = b.paid; serving = b.serving };
-              saw = k.saw;
-              was_told = k.was_told;
-              met = λ q on. ⊎_elim (λ (e : q ≡ c). subst (λ (z : ℕ). (z < r.made) × (1 ≤ (r.truth z).begun)) (sym e) (h.client, h.begun)) (λ t. k.met q t) on;
-              heard = k.heard;
-              passed = k.passed;
-            }),
-        (
-          (λ hit. absurd (miss hit)),
-          λ _. (
-            c,
-            h.number,
-            omega arith,
-            (λ q is e. (k.client q is).waits waits (h.number ∙ ap (λ (z : ℕ). z + 1) e)),
-            refl,
-          ),
-        ),
-      )) r.lock))
+      (λ miss. let h = meets s r id v at waits miss in let below = h.3 in (meeting h.0 v, keeps, tt, h.1, ((λ hit. absurd (miss hit)), λ _. (h.0, h.2, omega arith, h.4, refl)))))
+      (λ _ _ _ h. h)
+
+  pub peek_lock : KeptByPeekLock history legal own replies n
+  peek_lock size id p me was waits = let v : Work E C R = me.0.work in let then : ℕ → Me (Slot C R S) (View (Work E C R)) → Type 0 = λ k m'. lock_peeked (step size lock_word 0 0 none) me k m' in
+      let half : ℕ → Me (Slot C R S) (Work E C R) → Type 0 = λ k m'. then k (with_work m'.0 me.0, m'.1) in
+      lift n (Serves history legal own replies n) size id lock_word (λ k. k) me half then (λ e. lock_from_head (sym e)) (λ r e. lock_from_next r (sym e))
+      (λ s r sz at _. let found : ℕ = get_or s.words lock_word 0 in let deep = r.deep in
+      let F : ℕ → Type 0 = λ x. (w : Work E C R) × (a : Act (Slot C R S)) × Valid s.homes me.1 a × Half (stepped s lock_word x id me.1 w a) × half found (w, carried_after me.1 a) in
+      let answer : F found = dite (ℕ_discrete found 0)
+      (λ hit. (v, keeps, tt, idle history legal own replies n s lock_word id v at r, ((λ _. refl), λ other. absurd (other hit))))
+      (λ miss. let h = meets s r id v at waits miss in let below = h.3 in (meeting h.0 v, keeps, tt, h.1, ((λ hit. absurd (miss hit)), λ _. (h.0, h.2, omega arith, h.4, refl)))) in answer)
       (λ _ _ _ h. h)
 
   -- where nothing is owed, a parked client's replies are those it got

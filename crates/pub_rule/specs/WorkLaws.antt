@@ -14,7 +14,7 @@ use Rattle.pub_rule.specs.Words.{lock_word, state_word}
 use Rattle.pub_rule.specs.Lists.{IsOn}
 use Rattle.pub_rule.specs.Rule.{Ruled}
 use Rattle.pub_rule.specs.Work.{Serves, IsClient}
-use Rattle.pub_rule.specs.WorkSteps.{call_posted, reply_collected, call_taken, state_seized, slot_fetched, slot_given, word_seen, record_peeked, own_looked, state_released, call_answered, call_parked, call_refused, call_resumed, reply_handed}
+use Rattle.pub_rule.specs.WorkSteps.{call_posted, reply_collected, call_taken, state_seized, slot_fetched, slot_given, word_seen, record_peeked, lock_peeked, own_looked, state_released, call_answered, call_parked, call_refused, call_resumed, reply_handed}
 
 module _ {E C R S : Type 0} (history : S → List E) (legal : List E → Type 0) (own : List E → ℕ → List C) (replies : List E → ℕ → List R) (n : ℕ) where
   -- a client that has its slot in its hands, with its call, posts it
@@ -41,6 +41,11 @@ module _ {E C R S : Type 0} (history : S → List E) (legal : List E → Type 0)
   abbrev pub KeptBySeize : Type 0
   KeptBySeize = (size id p : ℕ) (me : Me (Slot C R S) (View (Work E C R))) → IsClient p me.0.work.stage → me.0.work.holds ≡ false
       → Allows (Ruled n (Serves history legal own replies n)) size id me lock_word (λ k. either (k == 0) (p + 1) k) (λ k m'. state_seized (step size lock_word 0 (p + 1) none) me k m' history legal)
+
+  -- a client that doesn't combine reads the lock word
+  abbrev pub KeptByPeekLock : Type 0
+  KeptByPeekLock = (size id p : ℕ) (me : Me (Slot C R S) (View (Work E C R))) → IsClient p me.0.work.stage → me.0.work.holds ≡ false
+      → Allows (Ruled n (Serves history legal own replies n)) size id me lock_word (λ k. k) (λ k m'. lock_peeked (step size lock_word 0 0 none) me k m')
 
   -- a client whose slot lies empty at home reads its state word, and takes the slot
   abbrev pub KeptByFetch : Type 0

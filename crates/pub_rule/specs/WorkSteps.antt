@@ -146,10 +146,18 @@ module _ {E C R S : Type 0} (st : Step (Slot C R S)) (m : Me (Slot C R S) (View 
   abbrev pub record_peeked : Type 0
   record_peeked = (k ≡ POSTED → m' ≡ m) × (k ≢ POSTED → (r : ℕ) × (st.word ≡ state_word r) × (m' ≡ (with_work (dealt r m.0.work) m.0, m.1)))
 
+  -- the lock word named another client, which combines
+  abbrev pub holder_met : Type 0
+  holder_met = (c : ℕ) × (k ≡ c + 1) × (c < st.slots - 1) × ((r : ℕ) → IsClient r m.0.work.stage → c ≢ r) × (m' ≡ (with_work (meeting c m.0.work) m.0, m.1))
+
   -- seize: nobody combined, so the state comes into the client's hands with the history; or another client combines
   abbrev pub state_seized : (S → List E) → (List E → Type 0) → Type 0
   state_seized history legal = (k ≡ 0 → (x : S) × (m' ≡ (with_work (holding (history x) m.0.work) m.0, (st.slots - 1, slots.State x) ∷ m.1)) × GoesOn m.0.work.seen (history x) × legal (history x))
-      × (k ≢ 0 → (c : ℕ) × (k ≡ c + 1) × (c < st.slots - 1) × ((r : ℕ) → IsClient r m.0.work.stage → c ≢ r) × (m' ≡ (with_work (meeting c m.0.work) m.0, m.1)))
+      × (k ≢ 0 → holder_met)
+
+  -- peek at the lock: nobody combined, which tells nothing; or another client combines
+  abbrev pub lock_peeked : Type 0
+  lock_peeked = (k ≡ 0 → m' ≡ m) × (k ≢ 0 → holder_met)
 
   -- release: the state goes home
   abbrev pub state_released : Type 0

@@ -27,6 +27,6 @@ pub use words::{
 pub use work::{Closed, Serving, Stage, Work};
 pub use work_joins::{EnterCloser, MergeClient};
 pub use work_steps::{
-    AnswerCall, CollectReply, FetchSlot, GiveSlot, LookAt, LookOwn, ParkCall, PeekAt, PostCall,
-    RefuseCall, ReleaseState, SeizeState, TakeParked, TakePosted,
+    AnswerCall, CollectReply, FetchSlot, GiveSlot, LookAt, LookOwn, ParkCall, PeekAt, PeekLock,
+    PostCall, RefuseCall, ReleaseState, SeizeState, TakeParked, TakePosted,
 };

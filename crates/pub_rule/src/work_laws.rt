@@ -8,6 +8,7 @@ ghost use Rattle.pub_rule.specs.WorkLaws.{
   KeptByPost,
   KeptByCollect,
   KeptBySeize,
+  KeptByPeekLock,
   KeptByTake,
   KeptByPeek,
   KeptByAnswer,
@@ -48,6 +49,12 @@ pub fn peek<S: Served>()
 /// Seize: a client that doesn't combine makes the lock word its own number + 1 where it is 0.
 pub fn seize<S: Served>()
     ensures { (n : ℕ) → KeptBySeize S.history S.legal S.own S.replies n }
+{}
+
+/// Peek at the lock: a client that doesn't combine reads the lock word. Another word than 0 tells what a `seize`
+/// tells that fails.
+pub fn peek_lock<S: Served>()
+    ensures { (n : ℕ) → KeptByPeekLock S.history S.legal S.own S.replies n }
 {}
 
 /// Read state, for the first time: a client whose slot lies empty at home takes it.

@@ -47,6 +47,16 @@ impl<S: Served> Play<Slot<S::Call, S::Reply, S>, View<Work<S::Event, S::Call, S:
     ghost then = { λ st m k m'. state_seized st m k m' S.history S.legal };
 }
 
+/// Peek at the lock (flat combining: Hendler, Incze, Shavit, Tzafrir 2010): whether nobody combines; else the
+/// client that combines is seen.
+pub struct PeekLock;
+
+impl<E, C, R, S> Play<Slot<C, R, S>, View<Work<E, C, R>>> for PeekLock {
+    ghost use Rattle.pub_rule.specs.WorkSteps.{lock_peeked};
+
+    ghost then = { λ st m k m'. lock_peeked st m k m' };
+}
+
 /// Take (flat combining: Hendler, Incze, Shavit, Tzafrir 2010): a posted call comes into the combiner's
 /// hands, where the record's word was 1.
 pub struct TakePosted;
