@@ -1,6 +1,8 @@
 -- A client's seat while it seizes the state, and while it releases it.
-use Rattle.std.proofs.Common.{◌≡◌, ◌≢◌, ℕ, Ok, Err, false, eqb, ◌+◌, ◌-◌, ◌<◌, List, ◌∷◌, sym, refl, ap, ◌∙◌, subst, arith}
+use Rattle.std.proofs.Common.{◌≡◌, ◌≢◌, ℕ, Ok, false, eqb, ◌+◌, ◌-◌, ◌<◌, List, ◌∷◌, sym, refl, ap, ◌∙◌, subst, arith}
+use mathlib.Core.Logic.{dite}
 use mathlib.Core.Option.{Option, some, none, some-injective}
+use native.Mathlib.Decide.{ℕ_discrete}
 use prog.Atomic.{either}
 use Rattle.atomic_table.specs.Table.{Me, step, rest, Allows}
 use Rattle.atomic_table.specs.declared.shared.Seat.{Seat}
@@ -12,10 +14,11 @@ use Rattle.pub_rule.specs.declared.served.Slot.TheVariants as slots
 use Rattle.pub_rule.specs.Rule.{Ruled}
 use Rattle.pub_rule.specs.Words.{lock_word}
 use Rattle.pub_rule.specs.Work.{IsClient, GoesOn, Serves}
-use Rattle.pub_rule.specs.WorkSteps.{with_work, holding, meeting, released, state_seized, state_released}
-use Rattle.pub_rule.proofs.Locking.{seize, release}
+use Rattle.pub_rule.specs.WorkSteps.{with_work, holding, meeting, released, holder_met, lock_peeked, state_seized, state_released}
+use Rattle.pub_rule.proofs.Locking.{seize, peek_lock, release}
 use Rattle.pub_list.specs.Joined.{IsJoined, IsWorking, own_slot, with_state, with_taken}
 use Rattle.pub_list.specs.Combining.{IsCombining, OwesNothing, IsSeized}
+use Rattle.pub_list.proofs.Seats.{told_still}
 use Rattle.pub_list.proofs.Working.{slot_in, is_client, with_both, rejoined}
 
 -- the state in a slot
@@ -24,28 +27,31 @@ state_in (slots.State x) = some x
 state_in _ = none
 
 module _ {E C R S : Type 0} where
-  -- the seat was old, and is mid when the lock word was exchanged
-  module _ (history : S → List E) (legal : List E → Type 0) (client clients size k : ℕ) (old mid : Seat (Slot C R S) (View (Work E C R))) (own : IsJoined client old) (free : old.me.0.work.holds ≡ false) (at : old.table_id.slots ≡ size) (sized : size ≡ clients + 1)
-      (did : state_seized (step size 0 0 0 none) old.me k mid.me history legal) where
-    module _ (other : k ≢ 0) where
-      abbrev found : ℕ
-      found = (did.1 other).0
+  -- the seat was old, and is mid when the lock word was read or exchanged
+  module _ (client size k : ℕ) (old mid : Seat (Slot C R S) (View (Work E C R))) (own : IsJoined client old) where
+    pub met_joined : holder_met (step size 0 0 0 none) old.me k mid.me → mid.table_id ≡ old.table_id → IsJoined client mid
+    met_joined met same = rejoined client old mid own same (ap (λ (m : Me (Slot C R S) (View (Work E C R))). m.0.walk) met.4) (ap (λ (m : Me (Slot C R S) (View (Work E C R))). m.0.work.heard) met.4)
+        (subst (λ (m : Me (Slot C R S) (View (Work E C R))). IsWorking client (old.table_id.slots - 1) m.0.work m.1) (sym met.4) record { own = own.working.own; live = own.working.live; hands_are = own.working.hands_are; quiet = own.working.quiet; below = own.working.below })
 
-      pub met_joined : mid.table_id ≡ old.table_id → IsJoined client mid
-      met_joined same = rejoined client old mid own same (ap (λ (m : Me (Slot C R S) (View (Work E C R))). m.0.walk) (did.1 other).4) (ap (λ (m : Me (Slot C R S) (View (Work E C R))). m.0.work.heard) (did.1 other).4)
-          (subst (λ (m : Me (Slot C R S) (View (Work E C R))). IsWorking client (old.table_id.slots - 1) m.0.work m.1) (sym (did.1 other).4) record { own = own.working.own; live = own.working.live; hands_are = own.working.hands_are; quiet = own.working.quiet; below = own.working.below })
+    pub peeked_joined : lock_peeked (step size 0 0 0 none) old.me k mid.me → mid.table_id ≡ old.table_id → IsJoined client mid
+    peeked_joined did same = dite (ℕ_discrete k 0) (λ free. told_still client old mid own same (did.0 free)) (λ other. met_joined (did.1 other) same)
 
+    -- it named another client
+    module _ (clients : ℕ) (at : old.table_id.slots ≡ size) (sized : size ≡ clients + 1) (met : holder_met (step size 0 0 0 none) old.me k mid.me) where
       pub small_found : k < clients + 1
-      small_found = let is = (did.1 other).1 in let below = (did.1 other).2 in omega arith
+      small_found = let is = met.1 in let below = met.2 in omega arith
 
-      pub meets : (c : ℕ) → c ≡ k - 1 → IsSeized history legal clients client old.me.0 mid.me.0 (Err c)
-      meets c e = let is = (did.1 other).1 in let below = (did.1 other).2 in let same : found ≡ c = omega arith in
+      pub meets : (c : ℕ) → c ≡ k - 1 → (c < clients) × (c ≢ client) × (mid.me.0 ≡ with_work (meeting c old.me.0.work) old.me.0)
+      meets c e = let is = met.1 in let below = met.2 in let same : met.0 ≡ c = omega arith in
           subst (λ (z : ℕ). (z < clients) × (z ≢ client) × (mid.me.0 ≡ with_work (meeting z old.me.0.work) old.me.0)) same (
             omega arith,
-            (did.1 other).3 client (is_client client (old.table_id.slots - 1) old.me.0.work old.me.1 own.working),
-            ap (λ (m : Me (Slot C R S) (View (Work E C R))). m.0) (did.1 other).4,
+            met.3 client (is_client client (old.table_id.slots - 1) old.me.0.work old.me.1 own.working),
+            ap (λ (m : Me (Slot C R S) (View (Work E C R))). m.0) met.4,
           )
 
+  -- the seat is mid when the lock word was exchanged
+  module _ (history : S → List E) (legal : List E → Type 0) (client clients size k : ℕ) (old mid : Seat (Slot C R S) (View (Work E C R))) (own : IsJoined client old) (free : old.me.0.work.holds ≡ false) (at : old.table_id.slots ≡ size) (sized : size ≡ clients + 1)
+      (did : state_seized (step size 0 0 0 none) old.me k mid.me history legal) where
     module _ (hit : k ≡ 0) where
       abbrev counted : size - 1 ≡ clients
       counted = omega arith
@@ -112,6 +118,11 @@ module _ {E C R S : Type 0} where
         → Allows (Ruled n (Serves history legal owns replies n)) size id me word (λ k. either (eqb k 0) number k) (λ k m'. state_seized (step size word 0 number none) me k m' history legal)
     lock_seizes p number e is was free = subst (λ (z : ℕ × ℕ). Allows (Ruled n (Serves history legal owns replies n)) size id me z.0 (λ k. either (eqb k 0) z.1 k) (λ k m'. state_seized (step size z.0 0 z.1 none) me k m' history legal)) (λ i. (sym e i, sym is i))
         (seize history legal owns replies n size id p me was free)
+
+    pub lock_peeks : (p : ℕ) → word ≡ lock_word → IsClient p me.0.work.stage → me.0.work.holds ≡ false
+        → Allows (Ruled n (Serves history legal owns replies n)) size id me word (λ k. k) (λ k m'. lock_peeked (step size word 0 0 none) me k m')
+    lock_peeks p e was free = subst (λ (i : ℕ). Allows (Ruled n (Serves history legal owns replies n)) size id me i (λ k. k) (λ k m'. lock_peeked (step size i 0 0 none) me k m')) (sym e)
+        (peek_lock history legal owns replies n size id p me was free)
 
     pub lock_releases : (p clients : ℕ) (x : S) → word ≡ lock_word → n ≡ clients → IsClient p me.0.work.stage → IsCombining me.0 → history x ≡ me.0.work.seen → OwesNothing replies clients me.0 → me.1 ≡ (clients, slots.State x) ∷ rest me.1
         → Allows (Ruled n (Serves history legal owns replies n)) size id me word (λ _. 0) (λ _. state_released (step size word 0 0 none) me 0)

@@ -20,6 +20,10 @@ module _ {E C R : Type 0} where
   abbrev pub IsCombining : View (Work E C R) → Type 0
   IsCombining v = (v.work.holds ≡ true) × (v.work.serving ≡ servings.Nothing)
 
+  -- it met another client c, of n, which combines; nothing else has changed
+  abbrev pub HasMet : ℕ → ℕ → ℕ → View (Work E C R) → View (Work E C R) → Type 0
+  HasMet n client c v w = (c < n) × (c ≢ client) × (w ≡ with_work (meeting c v.work) v)
+
   -- it took the posted record of this client
   abbrev pub TookPosted : ℕ → View (Work E C R) → Type 0
   TookPosted client v = (v.work.holds ≡ true) × (c : C) × (v.work.serving ≡ servings.Posted client c)
@@ -49,7 +53,7 @@ module _ {E C R S : Type 0} (history : S → List E) where
   -- the state came into its hands; or another client combined
   abbrev pub IsSeized : (List E → Type 0) → ℕ → ℕ → View (Work E C R) → View (Work E C R) → Result S ℕ → Type 0
   IsSeized legal n client v w (Ok state) = GoesOn v.work.seen (history state) × legal (history state) × (w ≡ with_work (holding (history state) v.work) v)
-  IsSeized legal n client v w (Err c) = (c < n) × (c ≢ client) × (w ≡ with_work (meeting c v.work) v)
+  IsSeized legal n client v w (Err c) = HasMet n client c v w
 
   module _ (legal : List E → Type 0) (by : E → ℕ) (call : E → C) (n client : ℕ) (v : View (Work E C R)) (state : S) where
     -- the state has one event more, which is the call that was taken, and nobody was owed a reply before it

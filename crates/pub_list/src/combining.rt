@@ -1,5 +1,5 @@
 //! A client combines: it seizes the state, serves records, and releases the state.
-ghost use Rattle.std.specs.Prelude.{◌≡◌, ◌<◌, true, false, IsTrue, IsFalse};
+ghost use Rattle.std.specs.Prelude.{◌≡◌, ◌<◌, true, false, IsTrue, IsFalse, IsNone, IfSome};
 ghost use Rattle.pub_rule.specs.WorkSteps.{with_work, dealt, refusing};
 ghost use Rattle.pub_list.specs.declared.asking.Answer.TheVariants as answers;
 ghost use Rattle.pub_list.specs.declared.records.WordState.TheVariants as states;
@@ -13,6 +13,7 @@ ghost use Rattle.pub_list.specs.Combining.{
   MayAnswer,
   MayPark,
   TookPosted,
+  HasMet,
   IsSeized,
   IsTook,
   IsAnswered,
@@ -25,8 +26,8 @@ use crate::joined::Joined;
 use crate::lists::{List, Record};
 use crate::records::WordState;
 use pub_rule::{
-    ANSWERED, AnswerCall, PARKED, POSTED, ParkCall, PeekAt, RefuseCall, ReleaseState, SeizeState,
-    Served, Slot, TAKEN, TakeParked, TakePosted, lock_word, state_word,
+    ANSWERED, AnswerCall, PARKED, POSTED, ParkCall, PeekAt, PeekLock, RefuseCall, ReleaseState,
+    SeizeState, Served, Slot, TAKEN, TakeParked, TakePosted, lock_word, state_word,
 };
 
 /// What came of taking a record.
@@ -44,6 +45,36 @@ impl<S: Served> Joined<S> {
     /// Seizes the state, to combine (flat combining: Hendler, Incze, Shavit, Tzafrir 2010). The error is the
     /// client that combines, which is another one. The caller doesn't combine.
     pub fn seize(&mut self, list: &List<S>) -> Result<S, u32>
+        requires list { BelongsTo list.now self.old }
+        requires unheld { (work self.old).holds ≡ false }
+        ensures client { IsSame self.old self.new }
+        ensures seized { IsSeized S.history S.legal list.now.clients self.old.client (view self.old) (view self.new) result }
+    {
+        match self.holder(list) {
+            Some(client) => Err(client),
+            None => self.try_seize(list),
+        }
+    }
+
+    // The client that combines, if another one does. This load before the exchange leaves the lock's cache line
+    // with those that look at it.
+    fn holder(&mut self, list: &List<S>) -> Option<u32>
+        requires list { BelongsTo list.now self.old }
+        requires unheld { (work self.old).holds ≡ false }
+        ensures client { IsSame self.old self.new }
+        ensures none { IsNone result → view self.new ≡ view self.old }
+        ensures some { IfSome result (λ c. HasMet list.now.clients self.old.client c (view self.old) (view self.new)) }
+    {
+        let table = &list.table.shared;
+        let found = table.load::<PeekLock>(&mut self.seat, lock_word());
+        if found == 0 {
+            None
+        } else {
+            Some((found - 1) as u32)
+        }
+    }
+
+    fn try_seize(&mut self, list: &List<S>) -> Result<S, u32>
         requires list { BelongsTo list.now self.old }
         requires unheld { (work self.old).holds ≡ false }
         ensures client { IsSame self.old self.new }

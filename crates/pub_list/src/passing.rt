@@ -1,7 +1,7 @@
 //! A client passes over the list: it seizes the state, serves each posted record, and releases the state.
-ghost use Rattle.std.specs.Prelude.{◌≡◌, ◌≢◌, ℕ, List as Sequence, ◌<◌, ◌≤◌, false, OnOk, IfErr};
-ghost use Rattle.pub_rule.specs.WorkSteps.{with_work, meeting};
+ghost use Rattle.std.specs.Prelude.{◌≡◌, ℕ, List as Sequence, ◌<◌, ◌≤◌, false, OnOk, IfErr};
 ghost use Rattle.pub_list.specs.Clients.{view, work, told, BelongsTo, IsSame};
+ghost use Rattle.pub_list.specs.Combining.{HasMet};
 ghost use Rattle.pub_list.specs.Passing.{IsAsFar, HasDealt, KeepsMarks, HasPassed, IsServing, HasTaken, Stays};
 
 use crate::combining::Took;
@@ -50,25 +50,9 @@ impl PassGate for OpenGate {
 }
 
 impl<S: Serves> Joined<S> {
-    /// Tries once to seize the state; then serves each record on the list, and releases the state (flat
-    /// combining: Hendler, Incze, Shavit, Tzafrir 2010). The error is the client that combines.
-    pub fn combine(&mut self, list: &List<S>) -> Result<(), u32>
-        requires list { BelongsTo list.now self.old }
-        requires unheld { (work self.old).holds ≡ false }
-        requires admitted { S.admits list.now.clients (work self.old).seen }
-        ensures client { IsSame self.old self.new }
-        ensures unheld { (work self.new).holds ≡ false }
-        ensures far { IsAsFar (view self.old) (view self.new) }
-        ensures marks { KeepsMarks (view self.old) (view self.new) }
-        ensures told { told self.new ≡ told self.old }
-        ensures passed { OnOk result (HasPassed self.old.client (view self.old) (view self.new)) }
-        ensures legal { OnOk result (S.legal (work self.new).seen) }
-        ensures busy { IfErr result (λ c. (c < list.now.clients) × (c ≢ self.old.client) × (view self.new ≡ with_work (meeting c (work self.old)) (view self.old))) }
-    {
-        self.combine_with(list, &OpenGate)
-    }
-
-    /// The same, with a gate between two records. It is the project's own.
+    /// Tries once to seize the state; then serves each record on the list, with the gate between two of them, and
+    /// releases the state (flat combining: Hendler, Incze, Shavit, Tzafrir 2010). The error is the client that
+    /// combines. A program takes an `OpenGate`; gates are the project's own.
     pub fn combine_with<G: PassGate>(&mut self, list: &List<S>, gate: &G) -> Result<(), u32>
         requires list { BelongsTo list.now self.old }
         requires unheld { (work self.old).holds ≡ false }
@@ -80,7 +64,7 @@ impl<S: Serves> Joined<S> {
         ensures told { told self.new ≡ told self.old }
         ensures passed { OnOk result (HasPassed self.old.client (view self.old) (view self.new)) }
         ensures legal { OnOk result (S.legal (work self.new).seen) }
-        ensures busy { IfErr result (λ c. (c < list.now.clients) × (c ≢ self.old.client) × (view self.new ≡ with_work (meeting c (work self.old)) (view self.old))) }
+        ensures busy { IfErr result (λ c. HasMet list.now.clients self.old.client c (view self.old) (view self.new)) }
     {
         let mut state = self.seize(list)?;
         let mut met = [0; 64];
