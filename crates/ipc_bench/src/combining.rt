@@ -6,7 +6,7 @@ ghost use Rattle.pub_counter.specs.Service.{IsResting};
 use crate::measuring::Run;
 use pub_counter::Counter;
 use pub_counter::service::{ask, reply_of};
-use pub_list::{Fresh, Joined, List, Serves, Took, WordState};
+use pub_list::{Fresh, Joined, List, OpenGate, Serves, Took, WordState};
 use std::alloc::AllocError;
 use std::thread::Threads;
 use std::time::Instant;
@@ -106,7 +106,7 @@ fn ask_by_pass(joined: &mut Joined<Counter>, list: &List<Counter>) -> io::Result
     ensures idle { IfOk result (λ _. IsResting joined.new.client (view joined.new)) }
 {
     joined.post(list, 1);
-    if joined.combine(list).is_err() {
+    if joined.combine_with(list, &OpenGate).is_err() {
         return Err(unserved());
     }
     reply_of(joined, list).ok_or(unserved())

@@ -5,7 +5,7 @@ ghost use Rattle.pub_counter.specs.Service.{IsResting};
 
 use super::service::{ask, reply_of};
 use super::{Counter, Turn};
-use pub_list::{Fresh, Joined, List};
+use pub_list::{Fresh, Joined, List, OpenGate};
 use std::alloc::{AllocError, Global};
 use std::process::Abort;
 use std::test::Fail;
@@ -34,7 +34,7 @@ fn ask_both(list: &List<Counter>, first: &mut Joined<Counter>, second: &mut Join
 {
     first.post(list, 5);
     second.post(list, 7);
-    first.combine(list).is_ok()
+    first.combine_with(list, &OpenGate).is_ok()
 }
 
 #[test]

@@ -5,7 +5,7 @@ ghost use Rattle.pub_counter.specs.Service.{IsTold, HasReply, IsResting};
 
 use crate::counter::Counter;
 use crossbeam_utils::Backoff;
-use pub_list::{Answer, Joined, List, Serves};
+use pub_list::{Answer, Joined, List, OpenGate, Serves};
 
 /// A call is answered with the sum, or with Memory where it can't be added.
 impl Serves for Counter {
@@ -69,7 +69,7 @@ pub fn ask(
         if reply.is_some() {
             return reply;
         }
-        if joined.combine(list).is_err() {
+        if joined.combine_with(list, &OpenGate).is_err() {
             backoff.snooze();
         }
     }

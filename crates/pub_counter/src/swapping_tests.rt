@@ -4,7 +4,7 @@ ghost use Rattle.pub_list.specs.Clients.{view, work, BelongsTo, IsSame};
 ghost use Rattle.pub_counter.specs.Service.{IsResting};
 
 use super::Swap;
-use pub_list::{Answer, End, Joined, List, Took, WordState};
+use pub_list::{Answer, End, Joined, List, OpenGate, Took, WordState};
 use std::process::Abort;
 use std::test::Fail;
 
@@ -30,7 +30,7 @@ fn ask(joined: &mut Joined<Swap>, list: &List<Swap>, amount: u64) -> bool
     ensures unheld { (work joined.new).holds ≡ false }
 {
     joined.post(list, amount);
-    joined.combine(list).is_ok()
+    joined.combine_with(list, &OpenGate).is_ok()
 }
 
 #[test]
@@ -123,7 +123,7 @@ fn look_on(
     assert_eq!(rt; seen_by(onlooker, list), ("free", "free"));
     first.post(list, 5);
     assert_eq!(rt; seen_by(onlooker, list), ("posted", "free"));
-    assert!(rt; first.combine(list).is_ok());
+    assert!(rt; first.combine_with(list, &OpenGate).is_ok());
     assert_eq!(rt; seen_by(onlooker, list), ("parked", "free"));
     second.post(list, 7);
     assert_eq!(rt; seen_by(onlooker, list), ("parked", "posted"));
@@ -212,7 +212,7 @@ fn look_at_parked(
     requires idle { IsResting other.client (view other) × IsResting looker.client (view looker) }
 {
     looker.post(list, 5);
-    assert!(rt; other.combine(list).is_ok());
+    assert!(rt; other.combine_with(list, &OpenGate).is_ok());
     assert_eq!(rt; own_word(&mut looker, list), "parked");
     assert!(rt; ask(&mut other, list, 7));
     assert_eq!(rt; own_word(&mut looker, list), "answered");
