@@ -27,19 +27,24 @@ module _ {T W : Type 0} where
   module _ (n : ℕ) (serves : List ℕ → List (Option T) → List W → Type 0) where
     -- what the words of the list are doesn't matter to it
     abbrev pub IsDeaf : Type 0
-    IsDeaf = (words : List ℕ) (homes : List (Option T)) (works : List W) (i x : ℕ) → IsListWord n i → serves words homes works → serves (slice_set words i x) homes works
+    IsDeaf = (words : List ℕ) (homes : List (Option T)) (works : List W) (i x : ℕ) → IsListWord n i
+        → serves words homes works → serves (slice_set words i x) homes works
 
     -- there is a slot for each client and one more
     abbrev pub IsDeep : Type 0
-    IsDeep = (words : List ℕ) (homes : List (Option T)) (works : List W) → serves words homes works → length homes ≡ n + 1
+    IsDeep = (words : List ℕ) (homes : List (Option T)) (works : List W) → serves words homes works
+        → length homes ≡ n + 1
 
     -- it lets a seat be split
     abbrev pub LetsSplit : ℕ → W → W → W → Type 0
-    LetsSplit id v left right = (words : List ℕ) (homes : List (Option T)) (works : List W) → serves words homes works → get_elem? works id ≡ some v → serves words homes (slice_set works id left ++ right ∷ [])
+    LetsSplit id v left right = (words : List ℕ) (homes : List (Option T)) (works : List W) → serves words homes works
+        → get_elem? works id ≡ some v → serves words homes (slice_set works id left ++ right ∷ [])
 
     -- it lets two seats be merged
     abbrev pub LetsMerge : ℕ → W → ℕ → W → W → W → Type 0
-    LetsMerge id v other w both spent = (words : List ℕ) (homes : List (Option T)) (works : List W) → serves words homes works → get_elem? works id ≡ some v → ¬ (other ≡ id) → get_elem? (slice_set works id both) other ≡ some w
+    LetsMerge id v other w both spent = (words : List ℕ) (homes : List (Option T)) (works : List W)
+        → serves words homes works → get_elem? works id ≡ some v → ¬ (other ≡ id)
+        → get_elem? (slice_set works id both) other ≡ some w
         → serves words homes (slice_set (slice_set works id both) other spent)
 
     -- The rule: the list is as it must be, and so is what is served

@@ -1,4 +1,5 @@
--- What each kind of step tells the seat that takes it. A seat before the step is m, with its view m.0; the step found the number k and left the seat m'.
+-- What each kind of step tells the seat that takes it. A seat before the step is m, with its view m.0; the step found
+-- the number k and left the seat m'.
 use Rattle.std.specs.Prelude.{◌≡◌, ◌≢◌, ◌⊎◌, ℕ, ◌+◌, ◌-◌, ◌≤◌, List, [], ◌∷◌, ◌++◌, length}
 use Rattle.atomic_table.specs.Table.{Step, Me}
 use Rattle.pub_rule.specs.declared.walk.Walk.{Walk}
@@ -49,10 +50,12 @@ joined v = record v { role = Joined (client_of v.role); list = client_of v.role 
 abbrev pub with_walk : {W : Type 0} → Walk → View W → View W
 with_walk w v = record v { walk = w }
 
+-- What each kind of step on the list tells: how the seat is left, and which list its holder then knows.
 module _ {T W : Type 0} (st : Step T) (m : Me T (View W)) (k : ℕ) (m' : Me T (View W)) where
   -- load head
   abbrev pub head_loaded : Type 0
-  head_loaded = (list : List ℕ) × (m' ≡ (with_walk (with_list list m.0.walk) m.0, m.1)) × (k ≡ link_to list) × Saw (st.slots - 1) m.0.walk (with_list list m.0.walk)
+  head_loaded = (list : List ℕ) × (m' ≡ (with_walk (with_list list m.0.walk) m.0, m.1)) × (k ≡ link_to list)
+      × Saw (st.slots - 1) m.0.walk (with_list list m.0.walk)
 
   -- store next
   abbrev pub next_stored : Type 0
@@ -62,13 +65,17 @@ module _ {T W : Type 0} (st : Step T) (m : Me T (View W)) (k : ℕ) (m' : Me T (
   abbrev pub head_exchanged : Type 0
   head_exchanged =
       (k ≡ st.first → (m' ≡ (with_walk (joined m.0.walk) m.0, m.1)) × Saw (st.slots - 1) m.0.walk (joined m.0.walk))
-      × (k ≢ st.first → (list : List ℕ) × (m' ≡ (with_walk (failed list m.0.walk) m.0, m.1)) × (k ≡ link_to list) × Saw (st.slots - 1) m.0.walk (failed list m.0.walk))
+      × (k ≢ st.first → (list : List ℕ) × (m' ≡ (with_walk (failed list m.0.walk) m.0, m.1)) × (k ≡ link_to list)
+      × Saw (st.slots - 1) m.0.walk (failed list m.0.walk))
 
-  -- load next, of a client c that is known to have joined: on the list that was loaded, or else the list from c on is seen
+  -- load next, of a client c that is known to have joined: on the list that was loaded, or else the list from c on is
+  -- seen
   abbrev pub next_loaded : Type 0
   next_loaded =
       (c : ℕ) → st.word ≡ next_word c → IsKnown c m.0.walk
-      → (list : List ℕ) × (m' ≡ (with_walk (with_list list m.0.walk) m.0, m.1)) × (k ≡ link_to (after c list)) × IsOn c list × (IsOn c m.0.walk.list → list ≡ m.0.walk.list) × IsListOf (st.slots - 1) list × EndsWith list m.0.walk.list
+      → (list : List ℕ) × (m' ≡ (with_walk (with_list list m.0.walk) m.0, m.1)) × (k ≡ link_to (after c list))
+      × IsOn c list × (IsOn c m.0.walk.list → list ≡ m.0.walk.list) × IsListOf (st.slots - 1) list
+      × EndsWith list m.0.walk.list
 
 -- split: the first seat makes the next client's
 abbrev pub next_maker : Walk → Walk

@@ -1,4 +1,5 @@
--- Which word of the table is which. All that names a word by its number stands here; the proofs cite the lemmas of proofs/Numbers.
+-- Which word of the table is which. All that names a word by its number stands here; the proofs cite the lemmas of
+-- proofs/Numbers.
 use Rattle.std.specs.Prelude.{ℕ, ◌+◌, ◌*◌}
 
 -- where the list begins

@@ -1,4 +1,5 @@
--- What is true of the publication records, of the lock word, of the slots and of what seats know of them, between any two steps.
+-- What is true of the publication records, of the lock word, of the slots and of what seats know of them, between any
+-- two steps.
 use Rattle.std.specs.Prelude.{◌≡◌, ◌≢◌, ◌⊎◌, ℕ, true, false, ◌+◌, ◌<◌, ◌≤◌, List, [], ◌∷◌, ◌++◌, length, slice_index}
 use mathlib.Core.Option.{Option, none, some}
 use lib.ListN.{get_elem?}
@@ -34,7 +35,8 @@ pub data Phase (C R : Type 0) : Type 0 where
   refused : C → Phase C R
   replied : C → R → Phase C R
 
--- a client: how far its record is, the number of its posts and of the times it combined, its calls entered and its replies got, and the history by which it was parked
+-- a client: how far its record is, the number of its posts and of the times it combined, its calls entered and its
+-- replies got, and the history by which it was parked
 pub record Client (E C R : Type 0) : Type 0 where
   pub phase : Phase C R
   pub posts : ℕ
@@ -59,6 +61,7 @@ IsTaken r Nothing = ⊥
 IsTaken r (Posted q c) = r ≡ q
 IsTaken r (Parked q c) = r ≡ q
 
+-- What a phase means: for the state word, the calls of the history, the combiner, and the slot.
 module _ {C R : Type 0} where
   abbrev pub word_of : Phase C R → ℕ
   word_of away = FREE
@@ -110,10 +113,13 @@ module _ {C R : Type 0} where
   home_of (refused c) = some slots.Memory
   home_of (replied c x) = some (slots.Reply x)
 
+-- How a client stands to the history, by its phase.
 module _ {E C R : Type 0} (own : List E → ℕ → List C) (replies : List E → ℕ → List R) where
-  -- the replies that client r got, and the one in flight where it is in the history: a parked client's is there where the combiner owes it
+  -- the replies that client r got, and the one in flight where it is in the history: a parked client's is there where
+  -- the combiner owes it
   abbrev pub HasReplies : Desk E C → ℕ → List R → Phase C R → Type 0
-  HasReplies d r got (parked c) = (replies d.before r ≡ got) × ((replies d.hist r ≡ got) ⊎ ((x : R) × (replies d.hist r ≡ got ++ x ∷ []) × ¬ IsOn r d.paid))
+  HasReplies d r got (parked c) = (replies d.before r ≡ got)
+      × ((replies d.hist r ≡ got) ⊎ ((x : R) × (replies d.hist r ≡ got ++ x ∷ []) × ¬ IsOn r d.paid))
   HasReplies d r got (resumed c) = (x : R) × (replies d.hist r ≡ got ++ x ∷ [])
   HasReplies d r got (replied c x) = replies d.hist r ≡ got ++ x ∷ []
   HasReplies d r got _ = replies d.hist r ≡ got
@@ -126,7 +132,8 @@ module _ {E C R : Type 0} (own : List E → ℕ → List C) (replies : List E �
 
   -- a history that came before has the call that is parked, without its reply
   abbrev pub IsParkedBy : List E → ℕ → Client E C R → C → Type 0
-  IsParkedBy hist r t c = GoesOn t.parked_by hist × (own t.parked_by r ≡ t.entered ++ c ∷ []) × (replies t.parked_by r ≡ t.got)
+  IsParkedBy hist r t c = GoesOn t.parked_by hist × (own t.parked_by r ≡ t.entered ++ c ∷ [])
+      × (replies t.parked_by r ≡ t.got)
 
   abbrev pub WasParked : List E → ℕ → Client E C R → Phase C R → Type 0
   WasParked hist r t (parked c) = IsParkedBy hist r t c
@@ -142,13 +149,15 @@ module _ {E C R : Type 0} (own : List E → ℕ → List C) (replies : List E �
     pub was_parked : WasParked d.hist r t t.phase
     pub taken_is : IsTakenIn r d.serving t.phase
 
-  pub record HasRecord {S : Type 0} (words : List ℕ) (homes : List (Option (Slot C R S))) (d : Desk E C) (r : ℕ) (t : Client E C R) : Type 0 where
+  pub record HasRecord {S : Type 0} (words : List ℕ) (homes : List (Option (Slot C R S))) (d : Desk E C) (r : ℕ)
+      (t : Client E C R) : Type 0 where
     pub word : slice_index words (state_word r) ≡ word_of t.phase
     pub home : get_elem? homes r ≡ some (home_of t.phase)
     pub phase : IsInPhase d r t
 
 -- nobody combines: the state is at home, no record is taken, and nothing is owed
-pub record IsUnheld {E C R S : Type 0} (history : S → List E) (n lock : ℕ) (homes : List (Option (Slot C R S))) (d : Desk E C) : Type 0 where
+pub record IsUnheld {E C R S : Type 0} (history : S → List E) (n lock : ℕ) (homes : List (Option (Slot C R S)))
+    (d : Desk E C) : Type 0 where
   pub zero : lock ≡ 0
   pub state : S
   pub home : get_elem? homes n ≡ some (some (slots.State state))
@@ -158,7 +167,8 @@ pub record IsUnheld {E C R S : Type 0} (history : S → List E) (n lock : ℕ) (
   pub nothing : d.serving ≡ Nothing
 
 -- a client combines, which has begun to, and has the state in its hands
-pub record IsHeld {E C R S : Type 0} (made : ℕ) (done : List ℕ) (n lock : ℕ) (homes : List (Option (Slot C R S))) (truth : ℕ → Client E C R) : Type 0 where
+pub record IsHeld {E C R S : Type 0} (made : ℕ) (done : List ℕ) (n lock : ℕ) (homes : List (Option (Slot C R S)))
+    (truth : ℕ → Client E C R) : Type 0 where
   pub holder : ℕ
   pub client : holder < made
   pub live : ¬ IsOn holder done
@@ -186,6 +196,7 @@ IsAtHome (Away q) = Unit {0}
 IsAtHome (Asking q k) = Unit {0}
 IsAtHome _ = ⊥
 
+-- What seats know, and that it is true.
 module _ {E C R : Type 0} where
   -- who told
   abbrev pub clients_of : List (Closed E C R) → List ℕ
@@ -197,7 +208,8 @@ module _ {E C R : Type 0} where
   IsAmong c (x ∷ xs) = (c ≡ x) ⊎ IsAmong c xs
 
   -- what a client's seat knows of its own client
-  pub record Tells (made : ℕ) (done : List ℕ) (seat : ℕ → ℕ) (lock j r : ℕ) (v : Work E C R) (t : Client E C R) : Type 0 where
+  pub record Tells (made : ℕ) (done : List ℕ) (seat : ℕ → ℕ) (lock j r : ℕ) (v : Work E C R)
+      (t : Client E C R) : Type 0 where
     pub made_it : r < made
     pub live : ¬ IsOn r done
     pub seat_is : seat r ≡ j
@@ -220,7 +232,8 @@ module _ {E C R : Type 0} where
     pub serving : v.serving ≡ d.serving
 
   -- what a client told when its seat was merged into the seat j is true
-  pub record IsTold (made : ℕ) (seat : ℕ → ℕ) (truth : ℕ → Client E C R) (d : Desk E C) (j : ℕ) (c : Closed E C R) : Type 0 where
+  pub record IsTold (made : ℕ) (seat : ℕ → ℕ) (truth : ℕ → Client E C R) (d : Desk E C) (j : ℕ)
+      (c : Closed E C R) : Type 0 where
     pub made_it : c.client < made
     pub seat_is : seat c.client ≡ j
     pub client : IsClient c.client c.stage
@@ -233,19 +246,22 @@ module _ {E C R : Type 0} where
     pub met : (r : ℕ) → IsOn r c.met → (r < made) × (1 ≤ (truth r).begun)
 
   -- a seat of no client knows what the clients told whose seats it took in
-  pub record Closes (made : ℕ) (done : List ℕ) (seat : ℕ → ℕ) (truth : ℕ → Client E C R) (d : Desk E C) (j : ℕ) (closed : List (Closed E C R)) : Type 0 where
+  pub record Closes (made : ℕ) (done : List ℕ) (seat : ℕ → ℕ) (truth : ℕ → Client E C R) (d : Desk E C) (j : ℕ)
+      (closed : List (Closed E C R)) : Type 0 where
     pub distinct : Distinct (clients_of closed)
     pub on : (r : ℕ) → IsOn r (clients_of closed) → IsOn r done
     pub told : (c : Closed E C R) → IsAmong c closed → IsTold made seat truth d j c
 
   -- what a seat knows that isn't a client's: the first one how many seats it made
-  abbrev pub IsNobodys : ℕ → List ℕ → (ℕ → ℕ) → (ℕ → Client E C R) → Desk E C → ℕ → List (Closed E C R) → Stage C → Type 0
+  abbrev pub IsNobodys : ℕ → List ℕ → (ℕ → ℕ) → (ℕ → Client E C R) → Desk E C → ℕ → List (Closed E C R) → Stage C
+      → Type 0
   IsNobodys made done seat truth d j closed Spent = Closes made done seat truth d j closed
   IsNobodys made done seat truth d j closed (Maker k) = (j ≡ 0) × (k ≡ made)
   IsNobodys made done seat truth d j closed _ = Unit {0}
 
   -- what the seat j knows is true
-  pub record Trusts (made : ℕ) (done : List ℕ) (seat : ℕ → ℕ) (truth : ℕ → Client E C R) (lock : ℕ) (d : Desk E C) (j : ℕ) (v : Work E C R) : Type 0 where
+  pub record Trusts (made : ℕ) (done : List ℕ) (seat : ℕ → ℕ) (truth : ℕ → Client E C R) (lock : ℕ) (d : Desk E C)
+      (j : ℕ) (v : Work E C R) : Type 0 where
     pub maker : IsNobodys made done seat truth d j v.closed v.stage
     pub client : (r : ℕ) → IsClient r v.stage → Tells made done seat lock j r v (truth r)
     pub token : (r : ℕ) → v.stage ≡ Token r → (r < made) × (v.posts ≤ (truth r).posts)
@@ -259,9 +275,12 @@ module _ {E C R : Type 0} where
     -- the posts heard of were made
     pub heard : (r k : ℕ) → IsMarked r k v.heard → (r < made) × (k ≤ (truth r).posts)
     -- and where the last is passed, a combiner has dealt with it
-    pub passed : (r k : ℕ) → IsMarked r k v.passed → (r < made) × (k ≤ (truth r).posts) × ((truth r).posts ≡ k → IsDealt (truth r).phase)
+    pub passed : (r k : ℕ) → IsMarked r k v.passed → (r < made) × (k ≤ (truth r).posts)
+        × ((truth r).posts ≡ k → IsDealt (truth r).phase)
 
-module _ {E C R S : Type 0} (history : S → List E) (legal : List E → Type 0) (own : List E → ℕ → List C) (replies : List E → ℕ → List R) (n : ℕ) where
+-- The rule of what is served.
+module _ {E C R S : Type 0} (history : S → List E) (legal : List E → Type 0) (own : List E → ℕ → List C)
+    (replies : List E → ℕ → List R) (n : ℕ) where
   pub record Serves (words : List ℕ) (homes : List (Option (Slot C R S))) (works : List (Work E C R)) : Type 0 where
     -- what is true of each client, and what the combiner knows
     pub truth : ℕ → Client E C R
@@ -276,8 +295,10 @@ module _ {E C R S : Type 0} (history : S → List E) (legal : List E → Type 0)
     pub wide : length words ≡ word_count n
     pub deep : length homes ≡ n + 1
     pub is_legal : legal desk.hist
-    pub lock : IsUnheld history n (slice_index words lock_word) homes desk ⊎ IsHeld made done n (slice_index words lock_word) homes truth
+    pub lock : IsUnheld history n (slice_index words lock_word) homes desk
+        ⊎ IsHeld made done n (slice_index words lock_word) homes truth
     pub taken_below : (r : ℕ) → IsTaken r desk.serving → r < n
     pub unmade_are : (r : ℕ) → made ≤ r → truth r ≡ unmade
     pub each_client : (r : ℕ) → r < n → HasRecord own replies words homes desk r (truth r)
-    pub each_seat : (j : ℕ) (v : Work E C R) → get_elem? works j ≡ some v → Trusts made done seat truth (slice_index words lock_word) desk j v
+    pub each_seat : (j : ℕ) (v : Work E C R) → get_elem? works j ≡ some v
+        → Trusts made done seat truth (slice_index words lock_word) desk j v

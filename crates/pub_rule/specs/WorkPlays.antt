@@ -14,6 +14,7 @@ module _ {E C R : Type 0} where
   replying (Parked q c) r h w = paying r w
   replying _ r h w = entering r h w
 
-  abbrev pub reply_put : {S : Type 0} → (S → List E) → Serving C → Step (Slot C R S) → Me (Slot C R S) (View (Work E C R)) → ℕ → Me (Slot C R S) (View (Work E C R)) → Type 0
+  abbrev pub reply_put : {S : Type 0} → (S → List E) → Serving C → Step (Slot C R S)
+      → Me (Slot C R S) (View (Work E C R)) → ℕ → Me (Slot C R S) (View (Work E C R)) → Type 0
   reply_put history (Parked q c) st m k m' = reply_handed st m k m'
   reply_put history _ st m k m' = call_answered st m k m' history

@@ -31,6 +31,7 @@ abbrev pub is_marked : ℕ → ℕ → List (ℕ × ℕ) → Bool
 is_marked r k [] = false
 is_marked r k (x ∷ xs) = (r == x.0 && k == x.1) || is_marked r k xs
 
+-- What the seats know after a split or a merge.
 module _ {E C R : Type 0} where
   -- nothing is known but whose seat it is, and the history at the start
   abbrev pub starting : Stage C → List E → Work E C R
@@ -47,7 +48,8 @@ module _ {E C R : Type 0} where
   abbrev pub new_client : Work E C R → Work E C R
   new_client v = starting (Away (seats_of v.stage)) v.seen
 
-  -- split: a client tells the history that it saw, the number of its posts, and the posts that a combiner is known to have dealt with
+  -- split: a client tells the history that it saw, the number of its posts, and the posts that a combiner is known to
+  -- have dealt with
   abbrev pub telling : Work E C R → Work E C R
   telling v = record (blank_work (Token (owner_of v.stage))) { seen = v.seen; posts = v.posts; passed = v.passed }
 
@@ -79,19 +81,27 @@ module _ {E C R : Type 0} where
   abbrev pub view_spent : View (Work E C R)
   view_spent = record { walk = spent; work = spent_work }
 
-module _ {E C R S : Type 0} (history : S → List E) (legal : List E → Type 0) (own : List E → ℕ → List C) (replies : List E → ℕ → List R) (n : ℕ) where
+-- The start, and the laws of the splits and the merges.
+module _ {E C R S : Type 0} (history : S → List E) (legal : List E → Type 0) (own : List E → ℕ → List C)
+    (replies : List E → ℕ → List R) (n : ℕ) where
   -- the table at the start: nobody has joined, no client has a seat, and nobody's call is in the state's history
   abbrev pub Opens : Type 0
-  Opens = (state : S) → legal (history state) → ((r : ℕ) → own (history state) r ≡ []) → Ruled n (Serves history legal own replies n) (opening (replicate (word_count n) 0) (slots_of n state) (opening_view (opening_work (history state))))
+  Opens = (state : S) → legal (history state) → ((r : ℕ) → own (history state) r ≡ [])
+      → Ruled n (Serves history legal own replies n)
+      (opening (replicate (word_count n) 0) (slots_of n state) (opening_view (opening_work (history state))))
 
   -- the first seat, which has made those of the clients below k, makes that of client k
   abbrev pub KeptByClientSplit : Type 0
-  KeptByClientSplit = (id k : ℕ) (v : View (Work E C R)) → v.walk.role ≡ roles.Maker k → v.work.stage ≡ Maker k → k < n → Splits (Ruled n (Serves history legal own replies n)) id v (maker_after v) (client_made v)
+  KeptByClientSplit = (id k : ℕ) (v : View (Work E C R)) → v.walk.role ≡ roles.Maker k → v.work.stage ≡ Maker k → k < n
+      → Splits (Ruled n (Serves history legal own replies n)) id v (maker_after v) (client_made v)
 
   -- a client that joined makes a token, and knows what it knew
   abbrev pub KeptByTokenSplit : Type 0
-  KeptByTokenSplit = (id r : ℕ) (v : View (Work E C R)) → v.walk.role ≡ roles.Joined r → IsClient r v.work.stage → Splits (Ruled n (Serves history legal own replies n)) id v v (token_made v)
+  KeptByTokenSplit = (id r : ℕ) (v : View (Work E C R)) → v.walk.role ≡ roles.Joined r → IsClient r v.work.stage
+      → Splits (Ruled n (Serves history legal own replies n)) id v v (token_made v)
 
   -- a client takes in what a token tells
   abbrev pub KeptByTokenMerge : Type 0
-  KeptByTokenMerge = (id q other r : ℕ) (v w : View (Work E C R)) → IsClient q v.work.stage → w.walk.role ≡ roles.Token → w.work.stage ≡ Token r → Joins (Ruled n (Serves history legal own replies n)) id v other w (view_taught v w) view_spent
+  KeptByTokenMerge = (id q other r : ℕ) (v w : View (Work E C R)) → IsClient q v.work.stage → w.walk.role ≡ roles.Token
+      → w.work.stage ≡ Token r
+      → Joins (Ruled n (Serves history legal own replies n)) id v other w (view_taught v w) view_spent

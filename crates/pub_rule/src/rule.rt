@@ -28,9 +28,8 @@ pub trait Half<T, W, H> {
 }
 
 /// The rule of a publication list beside the half `P`; its key is the number of clients, and what the half
-/// knows at the start. From the head word
-/// the next words give a list of distinct clients, exactly those that joined (flat combining: Hendler, Incze,
-/// Shavit, Tzafrir 2010).
+/// knows at the start. From the head word the next words give a list of distinct clients, exactly those that
+/// joined (flat combining: Hendler, Incze, Shavit, Tzafrir 2010).
 pub struct Listed<P> {
     half: PhantomData<P>,
 }
