@@ -25,11 +25,14 @@ reply_in _ = None
 
 -- it collected, and this is the reply
 abbrev pub IsTold : ℕ → Knowledge → Knowledge → Option ℕ → Type 0
-IsTold client v w told = (a : Result (Answer ℕ) WordState) × IsCollected (λ h. total h < 2 ^ 64) own replies client v w a × (told ≡ reply_in a)
+IsTold client v w told = (a : Result (Answer ℕ) WordState)
+    × IsCollected (λ h. total h < 2 ^ 64) own replies client v w a × (told ≡ reply_in a)
 
 -- its call and this reply stand behind those that it had, and all of them in the legal history that it sees
 abbrev pub HasReply : ℕ → ℕ → ℕ → Knowledge → Knowledge → Type 0
-HasReply client amount sum v w = (w.work.entered ≡ v.work.entered ++ amount ∷ []) × (w.work.got ≡ v.work.got ++ sum ∷ []) × (own w.work.seen client ≡ w.work.entered) × (replies w.work.seen client ≡ w.work.got) × (total w.work.seen < 2 ^ 64)
+HasReply client amount sum v w = (w.work.entered ≡ v.work.entered ++ amount ∷ [])
+    × (w.work.got ≡ v.work.got ++ sum ∷ []) × (own w.work.seen client ≡ w.work.entered)
+    × (replies w.work.seen client ≡ w.work.got) × (total w.work.seen < 2 ^ 64)
 
 -- it asks nothing, and doesn't combine
 abbrev pub IsResting : ℕ → Knowledge → Type 0

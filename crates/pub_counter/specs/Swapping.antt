@@ -10,4 +10,5 @@ turns_of state = state.turns.items
 
 -- another client waits, with this amount
 abbrev pub HasPartner : ℕ → ℕ → ℕ → ℕ → Swap → Type 0
-HasPartner n client partner other state = (partner < n) × (partner ≢ client) × (alone state.turns.items ≡ Some (partner, other))
+HasPartner n client partner other state = (partner < n) × (partner ≢ client)
+    × (alone state.turns.items ≡ Some (partner, other))

@@ -20,10 +20,15 @@ module _ {E C R : Type 0} where
   abbrev pub IsPosted : ℕ → C → View (Work E C R) → View (Work E C R) → Type 0
   IsPosted client call v w = w ≡ with_work (asking client call v.work) v
 
-  -- It collected: the history that it sees now goes on from the one that it saw, and has its call and the reply behind those before, or neither where the call was refused for memory. Or its word said something else
-  abbrev pub IsCollected : (List E → Type 0) → (List E → ℕ → List C) → (List E → ℕ → List R) → ℕ → View (Work E C R) → View (Work E C R) → Result (Answer R) WordState → Type 0
-  IsCollected legal own replies client v w (Ok (Reply x)) = (c : C) × (h : List E) × (v.work.stage ≡ stages.Asking client c) × GoesOn v.work.seen h × legal h
-      × (own h client ≡ v.work.entered ++ c ∷ []) × (replies h client ≡ v.work.got ++ x ∷ []) × (w ≡ with_work (answered client c x h v.work) v)
-  IsCollected legal own replies client v w (Ok Memory) = (c : C) × (h : List E) × (v.work.stage ≡ stages.Asking client c) × GoesOn v.work.seen h × legal h
+  -- It collected: the history that it sees now goes on from the one that it saw, and has its call and the reply behind
+  -- those before, or neither where the call was refused for memory. Or its word said something else
+  abbrev pub IsCollected : (List E → Type 0) → (List E → ℕ → List C) → (List E → ℕ → List R) → ℕ → View (Work E C R)
+      → View (Work E C R) → Result (Answer R) WordState → Type 0
+  IsCollected legal own replies client v w (Ok (Reply x)) = (c : C) × (h : List E)
+      × (v.work.stage ≡ stages.Asking client c) × GoesOn v.work.seen h × legal h
+      × (own h client ≡ v.work.entered ++ c ∷ []) × (replies h client ≡ v.work.got ++ x ∷ [])
+      × (w ≡ with_work (answered client c x h v.work) v)
+  IsCollected legal own replies client v w (Ok Memory) = (c : C) × (h : List E)
+      × (v.work.stage ≡ stages.Asking client c) × GoesOn v.work.seen h × legal h
       × (own h client ≡ v.work.entered) × (replies h client ≡ v.work.got) × (w ≡ with_work (refused client h v.work) v)
   IsCollected legal own replies client v w (Err s) = IsLooked legal own replies client v w s × (s ≢ Answered)

@@ -8,6 +8,7 @@ use Rattle.pub_list.specs.declared.joined.Joined.{Joined}
 use Rattle.pub_list.specs.declared.lists.List.{List as Listing}
 use Rattle.pub_list.specs.Joined as seats
 
+-- What a client knows, and how it is left by a call.
 module _ {S E C R : Type 0} {g : Ghosts S E C R} where
   -- what it knows
   abbrev pub view : Joined S E C R g → View (Work E C R)
@@ -49,7 +50,8 @@ module _ {S E C R : Type 0} {g : Ghosts S E C R} where
   abbrev pub IsStill : Joined S E C R g → Joined S E C R g → Type 0
   IsStill old new = (new.client ≡ old.client) × seats.IsStill old.seat new.seat
 
-  -- the whole list was loaded: it has the client itself and all of whom it was told, and ends with the list as it was loaded before
+  -- the whole list was loaded: it has the client itself and all of whom it was told, and ends with the list as it was
+  -- loaded before
   abbrev pub SeesAll : Joined S E C R g → Joined S E C R g → Type 0
   SeesAll old new = seats.SeesAll old.client old.seat new.seat
 

@@ -14,6 +14,7 @@ use Rattle.pub_list.specs.declared.closing.End.{End}
 use Rattle.pub_list.specs.declared.closing.End.TheVariants as ends
 use Rattle.pub_list.specs.Lists.{IsSized}
 
+-- The seat that closes the list.
 module _ {T E C R : Type 0} where
   -- what the clients told, the last first
   abbrev pub told_at_close : Seat T (View (Work E C R)) → List (Closed E C R)
@@ -28,6 +29,7 @@ abbrev pub at_home : {C : Type 0} → Stage C → Stage C
 at_home (Free q) = Away q
 at_home s = s
 
+-- What the clients told as they were handed in.
 module _ {E C R : Type 0} where
   -- what a client tells, with its slot at home
   abbrev pub last_words : Work E C R → Closed E C R

@@ -1,5 +1,6 @@
 -- A client that has joined.
-use Rattle.std.specs.Prelude.{◌≡◌, ℕ, Bool, true, false, ◌+◌, ◌-◌, ◌<◌, ◌==◌, ◌||◌, List, [], ◌∷◌, Option, Some, None, if◌then◌else◌}
+use Rattle.std.specs.Prelude.{◌≡◌, ℕ, Bool, true, false, ◌+◌, ◌-◌, ◌<◌, ◌==◌, ◌||◌, List, [], ◌∷◌, Option, Some, None}
+use Rattle.std.specs.Prelude.{if◌then◌else◌}
 use Rattle.atomic_table.specs.declared.shared.Seat.{Seat}
 use Rattle.pub_rule.specs.declared.walk.View.{View}
 use Rattle.pub_rule.specs.declared.walk.Role.TheVariants as roles
@@ -23,6 +24,7 @@ abbrev pub is_on : ℕ → List ℕ → Bool
 is_on c [] = false
 is_on c (x ∷ xs) = (c == x) || is_on c xs
 
+-- What the seat of a client knows of the list, by its names in contracts.
 module _ {T W : Type 0} where
   -- the list as a client loaded it last, its head first
   abbrev pub seen : Seat T (View W) → List ℕ
@@ -42,11 +44,14 @@ module _ {T W : Type 0} where
 
   -- the same list serves the seat, it was told of the same clients, and it knows the same of what is served
   abbrev pub IsStill : Seat T (View W) → Seat T (View W) → Type 0
-  IsStill old new = (new.table_id ≡ old.table_id) × (told new ≡ told old) × (tries new ≡ tries old) × (work new ≡ work old)
+  IsStill old new = (new.table_id ≡ old.table_id) × (told new ≡ told old) × (tries new ≡ tries old)
+      × (work new ≡ work old)
 
-  -- the whole list was loaded: it has the client itself and all of whom it was told, and ends with the list as it was loaded before
+  -- the whole list was loaded: it has the client itself and all of whom it was told, and ends with the list as it was
+  -- loaded before
   abbrev pub SeesAll : ℕ → Seat T (View W) → Seat T (View W) → Type 0
-  SeesAll client old new = IsOn client (seen new) × ((c : ℕ) → IsOn c (told old) → IsOn c (seen new)) × EndsWith (seen new) (seen old)
+  SeesAll client old new = IsOn client (seen new) × ((c : ℕ) → IsOn c (told old) → IsOn c (seen new))
+      × EndsWith (seen new) (seen old)
 
   -- client c was on the list as it was loaded before, which stays; or more of the list is seen, from c on
   abbrev pub SeesFrom : ℕ → Seat T (View W) → Seat T (View W) → Type 0
@@ -58,6 +63,7 @@ is_live (Free q) = true
 is_live (Asking q c) = true
 is_live _ = false
 
+-- The slots in the hands of a client, by how far it is.
 module _ {C R S : Type 0} where
   -- a client that asks nothing has its own slot in its hands
   abbrev pub own_slot : Stage C → List (ℕ × Slot C R S)
@@ -75,6 +81,7 @@ module _ {C R S : Type 0} where
   with_taken (Posted r c) others = (r, slots.Empty) ∷ others
   with_taken (Parked r c) others = (r, slots.Empty) ∷ others
 
+-- What is true of each client that has joined.
 module _ {E C R S : Type 0} where
   -- a client that has joined, of a list of n, with what it knows of what is served and the slots in its hands
   pub record IsWorking (client n : ℕ) (w : Work E C R) (hands : List (ℕ × Slot C R S)) : Type 0 where

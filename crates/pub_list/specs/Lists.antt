@@ -10,7 +10,8 @@ use Rattle.pub_rule.specs.Words.{word_count}
 
 -- a table for so many clients
 abbrev pub IsSized : TableId → ℕ → ℕ → Type 0
-IsSized z key clients = (z.words ≡ word_count clients) × (z.slots ≡ clients + 1) × (key ≡ clients) × (1 ≤ clients) × (clients ≤ 64)
+IsSized z key clients = (z.words ≡ word_count clients) × (z.slots ≡ clients + 1) × (key ≡ clients) × (1 ≤ clients)
+    × (clients ≤ 64)
 
 -- the first seat, which has made those of the clients below k
 abbrev pub IsMaker : {T E C R : Type 0} → ℕ → Seat T (View (Work E C R)) → Type 0

@@ -7,13 +7,16 @@ use Rattle.pub_rule.specs.Work.{GoesOn, IsMarked}
 use Rattle.pub_rule.specs.WorkSteps.{marks_of, is_own}
 use Rattle.pub_list.specs.Combining.{IsCombining, OwesNothing}
 
+-- What of its own a combiner keeps or learns in a pass.
 module _ {E C R : Type 0} where
-  -- it is as far as it was with its own call, and has the calls and replies that it had; the history that it sees goes on
+  -- it is as far as it was with its own call, and has the calls and replies that it had; the history that it sees goes
+  -- on
   abbrev pub IsAsFar : View (Work E C R) → View (Work E C R) → Type 0
   IsAsFar v w = (w.work.stage ≡ v.work.stage) × (w.work.posts ≡ v.work.posts) × (w.work.entered ≡ v.work.entered)
       × (w.work.got ≡ v.work.got) × GoesOn v.work.seen w.work.seen
 
-  -- it dealt with the last post of this client, be it one that it heard of, or its own; all else that it marks, and what it knows of the list, stays
+  -- it dealt with the last post of this client, be it one that it heard of, or its own; all else that it marks, and
+  -- what it knows of the list, stays
   abbrev pub HasDealt : ℕ → View (Work E C R) → View (Work E C R) → Type 0
   HasDealt client v w = (w.work.passed ≡ marks_of client v.work.heard ++ v.work.passed)
       × (w.work.past ≡ (if is_own client v.work.stage then true else v.work.past))
@@ -24,22 +27,26 @@ module _ {E C R : Type 0} where
   KeepsMarks v w = (w.work.heard ≡ v.work.heard) × ((r k : ℕ) → IsMarked r k v.work.passed → IsMarked r k w.work.passed)
       × (v.work.past ≡ true → w.work.past ≡ true)
 
-  -- it passed: it began to combine once more, met nobody, and dealt with each post that it had heard of, and with its own call
+  -- it passed: it began to combine once more, met nobody, and dealt with each post that it had heard of, and with its
+  -- own call
   abbrev pub HasPassed : ℕ → View (Work E C R) → View (Work E C R) → Type 0
   HasPassed client v w = (w.work.begun ≡ v.work.begun + 1) × (w.work.met ≡ v.work.met)
       × ((r k : ℕ) → IsMarked r k v.work.heard → IsMarked r k w.work.passed)
       × (is_own client v.work.stage ≡ true → w.work.past ≡ true)
 
+-- How it stands to the state between two records, and as a call is served.
 module _ {E C R S : Type 0} (history : S → List E) (legal : List E → Type 0) (replies : List E → ℕ → List R) where
   -- it combines over this state, whose history is legal, has taken no record, and owes nobody a reply
   abbrev pub IsServing : ℕ → View (Work E C R) → S → Type 0
   IsServing n v state = IsCombining v × (history state ≡ v.work.seen) × OwesNothing replies n v × legal v.work.seen
 
-  -- it has taken the record of a client that posted this call, each of whose calls before has its reply, and owes nobody a reply
+  -- it has taken the record of a client that posted this call, each of whose calls before has its reply, and owes
+  -- nobody a reply
   abbrev pub HasTaken : (List E → ℕ → List C) → (ℕ → List E → Type 0) → ℕ → ℕ → C → View (Work E C R) → S → Type 0
   HasTaken own admits n client call v state = (v.work.holds ≡ true) × (v.work.serving ≡ Posted client call)
       × (history state ≡ v.work.seen) × OwesNothing replies n v
-      × (length (own v.work.seen client) ≡ length (replies v.work.seen client)) × admits n v.work.seen × (client < n) × legal v.work.seen
+      × (length (own v.work.seen client) ≡ length (replies v.work.seen client)) × admits n v.work.seen × (client < n)
+      × legal v.work.seen
 
 -- what may be known of a history of n clients stays true as it goes on
 abbrev pub Stays : {E : Type 0} → (ℕ → List E → Type 0) → Type 0
