@@ -54,7 +54,8 @@ module _ {E C R S : Type 0} (history : S → List E) (legal : List E → Type 0)
         wide = length-set words i x ∙ s.wide;
         deep = s.deep;
         is_legal = s.is_legal;
-        lock = subst (λ (l : ℕ). IsUnheld history n l homes s.desk ⊎ IsHeld s.made s.done n l homes s.truth) still s.lock;
+        lock = subst (λ (l : ℕ). IsUnheld history n l homes s.desk ⊎ IsHeld s.made s.done n l homes s.truth)
+            still s.lock;
         taken_below = s.taken_below;
         unmade_are = s.unmade_are;
         each_client = λ r l. let c = s.each_client r l in record {
@@ -62,7 +63,8 @@ module _ {E C R S : Type 0} (history : S → List E) (legal : List E → Type 0)
           home = c.home;
           phase = c.phase;
         };
-        each_seat = λ j v e. subst (λ (l : ℕ). Trusts s.made s.done s.seat s.truth l s.desk j v) still (s.each_seat j v e);
+        each_seat = λ j v e. subst (λ (l : ℕ). Trusts s.made s.done s.seat s.truth l s.desk j v)
+            still (s.each_seat j v e);
       }
 
   pub deep : IsDeep n (Serves history legal own replies n)
