@@ -3,16 +3,21 @@
 //! which is the same on every run with as many calls.
 #![tactic(auto)]
 
+mod asking;
 mod combining;
 mod keys;
+mod locked;
 mod measuring;
 mod messages;
+mod service;
 mod slots;
 mod spaces;
 mod waiting;
 
+use asking::Task;
 use measuring::{Pair, Run};
 use std::process::ExitCode;
+use std::sync::Wait;
 use std::thread::Threads;
 use std::{env, io};
 
@@ -30,6 +35,9 @@ const WAITING: [u32; 3] = [1, 16, 63];
 
 /// How many clients joined a list.
 const CLIENTS: [u32; 3] = [1, 8, 64];
+
+/// How many clients ask at once.
+const ASKING: [u32; 5] = [1, 2, 4, 16, 64];
 
 /// How many threads post calls.
 const THREADS: [u32; 3] = [2, 8, 64];
@@ -55,9 +63,13 @@ enum Operation {
     Alone,
     OneOf,
     InThreads,
+    OfSpace(Task),
+    OfService(Task),
+    OfMutex(Task),
+    AmongIdle,
 }
 
-const OPERATIONS: [Operation; 15] = [
+const OPERATIONS: [Operation; 25] = [
     Operation::Find,
     Operation::UnbindAndBind,
     Operation::Get,
@@ -73,6 +85,16 @@ const OPERATIONS: [Operation; 15] = [
     Operation::Alone,
     Operation::OneOf,
     Operation::InThreads,
+    Operation::OfSpace(Task::Get),
+    Operation::OfService(Task::Get),
+    Operation::OfMutex(Task::Get),
+    Operation::OfSpace(Task::Message),
+    Operation::OfService(Task::Message),
+    Operation::OfMutex(Task::Message),
+    Operation::OfSpace(Task::Denied),
+    Operation::OfService(Task::Denied),
+    Operation::OfMutex(Task::Denied),
+    Operation::AmongIdle,
 ];
 
 /// A measurement of one call.
@@ -113,6 +135,22 @@ impl Operation {
             Operation::Alone => &["post to collect"],
             Operation::OneOf => &["post to collect, with a walk"],
             Operation::InThreads => &["post to collect, in threads"],
+            Operation::OfSpace(task) => match task {
+                Task::Get => &["Space, msgget of a key"],
+                Task::Message => &["Space, msgsnd or msgrcv"],
+                Task::Denied => &["Space, a denied msgrcv"],
+            },
+            Operation::OfService(task) => match task {
+                Task::Get => &["service, msgget of a key"],
+                Task::Message => &["service, msgsnd or msgrcv"],
+                Task::Denied => &["service, a denied msgrcv"],
+            },
+            Operation::OfMutex(task) => match task {
+                Task::Get => &["Mutex, msgget of a key"],
+                Task::Message => &["Mutex, msgsnd or msgrcv"],
+                Task::Denied => &["Mutex, a denied msgrcv"],
+            },
+            Operation::AmongIdle => &["service, the others idle"],
         }
     }
 
@@ -122,9 +160,11 @@ impl Operation {
             Operation::SendAndReceive | Operation::PassToAReceiver => &BYTES,
             Operation::ReceiveLast => &MESSAGES,
             Operation::WhileOthersWait => &WAITING,
-            Operation::Readings | Operation::EachStep | Operation::Alone => &[1],
-            Operation::OneOf => &CLIENTS,
+            Operation::Readings | Operation::EachStep | Operation::Alone | Operation::OfSpace(_) =>
+                &[1],
+            Operation::OneOf | Operation::AmongIdle => &CLIENTS,
             Operation::InThreads => &THREADS,
+            Operation::OfService(_) | Operation::OfMutex(_) => &ASKING,
             _ => &OBJECTS,
         }
     }
@@ -135,16 +175,21 @@ impl Operation {
             Operation::SendAndReceive | Operation::PassToAReceiver => "bytes",
             Operation::ReceiveLast => "messages",
             Operation::WhileOthersWait => "waiting",
-            Operation::Readings | Operation::EachStep | Operation::Alone | Operation::OneOf => {
-                "clients"
-            }
+            Operation::Readings
+            | Operation::EachStep
+            | Operation::Alone
+            | Operation::OneOf
+            | Operation::OfSpace(_)
+            | Operation::OfService(_)
+            | Operation::OfMutex(_)
+            | Operation::AmongIdle => "clients",
             Operation::InThreads => "threads",
             _ => "objects",
         }
     }
 
     /// One measurement of so many calls at a size: what each call took that has a name.
-    fn run<W: Threads + Sync>(
+    fn run<W: Threads + Wait + Sync>(
         self,
         rt: &HostRuntime,
         workers: &W,
@@ -167,12 +212,21 @@ impl Operation {
             Operation::Alone => alone(rt, combining::alone(rt, calls)?),
             Operation::OneOf => alone(rt, combining::one_of(rt, size, calls)?),
             Operation::InThreads => alone(rt, combining::in_threads(rt, workers, size, calls)?),
+            Operation::OfSpace(task) => alone(rt, locked::of_space(rt, task, calls)?),
+            Operation::OfService(task) => {
+                alone(rt, service::of_service(rt, workers, task, size, calls)?)
+            }
+            Operation::OfMutex(task) => alone(
+                rt,
+                locked::of_mutex(rt, workers, task, size, calls)?,
+            ),
+            Operation::AmongIdle => alone(rt, service::among_idle(rt, workers, size, calls)?),
         }
     }
 }
 
 /// The median runs of an operation at a size, one for each of its names.
-fn medians<W: Threads + Sync>(
+fn medians<W: Threads + Wait + Sync>(
     rt: &HostRuntime,
     workers: &W,
     operation: Operation,
@@ -197,7 +251,7 @@ fn medians<W: Threads + Sync>(
 }
 
 /// The rows of an operation: for each of its names one for each size.
-fn print_rows<W: Threads + Sync>(
+fn print_rows<W: Threads + Wait + Sync>(
     rt: &HostRuntime,
     workers: &W,
     operation: Operation,

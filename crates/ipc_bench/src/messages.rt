@@ -44,16 +44,27 @@ pub fn receive(space: &mut Space, id: u32, msgtyp: i64) -> io::Result<Items<u8>>
     }
 }
 
+/// Sends a text to an empty queue and receives it, so many times: the text at the end.
+fn pass_along(
+    space: &mut Space,
+    id: u32,
+    mut text: Items<u8>,
+    pairs: u32,
+) -> io::Result<Items<u8>> {
+    for _ in 0..pairs {
+        send(space, id, LAST, text)?;
+        text = receive(space, id, LAST)?;
+    }
+    Ok(text)
+}
+
 /// Sends a text of so many bytes and receives it, so many times, in a namespace of its own.
 fn add_pairs(rt: &HostRuntime, run: &mut Run, bytes: u32, pairs: u32) -> io::Result<()> {
     let mut space = opened(rt, 1)?;
     let id = msgget(&mut space, 0, 0o600)?;
-    let mut text = Items::new(vec![in rt.alloc(); 97u8; bytes as usize]?);
+    let text = Items::new(vec![in rt.alloc(); 97u8; bytes as usize]?);
     let start = Instant::now(rt)?;
-    for _ in 0..pairs {
-        send(&mut space, id, LAST, text)?;
-        text = receive(&mut space, id, LAST)?;
-    }
+    let text = pass_along(&mut space, id, text, pairs)?;
     run.add_time(rt, start)?;
     run.add_answer(u32::try_from(text.len()).unwrap_or(u32::MAX));
     Ok(())
@@ -79,25 +90,43 @@ fn filled_queue(rt: &HostRuntime, space: &mut Space, messages: u32) -> io::Resul
     Ok(id)
 }
 
+/// A batch of queues, each with so many messages.
+fn filled_queues(rt: &HostRuntime, space: &mut Space, messages: u32) -> io::Result<Vec<u32>> {
+    let mut ids = Vec::new(rt.alloc());
+    for _ in 0..BATCH {
+        ids.push(filled_queue(rt, space, messages)?)?;
+    }
+    Ok(ids)
+}
+
+/// Receives the last message of each queue.
+fn receive_from_each(space: &mut Space, ids: &[u32]) -> io::Result<()> {
+    for id in ids {
+        receive(space, *id, LAST)?;
+    }
+    Ok(())
+}
+
+/// Sends it to each queue again.
+fn send_to_each(rt: &HostRuntime, space: &mut Space, run: &mut Run, ids: &[u32]) -> io::Result<()> {
+    for id in ids {
+        send(space, *id, LAST, Items::new(Vec::new(rt.alloc())))?;
+        run.add_answer(*id);
+    }
+    Ok(())
+}
+
 /// Receives the last of so many messages, which alone has the type that is asked for, from each queue of a
 /// batch, and sends it again.
 pub fn receive_last(rt: &HostRuntime, messages: u32, calls: u32) -> io::Result<Run> {
     let mut space = opened(rt, 1)?;
-    let mut ids: Vec<u32> = Vec::new(rt.alloc());
-    for _ in 0..BATCH {
-        ids.push(filled_queue(rt, &mut space, messages)?)?;
-    }
+    let ids = filled_queues(rt, &mut space, messages)?;
     let mut run = Run::new(calls / BATCH * BATCH);
     for _ in 0..calls / BATCH {
         let start = Instant::now(rt)?;
-        for id in ids.iter() {
-            receive(&mut space, *id, LAST)?;
-        }
+        receive_from_each(&mut space, ids.as_slice())?;
         run.add_time(rt, start)?;
-        for id in ids.iter() {
-            send(&mut space, *id, LAST, Items::new(Vec::new(rt.alloc())))?;
-            run.add_answer(*id);
-        }
+        send_to_each(rt, &mut space, &mut run, ids.as_slice())?;
     }
     Ok(run)
 }

@@ -1,28 +1,41 @@
 // Measurements of a whole namespace.
 
+ghost use Rattle.std.specs.Prelude.{IsTrue};
+ghost use Rattle.ipc_call.specs.Limits.{are_in_range};
+
 use crate::measuring::{Numbers, Run, key_of};
 use bitflags::Flags;
 use ipc_call::{Answer, Call, IPC_CREAT, Limit, Limits, Reply};
 use ipc_creds::{Caps, Creds};
 use ipc_space::{Effects, Space};
+use std::alloc::AllocError;
 use std::io;
 use std::time::Instant;
 
-/// A namespace of so many clients of one user, 1 to 64, with as many slots as there may be.
-pub fn opened(rt: &HostRuntime, clients: u32) -> io::Result<Space> {
+/// The default limits, but for as many slots as there may be.
+pub fn limits() -> Limits
+    ensures { IsTrue (are_in_range result) }
+{
+    Limits::default().with_limit(Limit::Slots, Limit::Slots.most())
+}
+
+/// So many clients of one user.
+pub fn users(rt: &HostRuntime, clients: u32) -> Result<Vec<Creds>, AllocError> {
     let alloc = rt.alloc();
-    let limits = Limits {
-        slots: Limit::Slots.most(),
-        ..Limits::default()
-    };
     let mut all = Vec::new(alloc);
     for _ in 0..clients {
         all.push(Creds::new(100, 10, Vec::new(alloc), Caps::empty()))?;
     }
+    Ok(all)
+}
+
+/// A namespace of so many clients of one user, 1 to 64, with as many slots as there may be.
+pub fn opened(rt: &HostRuntime, clients: u32) -> io::Result<Space> {
+    let all = users(rt, clients)?;
     if all.is_empty() || all.len() > 64 {
         return Err(io::Error::from(io::ErrorKind::InvalidInput));
     }
-    Ok(Space::start(limits, all)?)
+    Ok(Space::start(limits(), all)?)
 }
 
 /// What a call of a client tells, None where there is no such client or it waits.

@@ -1,0 +1,119 @@
+// Measurements of a namespace alone, and of a mutex round one, beside those of the service.
+
+use crate::asking::{Asker, Task};
+use crate::measuring::Run;
+use crate::spaces::opened;
+use ipc_call::{Call, Reply};
+use ipc_space::{Effects, Space};
+use std::alloc::AllocError;
+use std::sync::{Mutex, Wait};
+use std::thread::Threads;
+use std::time::Instant;
+use std::{io, thread};
+
+/// A client by its number, and its calls.
+#[derive(Debug, Drop)]
+struct Worker {
+    client: u32,
+    asker: Asker,
+}
+
+/// One call of a client: its reply, none where it waits.
+fn call(space: &mut Space, client: u32, asked: Call) -> Option<Reply> {
+    if client >= space.clients() || space.is_waiting(client) {
+        return None;
+    }
+    match space.apply(client, 0, asked) {
+        Ok(Effects { own, .. }) => own,
+        Err(_) => None,
+    }
+}
+
+/// Each of so many clients makes its queue.
+fn begun(rt: &HostRuntime, space: &mut Space, task: Task, clients: u32) -> io::Result<Vec<Worker>> {
+    let mut workers = Vec::new(rt.alloc());
+    for client in 0..clients {
+        let mut asker = Asker::new(rt.alloc(), task)?;
+        if let Some(reply) = call(space, client, asker.first()) {
+            asker.begin(reply);
+        }
+        workers.push(Worker { client, asker })?;
+    }
+    Ok(workers)
+}
+
+/// So many calls of a client, with no lock: how many were answered as they should.
+fn ask_alone(space: &mut Space, mut asker: Asker, calls: u32) -> u32 {
+    let mut answered: u32 = 0;
+    for _ in 0..calls {
+        if let Some(reply) = call(space, 0, asker.next()) {
+            answered = answered.wrapping_add(u32::from(asker.take(reply)));
+        }
+    }
+    answered
+}
+
+/// The same, each under the lock.
+fn ask_locked<R: Wait>(rt: &R, space: &Mutex<Space>, worker: Worker, calls: u32) -> u32 {
+    let Worker { client, mut asker } = worker;
+    let mut answered: u32 = 0;
+    for _ in 0..calls {
+        let asked = asker.next();
+        let reply = call(&mut space.lock(rt), client, asked);
+        if let Some(reply) = reply {
+            answered = answered.wrapping_add(u32::from(asker.take(reply)));
+        }
+    }
+    answered
+}
+
+/// Each client makes so many calls under the lock, in a thread of its own: how many of each were answered as
+/// they should.
+fn asked<R: Threads + Wait + Sync>(
+    rt: &R,
+    space: &Mutex<Space>,
+    workers: Vec<Worker>,
+    calls: u32,
+) -> Result<Vec<u32>, AllocError> {
+    thread::map_vec(
+        rt,
+        workers,
+        &|worker: Worker| -> u32 { ask_locked(rt, space, worker, calls) },
+    )
+}
+
+/// One client of a namespace makes so many calls.
+pub fn of_space(rt: &HostRuntime, task: Task, calls: u32) -> io::Result<Run> {
+    let mut space = opened(rt, 1)?;
+    let mut workers = begun(rt, &mut space, task, 1)?;
+    let mut run = Run::new(calls);
+    if let Some(worker) = workers.pop() {
+        let start = Instant::now(rt)?;
+        let answered = ask_alone(&mut space, worker.asker, calls);
+        run.add_time(rt, start)?;
+        run.add_answer(answered);
+    }
+    Ok(run)
+}
+
+/// So many clients of a namespace under a mutex make as many calls together, each in a thread of its own.
+pub fn of_mutex<W: Threads + Wait + Sync>(
+    rt: &HostRuntime,
+    threads: &W,
+    task: Task,
+    clients: u32,
+    calls: u32,
+) -> io::Result<Run> {
+    let each = calls / clients.max(1);
+    let mut space = opened(rt, clients)?;
+    let workers = begun(rt, &mut space, task, clients)?;
+    let locked = Mutex::new(space);
+    let mut run = Run::new(each.saturating_mul(clients));
+    let start = Instant::now(rt)?;
+    let answered = asked(threads, &locked, workers, each)?;
+    run.add_time(rt, start)?;
+    for count in answered {
+        run.add_answer(count);
+    }
+    Ok(run)
+}

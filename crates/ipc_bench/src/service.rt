@@ -1,0 +1,179 @@
+// Measurements of the service, whose clients combine.
+ghost use Rattle.std.specs.Prelude.{All, IfOk, IfSome};
+ghost use Rattle.ipc_bench.specs.Service.{IsClientOf, IsNewOf};
+
+use crate::asking::{Asker, Task};
+use crate::measuring::Run;
+use crate::spaces::{limits, users};
+use crossbeam_utils::Backoff;
+use ipc_call::{Call, Reply};
+use ipc_combiner::{Idle, Pass, Polled, Service, Unjoined};
+use std::alloc::{AllocError, Global};
+use std::thread::Threads;
+use std::time::Instant;
+use std::{io, thread};
+
+/// How often a client looks for the reply to a call before it gives up.
+const TURNS: u64 = 10_000_000;
+
+/// A client of the service, and its calls.
+#[derive(Drop)]
+struct Worker {
+    idle: Idle,
+    asker: Asker,
+}
+
+/// One call of a client of the service: it posts, and serves what there is, or looks again, until the reply is
+/// there. `None` where its turns have run out.
+fn call(service: &Service, idle: Idle, asked: Call) -> Option<(Idle, Reply)>
+    requires { IsClientOf service.now idle }
+    ensures { IfSome result (λ m. IsClientOf service.now m.0) }
+{
+    let mut flight = idle.post(service, 0, asked);
+    let backoff = Backoff::new();
+    for _ in 0..TURNS {
+        match flight.poll(service) {
+            Polled::Done(idle, reply) => return Some((idle, reply)),
+            Polled::Still(still, _) => flight = still,
+        }
+        if let Pass::Busy(_) = flight.combine(service) {
+            backoff.snooze();
+        }
+    }
+    None
+}
+
+/// A client joins, and makes its queue.
+fn begin(service: &Service, unjoined: Unjoined, alloc: Global, task: Task) -> Option<Worker>
+    requires { IsNewOf service.now unjoined }
+    ensures { IfSome result (λ w. IsClientOf service.now w.idle) }
+{
+    let mut asker = Asker::new(alloc, task).ok()?;
+    let (idle, reply) = call(service, unjoined.join(service), asker.first())?;
+    if asker.begin(reply) {
+        Some(Worker { idle, asker })
+    } else {
+        None
+    }
+}
+
+/// So many calls of a client: how many were answered as they should.
+fn ask_often(worker: Worker, service: &Service, calls: u32) -> u32
+    requires { IsClientOf service.now worker.idle }
+{
+    let Worker {
+        mut idle,
+        mut asker,
+    } = worker;
+    let mut answered: u32 = 0;
+    for _ in 0..calls {
+        match call(service, idle, asker.next()) {
+            Some((next, reply)) => {
+                idle = next;
+                answered = answered.wrapping_add(u32::from(asker.take(reply)));
+            }
+            None => return answered,
+        }
+    }
+    answered
+}
+
+/// The same of a client that joined.
+fn ask_if_there(worker: Option<Worker>, service: &Service, calls: u32) -> u32
+    requires { IfSome worker (λ x. IsClientOf service.now x.idle) }
+{
+    match worker {
+        Some(worker) => ask_often(worker, service, calls),
+        None => 0,
+    }
+}
+
+/// Each client joins, in a thread of its own.
+fn begun<R: Threads + Sync>(
+    rt: &R,
+    service: &Service,
+    clients: Vec<Unjoined>,
+    alloc: Global,
+    task: Task,
+) -> Result<Vec<Option<Worker>>, AllocError>
+    requires { All (λ u. IsNewOf service.now u) clients.items }
+    ensures { IfOk result (λ m. All (λ w. IfSome w (λ x. IsClientOf service.now x.idle)) m.items) }
+{
+    thread::map_vec(
+        rt,
+        clients,
+        &|unjoined: Unjoined| -> Option<Worker>
+            requires { IsNewOf service.now unjoined }
+            ensures { IfSome result (λ x. IsClientOf service.entry.now x.idle) }
+        { begin(service, unjoined, alloc, task) },
+    )
+}
+
+/// Each client makes so many calls, in a thread of its own: how many of each were answered as they should.
+fn asked<R: Threads + Sync>(
+    rt: &R,
+    service: &Service,
+    workers: Vec<Option<Worker>>,
+    calls: u32,
+) -> Result<Vec<u32>, AllocError>
+    requires { All (λ w. IfSome w (λ x. IsClientOf service.now x.idle)) workers.items }
+{
+    thread::map_vec(
+        rt,
+        workers,
+        &|worker: Option<Worker>| -> u32
+            requires { IfSome worker (λ x. IsClientOf service.now x.idle) }
+        { ask_if_there(worker, service, calls) },
+    )
+}
+
+/// A service for so many clients, 1 to 64.
+fn started(rt: &HostRuntime, clients: u32) -> io::Result<(Service, Vec<Unjoined>)>
+    ensures { IfOk result (λ m. All (λ u. IsNewOf m.0 u) m.1.items) }
+{
+    let all = users(rt, clients)?;
+    if all.is_empty() || all.len() > 64 {
+        return Err(io::Error::from(io::ErrorKind::InvalidInput));
+    }
+    Ok(Service::start(rt.alloc(), limits(), all)?)
+}
+
+/// So many clients of the service make as many calls together, each in a thread of its own.
+pub fn of_service<W: Threads + Sync>(
+    rt: &HostRuntime,
+    threads: &W,
+    task: Task,
+    clients: u32,
+    calls: u32,
+) -> io::Result<Run> {
+    let each = calls / clients.max(1);
+    let (service, unjoined) = started(rt, clients)?;
+    let workers = begun(threads, &service, unjoined, rt.alloc(), task)?;
+    let mut run = Run::new(each.saturating_mul(clients));
+    let start = Instant::now(rt)?;
+    let answered = asked(threads, &service, workers, each)?;
+    run.add_time(rt, start)?;
+    for count in answered {
+        run.add_answer(count);
+    }
+    Ok(run)
+}
+
+/// One client of so many that joined gets a queue by its key; the others ask nothing.
+pub fn among_idle<W: Threads + Sync>(
+    rt: &HostRuntime,
+    threads: &W,
+    clients: u32,
+    calls: u32,
+) -> io::Result<Run> {
+    let (service, unjoined) = started(rt, clients)?;
+    let mut workers = begun(threads, &service, unjoined, rt.alloc(), Task::Get)?;
+    let mut run = Run::new(calls);
+    if let Some(worker) = workers.pop() {
+        let start = Instant::now(rt)?;
+        let answered = ask_if_there(worker, &service, calls);
+        run.add_time(rt, start)?;
+        run.add_answer(answered);
+    }
+    Ok(run)
+}
