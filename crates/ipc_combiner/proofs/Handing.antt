@@ -1,8 +1,7 @@
 -- One more call of the namespace, and handing out what it tells.
-use Rattle.std.proofs.Common.{◌≡◌, ◌≢◌, ◌⊎◌, ℕ, ◌+◌, ◌≤◌, ◌<◌, false, cond, eqb, List, [], ◌∷◌, ◌++◌, map, length, refl, sym, ap, ◌∙◌, subst, inl, inr, arith, ⊎_elim, Option, Some, None, All, append-nil, length-append, eq-eqb, ne_eqb, if◌then◌else◌, box_value, IfOk, OnOk, Result, Ok, Err}
+use Rattle.std.proofs.Common.{◌≡◌, ◌≢◌, ℕ, ◌+◌, ◌≤◌, ◌<◌, false, cond, eqb, List, [], ◌∷◌, ◌++◌, map, length, refl, sym, ap, ◌∙◌, subst, inl, inr, arith, ⊎_elim, Option, Some, None, All, append-nil, length-append, eq-eqb, ne_eqb, box_value, IfOk, OnOk, Result, Ok, Err}
 use Rattle.std.specs.Prelude.{filter}
 use Rattle.std.proofs.lemmas.List.Elements.{All-head, All-tail}
-use Rattle.std.proofs.lemmas.Option.{none-some}
 use mathlib.Core.Logic.{dite}
 use native.Mathlib.Decide.{ℕ_discrete}
 use Rattle.ipc_call.specs.declared.calls.Call.{Call}
@@ -18,8 +17,7 @@ use Rattle.ipc_space.specs.Telling.{told_to, told_of, replies_in}
 use Rattle.ipc_space.proofs.Balance.{told_once, told_known, replies_push, is_free}
 use Rattle.pub_rule.specs.Lists.{IsOn}
 use Rattle.pub_rule.specs.Work.{GoesOn}
-use Rattle.pub_rule.specs.declared.work.Serving.TheVariants.{Posted}
-use Rattle.pub_rule.specs.WorkSteps.{with_work, refusing, entering, leaving, paying}
+use Rattle.pub_rule.specs.WorkSteps.{with_work, refusing, leaving, paying}
 use Rattle.pub_rule.specs.WorkPlays.{replying}
 use Rattle.pub_list.specs.Combining.{MayAnswer, MayPark, EntersCall}
 use Rattle.pub_list.specs.declared.asking.Answer.TheVariants as answers
@@ -27,7 +25,7 @@ use Rattle.pub_list.specs.Passing.{IsAsFar, HasDealt}
 use Rattle.pub_list.proofs.Marking.{goes_further}
 use Rattle.ipc_combiner.specs.declared.entries.Entry.{Entry}
 use Rattle.ipc_combiner.specs.declared.shared.Shared.{Shared}
-use Rattle.ipc_combiner.specs.Entries.{called, entries_of, history_in, legal, client_of, call_of, own, replies, has_clients}
+use Rattle.ipc_combiner.specs.Entries.{called, entries_of, legal, client_of, call_of, own, replies, has_clients}
 use Rattle.ipc_combiner.specs.Laws.{entries_push, history-entries, is_legal, own_call}
 use Rattle.ipc_combiner.specs.Serving.{Knowledge, Serves, Takes, HasEntered, OwesReply, IsHanding, HasKept, entries_in, told_list}
 

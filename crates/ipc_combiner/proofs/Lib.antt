@@ -1,3 +1,6 @@
+mod Closed
+mod Further
 mod Handing
+mod Learning
 mod Opened
 mod Polling

@@ -1,12 +1,13 @@
 -- What a client's calls tell. It knew v before a call, and knows w after it.
-use Rattle.std.specs.Prelude.{◌≡◌, ◌≢◌, ℕ, ◌<◌, List, [], ◌∷◌, ◌++◌}
+use Rattle.std.specs.Prelude.{◌≡◌, ◌≢◌, ℕ, ◌<◌, ◌≤◌, List, [], ◌∷◌, ◌++◌}
 use Rattle.ipc_call.specs.declared.calls.Call.{Call}
 use Rattle.ipc_call.specs.declared.replies.Reply.{Reply}
 use Rattle.ipc_call.specs.declared.replies.Reply.TheVariants.{Entered, Memory}
 use Rattle.pub_rule.specs.declared.served.Served.{Ghosts}
 use Rattle.pub_rule.specs.declared.work.Work.{Work}
 use Rattle.pub_rule.specs.declared.work.Stage.TheVariants as stages
-use Rattle.pub_rule.specs.Work.{GoesOn}
+use Rattle.pub_rule.specs.Lists.{IsOn}
+use Rattle.pub_rule.specs.Work.{GoesOn, IsMarked}
 use Rattle.pub_rule.specs.WorkSteps.{answered, meeting, refused, seeing}
 use Rattle.pub_list.specs.declared.joined.Joined.{Joined}
 use Rattle.pub_list.specs.declared.records.WordState.{WordState}
@@ -35,6 +36,22 @@ abbrev pub HasDone : ℕ → Work Entry (ℕ × Call) Reply → Work Entry (ℕ 
 HasDone client v w (Entered place turn outcome) = (c : ℕ × Call) × (h : List Entry) × (v.stage ≡ stages.Asking client c) × GoesOn v.seen h × legal h
     × (own h client ≡ v.entered ++ c ∷ []) × (replies h client ≡ v.got ++ Entered place turn outcome ∷ []) × (w ≡ answered client c (Entered place turn outcome) h v)
 HasDone client v w Memory = (h : List Entry) × GoesOn v.seen h × legal h × (own h client ≡ v.entered) × (replies h client ≡ v.got) × (w ≡ refused client h v)
+
+-- It is as far with its own call as it was, sees a history that goes on from the one that it saw, and knows all else that it knew; it may have begun to combine, and met others that do
+pub record IsFurther (v u : Work Entry (ℕ × Call) Reply) : Type 0 where
+  pub stage : u.stage ≡ v.stage
+  pub posts : u.posts ≡ v.posts
+  pub entered : u.entered ≡ v.entered
+  pub got : u.got ≡ v.got
+  pub seen : GoesOn v.seen u.seen
+  pub heard : u.heard ≡ v.heard
+  pub passed : (r k : ℕ) → IsMarked r k v.passed → IsMarked r k u.passed
+  pub begun : v.begun ≤ u.begun
+  pub met : (r : ℕ) → IsOn r v.met → IsOn r u.met
+
+-- Its call, which was in flight when it knew v, has ended, after it got no nearer to it but by what it saw
+abbrev pub HasCalled : ℕ → Work Entry (ℕ × Call) Reply → Work Entry (ℕ × Call) Reply → Reply → Type 0
+HasCalled client v w reply = (u : Work Entry (ℕ × Call) Reply) × IsFurther v u × HasDone client u w reply
 
 -- Its call is in flight, and its word tells this: where it is parked, or isn't answered though a combiner is known to have dealt with it, it waits in the history that is seen
 abbrev pub IsStill : ℕ → Work Entry (ℕ × Call) Reply → Work Entry (ℕ × Call) Reply → Seen → Type 0

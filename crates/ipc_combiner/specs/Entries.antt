@@ -2,9 +2,7 @@
 use Rattle.std.specs.Prelude.{◌≡◌, ℕ, List, [], ◌∷◌, map, length}
 use Rattle.ipc_call.specs.declared.calls.Call.{Call}
 use Rattle.ipc_call.specs.declared.calls.Call.TheVariants.{MsgGet}
-use Rattle.ipc_call.specs.declared.limits.Limits.{Limits}
 use Rattle.ipc_call.specs.declared.replies.Reply.{Reply}
-use Rattle.ipc_creds.specs.Credentials.{Credentials}
 use Rattle.ipc_model.specs.Step.{Event}
 use Rattle.ipc_model.specs.History.{History, IsLegal}
 use Rattle.ipc_model.specs.History as model

@@ -1,7 +1,6 @@
 -- That the entries of a service meet the laws of a served state.
 use Rattle.std.proofs.Common.{◌≡◌, ◌≢◌, ◌⊎◌, ℕ, ◌+◌, ◌≤◌, cond, List, [], ◌∷◌, ◌++◌, map, length, refl, sym, ap, ◌∙◌, subst, inl, inr, arith, append-nil, eq-eqb, ne_eqb, ⊎_elim}
 use Rattle.std.specs.Prelude.{◌==◌}
-use Rattle.ipc_call.specs.declared.calls.Call.{Call}
 use Rattle.ipc_call.specs.declared.replies.Reply.{Reply}
 use Rattle.ipc_model.specs.Step.{Event}
 use Rattle.ipc_model.specs.History.{History, IsLegal, with_event}
@@ -11,7 +10,7 @@ use Rattle.ipc_space.proofs.Balance.{own_push, replies_push, told_once, no_more_
 use Rattle.pub_rule.specs.Work.{GoesOn}
 use Rattle.ipc_combiner.specs.declared.entries.Entry.{Entry}
 use Rattle.ipc_combiner.specs.declared.entries.Entry.TheVariants.{Opened, Called}
-use Rattle.ipc_combiner.specs.Entries.{called, entries_of, events_in, history_in, unopened, legal, client_of, call_of, own, replies, has_clients}
+use Rattle.ipc_combiner.specs.Entries.{called, entries_of, events_in, history_in, legal, client_of, call_of, own, replies, has_clients}
 
 events-called : (es : List Event) → events_in (map called es) ≡ es
 events-called [] = refl

@@ -1,5 +1,5 @@
 -- What the service and its clients are.
-use Rattle.std.specs.Prelude.{◌≡◌, ℕ, Bool, true, false, List, [], length, box_value}
+use Rattle.std.specs.Prelude.{◌≡◌, ℕ, Bool, true, false, [], length, box_value}
 use Rattle.ipc_call.specs.declared.calls.Call.{Call}
 use Rattle.ipc_call.specs.declared.replies.Reply.{Reply}
 use Rattle.pub_rule.specs.declared.served.Served.{Ghosts}

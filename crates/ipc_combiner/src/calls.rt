@@ -72,6 +72,7 @@ impl Idle {
     pub fn combine(&mut self, service: &Service) -> Pass
         requires { IsOf service.now.list self.old.joined }
         ensures service { IsOf service.now.list self.new.joined }
+        ensures client { self.new.joined.client ≡ self.old.joined.client }
         ensures combined { HasCombined service.now.list self.old.joined self.new.joined result }
     {
         self.combine_with(service, &OpenGate)
@@ -81,6 +82,7 @@ impl Idle {
     pub fn combine_with<G: PassGate>(&mut self, service: &Service, gate: &G) -> Pass
         requires { IsOf service.now.list self.old.joined }
         ensures service { IsOf service.now.list self.new.joined }
+        ensures client { self.new.joined.client ≡ self.old.joined.client }
         ensures combined { HasCombined service.now.list self.old.joined self.new.joined result }
     {
         let own = self.joined.client();
@@ -120,6 +122,7 @@ impl InFlight {
     pub fn combine(&mut self, service: &Service) -> Pass
         requires { IsOf service.now.list self.old.joined }
         ensures service { IsOf service.now.list self.new.joined }
+        ensures client { self.new.joined.client ≡ self.old.joined.client }
         ensures combined { HasCombined service.now.list self.old.joined self.new.joined result }
     {
         self.combine_with(service, &OpenGate)
@@ -129,6 +132,7 @@ impl InFlight {
     pub fn combine_with<G: PassGate>(&mut self, service: &Service, gate: &G) -> Pass
         requires { IsOf service.now.list self.old.joined }
         ensures service { IsOf service.now.list self.new.joined }
+        ensures client { self.new.joined.client ≡ self.old.joined.client }
         ensures combined { HasCombined service.now.list self.old.joined self.new.joined result }
     {
         match self.joined.combine_with(&service.list, gate) {

@@ -3,13 +3,17 @@
 #![tactic(auto)]
 
 mod calls;
+mod closing;
 mod entries;
 mod opening;
 mod serving;
 mod shared;
 mod states;
+mod telling;
+mod waiting;
 
 pub use calls::{Pass, Polled, Seen};
+pub use closing::Client;
 pub use entries::Entry;
 pub use pub_list::{OpenGate, PassGate};
 pub use shared::Shared;

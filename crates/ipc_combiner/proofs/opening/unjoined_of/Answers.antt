@@ -1,4 +1,4 @@
-use Rattle.std.proofs.Common.{◌≡◌, ◌++◌, ◌∷◌, [], map, sym, ap, ◌∙◌, append-nil, arith}
+use Rattle.std.proofs.Common.{◌≡◌, ◌++◌, [], map, sym, ap, ◌∙◌, append-nil, arith}
 use Rattle.ipc_combiner.proofs.Handing.{none_left}
 use Rattle.ipc_combiner.proofs.Opened.{map_on}
 use Rattle.ipc_combiner.proofs.opening.unjoined_of.Goals as goal

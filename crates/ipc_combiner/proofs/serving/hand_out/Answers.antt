@@ -1,4 +1,4 @@
-use Rattle.std.proofs.Common.{rules, ◌≡◌, ◌∷◌, [], sym, ap, ◌∙◌, subst, arith, refl}
+use Rattle.std.proofs.Common.{◌≡◌, [], ◌∙◌, subst, arith}
 use Rattle.pub_list.specs.Clients.{view}
 use Rattle.ipc_combiner.specs.Serving.{IsHanding}
 use Rattle.ipc_combiner.proofs.Handing.{none_left, owes, below, handed, all_handed, far_paying, kept_paying}

@@ -1,4 +1,3 @@
-use Rattle.std.proofs.Common.{◌≡◌}
 use Rattle.pub_list.specs.Clients.{view, IsSame}
 use Rattle.pub_list.specs.Passing.{IsAsFar}
 use Rattle.ipc_combiner.specs.Serving.{IsHanding, HasKept}

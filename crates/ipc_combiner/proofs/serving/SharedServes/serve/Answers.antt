@@ -1,7 +1,5 @@
-use Rattle.std.proofs.Common.{sym, subst, box_value}
 use Rattle.pub_list.specs.Clients.{view}
-use Rattle.ipc_combiner.specs.Serving.{Serves}
-use Rattle.ipc_combiner.proofs.Handing.{is_client, is_lawful, is_replied, may_answer, may_park, replied, parked, parked_far, serves_still, dealt_reply}
+use Rattle.ipc_combiner.proofs.Handing.{is_client, is_lawful, is_replied, may_answer, may_park, replied, parked, parked_far, dealt_reply}
 use Rattle.ipc_combiner.proofs.serving.SharedServes.serve.Goals as goal
 
 pub apply-requires-clause-known : goal.apply-requires-clause-known

@@ -1,4 +1,4 @@
-use Rattle.std.proofs.Common.{◌∙◌, sym, subst, Ok}
+use Rattle.std.proofs.Common.{◌∙◌, subst, Ok}
 use Rattle.pub_list.specs.Asking.{IsCollected}
 use Rattle.pub_list.specs.Clients.{view}
 use Rattle.pub_list.specs.declared.asking.Answer.TheVariants as answers_of

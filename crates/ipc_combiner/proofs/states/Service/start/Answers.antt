@@ -1,6 +1,5 @@
 use Rattle.std.proofs.Common.{◌≡◌, ℕ, sym, ap, ◌∙◌, subst, IfSome, All}
 use Rattle.std.specs.List.{slice_get}
-use Rattle.pub_list.specs.Clients.{first_seen}
 use Rattle.ipc_combiner.specs.Serving.{entries_in}
 use Rattle.ipc_combiner.specs.States.{IsUnjoinedOf}
 use Rattle.ipc_combiner.proofs.Opened.{placed, all_of}
