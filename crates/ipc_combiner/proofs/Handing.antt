@@ -21,13 +21,13 @@ use Rattle.pub_rule.specs.WorkSteps.{with_work, refusing, leaving, paying}
 use Rattle.pub_rule.specs.WorkPlays.{replying}
 use Rattle.pub_list.specs.Combining.{MayAnswer, MayPark, EntersCall}
 use Rattle.pub_list.specs.declared.asking.Answer.TheVariants as answers
-use Rattle.pub_list.specs.Passing.{IsAsFar, HasDealt}
+use Rattle.pub_list.specs.Passing.{HasTaken, IsAsFar, HasDealt}
 use Rattle.pub_list.proofs.Marking.{goes_further}
 use Rattle.ipc_combiner.specs.declared.entries.Entry.{Entry}
 use Rattle.ipc_combiner.specs.declared.shared.Shared.{Shared}
 use Rattle.ipc_combiner.specs.Entries.{called, entries_of, legal, client_of, call_of, own, replies, has_clients}
 use Rattle.ipc_combiner.specs.Laws.{entries_push, history-entries, is_legal, own_call}
-use Rattle.ipc_combiner.specs.Serving.{Knowledge, Serves, Takes, HasEntered, OwesReply, IsHanding, HasKept, entries_in, told_list}
+use Rattle.ipc_combiner.specs.Serving.{Knowledge, Serves, HasEntered, OwesReply, IsHanding, HasKept, entries_in, told_list}
 
 here : (o : ℕ) (y : Reply) (rest : List (ℕ × Reply)) → replies_in ((o, y) ∷ rest) o ≡ y ∷ replies_in rest o
 here o y rest = ap (λ b. map (λ t. t.1) (cond b ((o, y) ∷ filter (λ t. eqb t.0 o) rest) (filter (λ t. eqb t.0 o) rest))) (eq-eqb o o refl)
@@ -113,6 +113,10 @@ all_handed n v state h = (
       (h.each r lt)),
   subst legal (sym h.is) (is_legal (with_event h.before h.event) h.is_legal),
 )
+
+-- it has taken the record of a client that posted this call
+abbrev Takes : ℕ → ℕ → ℕ × Call → Knowledge → Shared → Type 0
+Takes n client call = HasTaken entries_in legal replies own has_clients n client call
 
 -- a call that was taken
 module _ (n client now : ℕ) (call : Call) (v : Knowledge) (old : Shared) (taken : Takes n client (now, call) v old) where

@@ -31,13 +31,18 @@ word_of Posted = words.Posted
 word_of Taken = words.Taken
 word_of Parked = words.Parked
 
--- Its call ended. By a reply: the history that it sees now goes on from the one that it saw, and has its call and this reply behind those before. Where memory was refused it has neither
+-- Its call ended. By a reply: the history that it sees now goes on from the one that it saw, and has its call and
+-- this reply behind those before. Where memory was refused it has neither
 abbrev pub HasDone : ℕ → Work Entry (ℕ × Call) Reply → Work Entry (ℕ × Call) Reply → Reply → Type 0
-HasDone client v w (Entered place turn outcome) = (c : ℕ × Call) × (h : List Entry) × (v.stage ≡ stages.Asking client c) × GoesOn v.seen h × legal h
-    × (own h client ≡ v.entered ++ c ∷ []) × (replies h client ≡ v.got ++ Entered place turn outcome ∷ []) × (w ≡ answered client c (Entered place turn outcome) h v)
-HasDone client v w Memory = (h : List Entry) × GoesOn v.seen h × legal h × (own h client ≡ v.entered) × (replies h client ≡ v.got) × (w ≡ refused client h v)
+HasDone client v w (Entered place turn outcome) = (c : ℕ × Call) × (h : List Entry) × (v.stage ≡ stages.Asking client c)
+    × GoesOn v.seen h × legal h × (own h client ≡ v.entered ++ c ∷ [])
+    × (replies h client ≡ v.got ++ Entered place turn outcome ∷ [])
+    × (w ≡ answered client c (Entered place turn outcome) h v)
+HasDone client v w Memory = (h : List Entry) × GoesOn v.seen h × legal h × (own h client ≡ v.entered)
+    × (replies h client ≡ v.got) × (w ≡ refused client h v)
 
--- It is as far with its own call as it was, sees a history that goes on from the one that it saw, and knows all else that it knew; it may have begun to combine, and met others that do
+-- It is as far with its own call as it was, sees a history that goes on from the one that it saw, and knows all
+-- else that it knew; it may have begun to combine, and met others that do
 pub record IsFurther (v u : Work Entry (ℕ × Call) Reply) : Type 0 where
   pub stage : u.stage ≡ v.stage
   pub posts : u.posts ≡ v.posts
@@ -53,16 +58,24 @@ pub record IsFurther (v u : Work Entry (ℕ × Call) Reply) : Type 0 where
 abbrev pub HasCalled : ℕ → Work Entry (ℕ × Call) Reply → Work Entry (ℕ × Call) Reply → Reply → Type 0
 HasCalled client v w reply = (u : Work Entry (ℕ × Call) Reply) × IsFurther v u × HasDone client u w reply
 
--- Its call is in flight, and its word tells this: where it is parked, or isn't answered though a combiner is known to have dealt with it, it waits in the history that is seen
+-- Its call is in flight, and its word tells this: where it is parked, or isn't answered though a combiner is known
+-- to have dealt with it, it waits in the history that is seen
 abbrev pub IsStill : ℕ → Work Entry (ℕ × Call) Reply → Work Entry (ℕ × Call) Reply → Seen → Type 0
-IsStill client v w seen = (h : List Entry) × GoesOn v.seen h × legal h × (w ≡ seeing h (number_of (word_of seen)) v) × Shows own replies client h v (word_of seen) v.stage
+IsStill client v w seen = (h : List Entry) × GoesOn v.seen h × legal h
+    × (w ≡ seeing h (number_of (word_of seen)) v) × Shows own replies client h v (word_of seen) v.stage
 
 module _ {g : Ghosts Shared Entry (ℕ × Call) Reply} where
   abbrev pub IsPolled : Records → Joined Shared Entry (ℕ × Call) Reply g → Polled → Type 0
-  IsPolled list v (Done idle reply) = IsOf list idle.joined × (idle.joined.client ≡ v.client) × HasDone v.client (work v) (work idle.joined) reply
-  IsPolled list v (Still flight seen) = IsOf list flight.joined × (flight.joined.client ≡ v.client) × IsStill v.client (work v) (work flight.joined) seen
+  IsPolled list v (Done idle reply) = IsOf list idle.joined × (idle.joined.client ≡ v.client)
+      × HasDone v.client (work v) (work idle.joined) reply
+  IsPolled list v (Still flight seen) = IsOf list flight.joined × (flight.joined.client ≡ v.client)
+      × IsStill v.client (work v) (work flight.joined) seen
 
-  -- It passed: it dealt with each post that it had heard of, and with its own call, and sees a legal history. Or another client combined, and nothing else has changed
-  abbrev pub HasCombined : Records → Joined Shared Entry (ℕ × Call) Reply g → Joined Shared Entry (ℕ × Call) Reply g → Pass → Type 0
-  HasCombined list v w Passed = HasPassed v.client (view v) (view w) × IsAsFar (view v) (view w) × KeepsMarks (view v) (view w) × (told w ≡ told v) × legal (work w).seen
-  HasCombined list v w (Busy c) = (c < list.clients) × (c ≢ v.client) × (work w ≡ meeting c (work v)) × (told w ≡ told v)
+  -- It passed: it dealt with each post that it had heard of, and with its own call, and sees a legal history. Or
+  -- another client combined, and nothing else has changed
+  abbrev pub HasCombined : Records → Joined Shared Entry (ℕ × Call) Reply g → Joined Shared Entry (ℕ × Call) Reply g
+      → Pass → Type 0
+  HasCombined list v w Passed = HasPassed v.client (view v) (view w) × IsAsFar (view v) (view w)
+      × KeepsMarks (view v) (view w) × (told w ≡ told v) × legal (work w).seen
+  HasCombined list v w (Busy c) = (c < list.clients) × (c ≢ v.client) × (work w ≡ meeting c (work v))
+      × (told w ≡ told v)

@@ -34,20 +34,23 @@ IsClientOf list (InFlight c) = IsOf list c.joined
 abbrev pub Has : List Entry → ℕ → List (ℕ × Call) → List Reply → Type 0
 Has h client calls got = (own h client ≡ calls) × (replies h client ≡ got)
 
--- The calls and replies of a client at the end: none where it hasn't joined; those that it entered and got; and of a call in flight also that call, which was entered or not, and where it was, its reply, which came or not
+-- The calls and replies of a client at the end: none where it hasn't joined; those that it entered and got; and of
+-- a call in flight also that call, which was entered or not, and where it was, its reply, which came or not
 abbrev pub IsKept : List Entry → Client → Type 0
 IsKept h (Unjoined c) = Has h c.fresh.client [] []
 IsKept h (Idle c) = let w = clients_of.work c.joined in Has h c.joined.client w.entered w.got
 IsKept h (InFlight c) = let w = clients_of.work c.joined in
     Has h c.joined.client w.entered w.got ⊎ ((k : ℕ × Call) × (w.stage ≡ Asking c.joined.client k)
-    × (Has h c.joined.client (w.entered ++ k ∷ []) w.got ⊎ ((x : Reply) × Has h c.joined.client (w.entered ++ k ∷ []) (w.got ++ x ∷ []))))
+    × (Has h c.joined.client (w.entered ++ k ∷ []) w.got
+    ⊎ ((x : Reply) × Has h c.joined.client (w.entered ++ k ∷ []) (w.got ++ x ∷ []))))
 
 -- one of the clients has this number, and began to combine
 abbrev pub HasBegun : ℕ → List Client → Type 0
 HasBegun r [] = ⊥
 HasBegun r (c ∷ cs) = ((number_of c ≡ r) × (1 ≤ (work_of c).begun)) ⊎ HasBegun r cs
 
--- the history at the end goes on from that which the client saw, and keeps its calls and replies; whom it found to combine has begun to
+-- the history at the end goes on from that which the client saw, and keeps its calls and replies; whom it found to
+-- combine has begun to
 pub record IsTold (h : List Entry) (clients : List Client) (c : Client) : Type 0 where
   pub saw : GoesOn (work_of c).seen h
   pub kept : IsKept h c

@@ -1,4 +1,5 @@
--- The entries of a service's history: what it was opened with, then its calls. What they mean is a history of the namespace.
+-- The entries of a service's history: what it was opened with, then its calls. What they mean is a history of the
+-- namespace.
 use Rattle.std.specs.Prelude.{◌≡◌, ℕ, List, [], ◌∷◌, map, length}
 use Rattle.ipc_call.specs.declared.calls.Call.{Call}
 use Rattle.ipc_call.specs.declared.calls.Call.TheVariants.{MsgGet}

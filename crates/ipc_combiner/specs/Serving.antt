@@ -9,10 +9,10 @@ use Rattle.pub_rule.specs.declared.walk.View.{View}
 use Rattle.pub_rule.specs.declared.work.Work.{Work}
 use Rattle.pub_rule.specs.Lists.{IsOn}
 use Rattle.pub_list.specs.Combining.{IsCombining}
-use Rattle.pub_list.specs.Passing.{IsServing, HasTaken}
+use Rattle.pub_list.specs.Passing.{IsServing}
 use Rattle.ipc_combiner.specs.declared.entries.Entry.{Entry}
 use Rattle.ipc_combiner.specs.declared.shared.Shared.{Shared}
-use Rattle.ipc_combiner.specs.Entries.{entries_of, legal, own, replies, has_clients}
+use Rattle.ipc_combiner.specs.Entries.{entries_of, legal, replies}
 
 -- what a client of the service knows
 abbrev pub Knowledge : Type 0
@@ -33,7 +33,8 @@ HasEntered client now call h k mine others =
     let e : Event = record { client = client; now = now; call = call } in
     (k ≡ with_event h e) × IsLegal k × (told_of h e ≡ told_list client mine others) × (mine ≡ None → others ≡ [])
 
--- it has answered the own call of the last event, and has still to hand out the rest of what the event tells: each client was handed its reply, or all that it is told is among the rest
+-- it has answered the own call of the last event, and has still to hand out the rest of what the event tells: each
+-- client was handed its reply, or all that it is told is among the rest
 pub record IsHanding (n : ℕ) (v : Knowledge) (state : Shared) (rest : List (ℕ × Reply)) : Type 0 where
   pub combines : IsCombining v
   pub seen : entries_in state ≡ v.work.seen
@@ -43,20 +44,19 @@ pub record IsHanding (n : ℕ) (v : Knowledge) (state : Shared) (rest : List (�
   pub is : v.work.seen ≡ entries_of (with_event before event)
   pub is_legal : IsLegal (with_event before event)
   pub known : All (λ t. t.0 < n) rest
-  pub each : (r : ℕ) → r < n → (IsOn r v.work.paid × (replies_in rest r ≡ [])) ⊎ ((¬ IsOn r v.work.paid) × (replies_in rest r ≡ replies_in (told_of before event) r))
+  pub each : (r : ℕ) → r < n → (IsOn r v.work.paid × (replies_in rest r ≡ []))
+      ⊎ ((¬ IsOn r v.work.paid) × (replies_in rest r ≡ replies_in (told_of before event) r))
 
 -- the last event told a client this alone, and that wasn't handed it yet
 abbrev pub OwesReply : Knowledge → Shared → ℕ → Reply → Type 0
-OwesReply v state other reply = IsCombining v × (entries_in state ≡ v.work.seen) × (replies v.work.seen other ≡ replies v.work.before other ++ reply ∷ []) × (¬ IsOn other v.work.paid)
+OwesReply v state other reply = IsCombining v × (entries_in state ≡ v.work.seen)
+    × (replies v.work.seen other ≡ replies v.work.before other ++ reply ∷ []) × (¬ IsOn other v.work.paid)
 
 -- the marks stay as they were, and so does what is known of the list
 abbrev pub HasKept : Knowledge → Knowledge → Type 0
-HasKept v w = (w.work.passed ≡ v.work.passed) × (w.work.past ≡ v.work.past) × (w.work.begun ≡ v.work.begun) × (w.work.heard ≡ v.work.heard) × (w.work.met ≡ v.work.met) × (w.walk ≡ v.walk)
+HasKept v w = (w.work.passed ≡ v.work.passed) × (w.work.past ≡ v.work.past) × (w.work.begun ≡ v.work.begun)
+    × (w.work.heard ≡ v.work.heard) × (w.work.met ≡ v.work.met) × (w.walk ≡ v.walk)
 
 -- it combines over the namespace, has taken no record, and owes nobody a reply
 abbrev pub Serves : ℕ → Knowledge → Shared → Type 0
 Serves n = IsServing entries_in legal replies n
-
--- it has taken the record of a client that posted this call
-abbrev pub Takes : ℕ → ℕ → ℕ × Call → Knowledge → Shared → Type 0
-Takes n client call = HasTaken entries_in legal replies own has_clients n client call

@@ -34,9 +34,11 @@ is_asking (Asking client call) = true
 is_asking _ = false
 
 module _ {g : Ghosts Shared Entry (ℕ × Call) Reply} where
-  -- it asks nothing and doesn't combine, and the history that it sees has just the calls that it entered and the replies that it got
+  -- it asks nothing and doesn't combine, and the history that it sees has just the calls that it entered and the
+  -- replies that it got
   abbrev pub IsIdle : Joined Shared Entry (ℕ × Call) Reply g → Type 0
-  IsIdle j = ((work j).stage ≡ Free j.client) × ((work j).holds ≡ false) × (own (work j).seen j.client ≡ (work j).entered) × (replies (work j).seen j.client ≡ (work j).got)
+  IsIdle j = ((work j).stage ≡ Free j.client) × ((work j).holds ≡ false)
+      × (own (work j).seen j.client ≡ (work j).entered) × (replies (work j).seen j.client ≡ (work j).got)
 
   -- its call is in flight, and it doesn't combine
   abbrev pub IsInFlight : Joined Shared Entry (ℕ × Call) Reply g → Type 0

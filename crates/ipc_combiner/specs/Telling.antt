@@ -14,7 +14,9 @@ use Rattle.ipc_combiner.specs.Entries.{legal, own, replies}
 use Rattle.ipc_combiner.specs.States.{IsOf, Records}
 
 module _ {g : Ghosts Shared Entry (ℕ × Call) Reply} where
-  -- It is as far as it was with its own call. It sees a legal history, which goes on from the one that it saw and from the one that the other saw. It heard of the other's last post, and knows which posts the other knows to be passed, behind all that it knew
+  -- It is as far as it was with its own call. It sees a legal history, which goes on from the one that it saw and
+  -- from the one that the other saw. It heard of the other's last post, and knows which posts the other knows to be
+  -- passed, behind all that it knew
   pub record HasLearnt (v o w : Joined Shared Entry (ℕ × Call) Reply g) : Type 0 where
     pub learns : Learns legal own replies v o w
     pub far : IsAsFar (view v) (view w)
@@ -26,5 +28,6 @@ module _ {g : Ghosts Shared Entry (ℕ × Call) Reply} where
     pub met : (work w).met ≡ (work v).met
 
   -- the same client of the service, which knows what it knew
-  abbrev pub HasTold : Records → Joined Shared Entry (ℕ × Call) Reply g → Joined Shared Entry (ℕ × Call) Reply g → Type 0
+  abbrev pub HasTold : Records → Joined Shared Entry (ℕ × Call) Reply g
+      → Joined Shared Entry (ℕ × Call) Reply g → Type 0
   HasTold list old new = IsOf list new × (new.client ≡ old.client) × (view new ≡ view old)
