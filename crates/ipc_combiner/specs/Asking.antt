@@ -41,8 +41,8 @@ HasDone client v w (Entered place turn outcome) = (c : ℕ × Call) × (h : List
 HasDone client v w Memory = (h : List Entry) × GoesOn v.seen h × legal h × (own h client ≡ v.entered)
     × (replies h client ≡ v.got) × (w ≡ refused client h v)
 
--- It is as far with its own call as it was, sees a history that goes on from the one that it saw, and knows all
--- else that it knew; it may have begun to combine, and met others that do
+-- It is as far with its own call as it was, sees a history that goes on from the one that it saw, and has lost
+-- nothing that it knew; it may have begun to combine once more, or met others that do
 pub record IsFurther (v u : Work Entry (ℕ × Call) Reply) : Type 0 where
   pub stage : u.stage ≡ v.stage
   pub posts : u.posts ≡ v.posts
@@ -54,7 +54,7 @@ pub record IsFurther (v u : Work Entry (ℕ × Call) Reply) : Type 0 where
   pub begun : v.begun ≤ u.begun
   pub met : (r : ℕ) → IsOn r v.met → IsOn r u.met
 
--- Its call, which was in flight when it knew v, has ended, after it got no nearer to it but by what it saw
+-- Its call was in flight when it knew v, and has ended. In between it looked and tried to combine, and came to know u
 abbrev pub HasCalled : ℕ → Work Entry (ℕ × Call) Reply → Work Entry (ℕ × Call) Reply → Reply → Type 0
 HasCalled client v w reply = (u : Work Entry (ℕ × Call) Reply) × IsFurther v u × HasDone client u w reply
 

@@ -1,5 +1,6 @@
 // Clients of one service, alone and in threads.
 ghost use Rattle.std.specs.Prelude.{◌≡◌, ◌≤◌, vec_len, All, IfOk};
+ghost use Rattle.ipc_combiner.specs.Closing.{IsClientOf};
 ghost use Rattle.ipc_combiner.specs.States.{IsOf, IsUnjoinedOf};
 
 use super::{Client, Idle, InFlight, Pass, PassGate, Polled, Seen, Service, Unjoined};
@@ -300,6 +301,57 @@ fn one_event_ends_sixty_three_waiting_calls(rt: HostRuntime) -> Result<(), Fail>
     let (_, removed) = served(&rt, &service, alice, Call::IpcRmid { kind, id });
     assert_eq!(rt; outcome_in(removed)?, Ok(Answer::Done));
     assert_eq!(rt; count_removed(&rt, &service, flights)?, 63);
+    Ok(())
+}
+
+/// One of the clients that haven't joined.
+fn one_unjoined(rt: &impl Abort, service: &Service, clients: &mut Vec<Unjoined>) -> Unjoined
+    requires { All (λ u. IsUnjoinedOf service.now.list u.fresh) clients.old.items }
+    ensures one { IsUnjoinedOf service.now.list result.fresh }
+    ensures rest { All (λ u. IsUnjoinedOf service.now.list u.fresh) clients.new.items }
+{
+    match clients.pop() {
+        Some(client) => client,
+        None => panic!(rt; "no client is left"),
+    }
+}
+
+/// Three clients, one of each kind, to be handed in.
+fn one_of_each(
+    alloc: Global,
+    service: &Service,
+    first: Unjoined,
+    second: Idle,
+    third: InFlight,
+) -> Result<Vec<Client>, AllocError>
+    requires first { IsUnjoinedOf service.now.list first.fresh }
+    requires second { IsOf service.now.list second.joined }
+    requires third { IsOf service.now.list third.joined }
+    ensures count { IfOk result (λ m. vec_len m ≡ 3) }
+    ensures service { IfOk result (λ m. All (λ c. IsClientOf service.now.list c) m.items) }
+{
+    let mut clients = Vec::new(alloc);
+    clients.push(Client::Unjoined(first))?;
+    clients.push(Client::Idle(second))?;
+    clients.push(Client::InFlight(third))?;
+    Ok(clients)
+}
+
+#[test]
+fn a_service_closes_while_a_call_waits(rt: HostRuntime) -> Result<(), Fail> {
+    let (service, mut clients) = service_for(&rt, 3)?;
+    let carol = one_unjoined(&rt, &service, &mut clients);
+    let mut idles = joined(&rt, &service, clients)?;
+    let bob = one_of(&rt, &service, &mut idles);
+    let alice = one_of(&rt, &service, &mut idles);
+    let number = bob.joined.client();
+    let (alice, got) = served(&rt, &service, alice, get(5));
+    let bob = waiting(&rt, &service, bob, receive(id_in(got)?, 0));
+    let clients = one_of_each(rt.alloc(), &service, carol, alice, bob)?;
+    let space = service.close(clients);
+    assert_eq!(rt; space.events(), 2);
+    assert_eq!(rt; space.journal().len(), 3);
+    assert!(rt; space.is_waiting(number));
     Ok(())
 }
 
