@@ -1,5 +1,4 @@
 -- Which clients are a service's.
-use Rattle.std.specs.Prelude.{List, All}
 use Rattle.ipc_combiner.specs.declared.states.Service.{Service}
 use Rattle.ipc_combiner.specs.declared.states.Idle.{Idle}
 use Rattle.ipc_combiner.specs.declared.states.Unjoined.{Unjoined}

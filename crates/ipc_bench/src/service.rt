@@ -23,8 +23,8 @@ struct Worker {
     asker: Asker,
 }
 
-/// One call of a client of the service: it posts, and serves what there is, or looks again, until the reply is
-/// there. `None` where its turns have run out.
+/// One call of a client of the service: it posts, and serves what there is, and looks, until the reply is there.
+/// `None` where its turns have run out.
 fn call(service: &Service, idle: Idle, asked: Call) -> Option<(Idle, Reply)>
     requires { IsClientOf service.now idle }
     ensures { IfSome result (λ m. IsClientOf service.now m.0) }
@@ -32,11 +32,12 @@ fn call(service: &Service, idle: Idle, asked: Call) -> Option<(Idle, Reply)>
     let mut flight = idle.post(service, 0, asked);
     let backoff = Backoff::new();
     for _ in 0..TURNS {
+        let pass = flight.combine(service);
         match flight.poll(service) {
             Polled::Done(idle, reply) => return Some((idle, reply)),
             Polled::Still(still, _) => flight = still,
         }
-        if let Pass::Busy(_) = flight.combine(service) {
+        if let Pass::Busy(_) = pass {
             backoff.snooze();
         }
     }
