@@ -5,18 +5,13 @@ ghost use Rattle.pub_counter.specs.Service.{IsResting};
 
 use crate::measuring::Run;
 use pub_counter::Counter;
-use pub_counter::service::{ask, reply_of};
+use pub_counter::service::reply_of;
 use pub_list::{Fresh, Joined, List, OpenGate, Serves, Took, WordState};
-use std::alloc::AllocError;
-use std::thread::Threads;
+use std::io;
 use std::time::Instant;
-use std::{io, thread};
 
 /// How many steps a client alone takes to be served.
 pub const STEPS: usize = 6;
-
-/// How often a client looks for the reply to a call before it gives up.
-const TURNS: u64 = 10_000_000;
 
 /// A client that isn't served.
 fn unserved() -> io::Error {
@@ -173,56 +168,5 @@ pub fn one_of(rt: &HostRuntime, clients: u32, calls: u32) -> io::Result<Run> {
         run.add_answer(u32::try_from(sum).unwrap_or(u32::MAX));
     }
     run.add_time(rt, start)?;
-    Ok(run)
-}
-
-/// So many calls of one client of many: how many were answered.
-fn ask_often(mut joined: Joined<Counter>, list: &List<Counter>, calls: u32) -> u32
-    requires list { BelongsTo list.now joined }
-    requires idle { IsResting joined.client (view joined) }
-{
-    for call in 0..calls {
-        let mut turns = TURNS;
-        if ask(&mut joined, list, 1, &mut turns).is_none() {
-            return call;
-        }
-    }
-    calls
-}
-
-/// Each client asks so often in a thread of its own: how many calls of each were answered.
-fn asked<R: Threads + Sync>(
-    rt: &R,
-    list: &List<Counter>,
-    clients: Vec<Fresh<Counter>>,
-    calls: u32,
-) -> Result<Vec<u32>, AllocError>
-    requires { All (λ f. IsFreshOf list.now f) clients.items }
-{
-    thread::map_vec(
-        rt,
-        clients,
-        &|fresh: Fresh<Counter>| -> u32
-            requires { IsFreshOf list.now fresh }
-        { ask_often(fresh.join(list), list, calls) },
-    )
-}
-
-/// So many clients ask, each in a thread of its own, as many calls together.
-pub fn in_threads<W: Threads + Sync>(
-    rt: &HostRuntime,
-    workers: &W,
-    threads: u32,
-    calls: u32,
-) -> io::Result<Run> {
-    let clients = threads.max(1).min(64);
-    let (list, fresh) = List::new(rt.alloc(), clients, Counter::new(rt.alloc()))?;
-    let mut run = Run::new(calls / clients * clients);
-    let start = Instant::now(rt)?;
-    let answered = asked(workers, &list, fresh, calls / clients)?;
-    run.add_time(rt, start)?;
-    for count in answered {
-        run.add_answer(count);
-    }
     Ok(run)
 }

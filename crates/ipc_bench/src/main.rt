@@ -39,9 +39,6 @@ const CLIENTS: [u32; 3] = [1, 8, 64];
 /// How many clients ask at once.
 const ASKING: [u32; 5] = [1, 2, 4, 16, 64];
 
-/// How many threads post calls.
-const THREADS: [u32; 3] = [2, 8, 64];
-
 /// How many calls a measurement makes where the program has no word.
 const CALLS: u32 = 1_000;
 
@@ -62,14 +59,13 @@ enum Operation {
     EachStep,
     Alone,
     OneOf,
-    InThreads,
     OfSpace(Task),
     OfService(Task),
     OfMutex(Task),
     AmongIdle,
 }
 
-const OPERATIONS: [Operation; 25] = [
+const OPERATIONS: [Operation; 24] = [
     Operation::Find,
     Operation::UnbindAndBind,
     Operation::Get,
@@ -84,7 +80,6 @@ const OPERATIONS: [Operation; 25] = [
     Operation::EachStep,
     Operation::Alone,
     Operation::OneOf,
-    Operation::InThreads,
     Operation::OfSpace(Task::Get),
     Operation::OfService(Task::Get),
     Operation::OfMutex(Task::Get),
@@ -134,22 +129,15 @@ impl Operation {
             Operation::EachStep => &["post", "seize", "take", "answer", "release", "collect"],
             Operation::Alone => &["post to collect"],
             Operation::OneOf => &["post to collect, with a walk"],
-            Operation::InThreads => &["post to collect, in threads"],
-            Operation::OfSpace(task) => match task {
-                Task::Get => &["Space, msgget of a key"],
-                Task::Message => &["Space, msgsnd or msgrcv"],
-                Task::Denied => &["Space, a denied msgrcv"],
-            },
-            Operation::OfService(task) => match task {
-                Task::Get => &["service, msgget of a key"],
-                Task::Message => &["service, msgsnd or msgrcv"],
-                Task::Denied => &["service, a denied msgrcv"],
-            },
-            Operation::OfMutex(task) => match task {
-                Task::Get => &["Mutex, msgget of a key"],
-                Task::Message => &["Mutex, msgsnd or msgrcv"],
-                Task::Denied => &["Mutex, a denied msgrcv"],
-            },
+            Operation::OfSpace(Task::Get) => &["Space, msgget of a key"],
+            Operation::OfSpace(Task::Message) => &["Space, msgsnd or msgrcv"],
+            Operation::OfSpace(Task::Denied) => &["Space, a denied msgrcv"],
+            Operation::OfService(Task::Get) => &["service, msgget of a key"],
+            Operation::OfService(Task::Message) => &["service, msgsnd or msgrcv"],
+            Operation::OfService(Task::Denied) => &["service, a denied msgrcv"],
+            Operation::OfMutex(Task::Get) => &["Mutex, msgget of a key"],
+            Operation::OfMutex(Task::Message) => &["Mutex, msgsnd or msgrcv"],
+            Operation::OfMutex(Task::Denied) => &["Mutex, a denied msgrcv"],
             Operation::AmongIdle => &["service, the others idle"],
         }
     }
@@ -163,7 +151,6 @@ impl Operation {
             Operation::Readings | Operation::EachStep | Operation::Alone | Operation::OfSpace(_) =>
                 &[1],
             Operation::OneOf | Operation::AmongIdle => &CLIENTS,
-            Operation::InThreads => &THREADS,
             Operation::OfService(_) | Operation::OfMutex(_) => &ASKING,
             _ => &OBJECTS,
         }
@@ -183,7 +170,6 @@ impl Operation {
             | Operation::OfService(_)
             | Operation::OfMutex(_)
             | Operation::AmongIdle => "clients",
-            Operation::InThreads => "threads",
             _ => "objects",
         }
     }
@@ -211,7 +197,6 @@ impl Operation {
             Operation::EachStep => each(rt, combining::each_step(rt, calls)?),
             Operation::Alone => alone(rt, combining::alone(rt, calls)?),
             Operation::OneOf => alone(rt, combining::one_of(rt, size, calls)?),
-            Operation::InThreads => alone(rt, combining::in_threads(rt, workers, size, calls)?),
             Operation::OfSpace(task) => alone(rt, locked::of_space(rt, task, calls)?),
             Operation::OfService(task) => {
                 alone(rt, service::of_service(rt, workers, task, size, calls)?)
