@@ -50,10 +50,19 @@ fn call_msgget(
 }
 
 fn outcome_in(rt: &impl Abort, effects: Effects) -> Result<Outcome, Fail> {
-    let Effects { own, others } = effects;
+    let Effects { place, own, others } = effects;
     assert_eq!(rt; others.len(), 0);
     match own {
-        Some(Reply::Entered { outcome, .. }) => Ok(outcome),
+        Some(
+            Reply::Entered {
+                place: told,
+                outcome,
+                ..
+            },
+        ) => {
+            assert_eq!(rt; told, place);
+            Ok(outcome)
+        }
         _ => Err(Fail::from("no reply")),
     }
 }
