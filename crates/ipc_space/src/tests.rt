@@ -11,6 +11,44 @@ const ALICE: u32 = 0;
 
 const DAVE: u32 = 1;
 
+/// A call, and the outcome that it must have.
+#[derive(Debug, Drop)]
+struct Worked {
+    client: u32,
+    now: u64,
+    call: Call,
+    wanted: Outcome,
+}
+
+fn get(client: u32, now: u64, key: u32, flags: u32, wanted: Outcome) -> Worked {
+    let call = Call::MsgGet { key, flags };
+    Worked {
+        client,
+        now,
+        call,
+        wanted,
+    }
+}
+
+fn remove(client: u32, id: u32, wanted: Outcome) -> Worked {
+    let kind = Kind::Queue;
+    Worked {
+        client,
+        now: 0,
+        call: Call::IpcRmid { kind, id },
+        wanted,
+    }
+}
+
+fn entered(place: u64, outcome: Outcome) -> Option<Reply> {
+    let turn = 0;
+    Some(Reply::Entered {
+        place,
+        turn,
+        outcome,
+    })
+}
+
 /// Alice is 100:10, and dave is 300:30 with the supplementary group 10.
 fn space_with(rt: &(impl Abort + AllocGlobal), limits: Limits) -> Result<Space, Fail> {
     assert!(rt; limits.in_range());
@@ -25,7 +63,7 @@ fn space_with(rt: &(impl Abort + AllocGlobal), limits: Limits) -> Result<Space, 
     Ok(space)
 }
 
-fn call_at(
+fn effects_of(
     rt: &impl Abort,
     space: &mut Space,
     client: u32,
@@ -38,92 +76,55 @@ fn call_at(
     Ok(effects)
 }
 
-fn call_msgget(
-    rt: &impl Abort,
-    space: &mut Space,
-    client: u32,
-    now: u64,
-    key: u32,
-    flags: u32,
-) -> Result<Effects, Fail> {
-    call_at(rt, space, client, now, Call::MsgGet { key, flags })
+/// Makes a call, which must be the event at this place, and end no waiting call.
+fn make(rt: &impl Abort, space: &mut Space, place: u64, worked: Worked) -> Result<(), Fail> {
+    let Worked {
+        client,
+        now,
+        call,
+        wanted,
+    } = worked;
+    let effects = effects_of(rt, space, client, now, call)?;
+    assert_eq!(rt; effects.place, place);
+    assert_eq!(rt; effects.own, entered(place, wanted), "at {place}");
+    assert_eq!(rt; effects.others.len(), 0, "at {place}");
+    Ok(())
 }
 
-fn outcome_in(rt: &impl Abort, effects: Effects) -> Result<Outcome, Fail> {
-    let Effects { place, own, others } = effects;
-    assert_eq!(rt; others.len(), 0);
-    match own {
-        Some(
-            Reply::Entered {
-                place: told,
-                outcome,
-                ..
-            },
-        ) => {
-            assert_eq!(rt; told, place);
-            Ok(outcome)
-        }
-        _ => Err(Fail::from("no reply")),
+/// Makes these calls in a namespace that has served none.
+fn make_each(rt: &impl Abort, space: &mut Space, calls: Vec<Worked>) -> Result<(), Fail> {
+    let mut place: u64 = 0;
+    for worked in calls {
+        place = place.wrapping_add(1);
+        make(rt, space, place, worked)?;
     }
-}
-
-fn outcome_of(
-    rt: &impl Abort,
-    space: &mut Space,
-    client: u32,
-    key: u32,
-    flags: u32,
-) -> Result<Outcome, Fail> {
-    let effects = call_msgget(rt, space, client, 0, key, flags)?;
-    outcome_in(rt, effects)
-}
-
-fn outcome_of_removal(
-    rt: &impl Abort,
-    space: &mut Space,
-    client: u32,
-    kind: Kind,
-    id: u32,
-) -> Result<Outcome, Fail> {
-    let effects = call_at(rt, space, client, 0, Call::IpcRmid { kind, id })?;
-    outcome_in(rt, effects)
+    Ok(())
 }
 
 #[test]
 fn a_removed_queue_is_gone(rt: HostRuntime) -> Result<(), Fail> {
     let mut space = space_with(&rt, Limits::default())?;
-    let _ = outcome_of(&rt, &mut space, ALICE, 5, 0o1666)?;
-    let denied = outcome_of_removal(&rt, &mut space, DAVE, Kind::Queue, 0)?;
-    assert_eq!(rt; denied, Err(Rule::NotOwner));
-    let removed = outcome_of_removal(&rt, &mut space, ALICE, Kind::Queue, 0)?;
-    assert_eq!(rt; removed, Ok(Answer::Done));
-    let stale = outcome_of_removal(&rt, &mut space, ALICE, Kind::Queue, 0)?;
-    assert_eq!(rt; stale, Err(Rule::BadId));
-    Ok(())
+    let calls = vec![in rt.alloc();
+        get(ALICE, 0, 5, 0o1666, Ok(Answer::Id(0))),
+        remove(DAVE, 0, Err(Rule::NotOwner)),
+        remove(ALICE, 0, Ok(Answer::Done)),
+        remove(ALICE, 0, Err(Rule::BadId)),
+    ]?;
+    make_each(&rt, &mut space, calls)
 }
 
 #[test]
 fn a_get_asks_its_bits_of_the_group(rt: HostRuntime) -> Result<(), Fail> {
     let mut space = space_with(&rt, Limits::default())?;
-    assert_eq!(rt;
-        outcome_of(&rt, &mut space, ALICE, 5, 0o1640)?,
-        Ok(Answer::Id(0))
-    );
-    assert_eq!(rt;
-        outcome_of(&rt, &mut space, DAVE, 5, 0o040)?,
-        Ok(Answer::Id(0))
-    );
-    assert_eq!(rt;
-        outcome_of(&rt, &mut space, DAVE, 5, 0o020)?,
-        Err(Rule::GroupBits)
-    );
-    assert_eq!(rt; outcome_of(&rt, &mut space, DAVE, 5, 0)?, Ok(Answer::Id(0)));
-    assert_eq!(rt; outcome_of(&rt, &mut space, DAVE, 6, 0)?, Err(Rule::NoKey));
-    assert_eq!(rt;
-        outcome_of(&rt, &mut space, ALICE, 5, 0o3640)?,
-        Err(Rule::KeyExists)
-    );
-    Ok(())
+    let calls = vec![in rt.alloc();
+        get(ALICE, 0, 5, 0o1640, Ok(Answer::Id(0))),
+        get(DAVE, 0, 5, 0o040, Ok(Answer::Id(0))),
+        get(DAVE, 0, 5, 0o020, Err(Rule::GroupBits)),
+        get(DAVE, 0, 5, 0, Ok(Answer::Id(0))),
+        get(DAVE, 0, 6, 0, Err(Rule::NoKey)),
+        get(ALICE, 0, 5, 0o3640, Err(Rule::KeyExists)),
+    ]?;
+    make_each(&rt, &mut space, calls)
 }
 
 #[test]
@@ -134,19 +135,12 @@ fn a_private_key_makes_a_queue_each_time(rt: HostRuntime) -> Result<(), Fail> {
         ..Limits::default()
     };
     let mut space = space_with(&rt, limits)?;
-    assert_eq!(rt;
-        outcome_of(&rt, &mut space, ALICE, 0, 0o600)?,
-        Ok(Answer::Id(2_147_450_880))
-    );
-    assert_eq!(rt;
-        outcome_of(&rt, &mut space, ALICE, 0, 0o600)?,
-        Ok(Answer::Id(2_147_450_881))
-    );
-    assert_eq!(rt;
-        outcome_of(&rt, &mut space, ALICE, 0, 0o600)?,
-        Err(Rule::NoSlot)
-    );
-    Ok(())
+    let calls = vec![in rt.alloc();
+        get(ALICE, 0, 0, 0o600, Ok(Answer::Id(2_147_450_880))),
+        get(ALICE, 0, 0, 0o600, Ok(Answer::Id(2_147_450_881))),
+        get(ALICE, 0, 0, 0o600, Err(Rule::NoSlot)),
+    ]?;
+    make_each(&rt, &mut space, calls)
 }
 
 fn called(client: u32, now: u64, key: u32, flags: u32) -> JournalRow {
@@ -164,23 +158,11 @@ fn answered(client: u32, place: u64, rule: Option<Rule>) -> JournalRow {
     }
 }
 
-fn entered(place: u64, outcome: Outcome) -> Option<Reply> {
-    let turn = 0;
-    Some(Reply::Entered {
-        place,
-        turn,
-        outcome,
-    })
-}
-
-#[test]
-fn the_journal_has_each_call_with_its_answer(rt: HostRuntime) -> Result<(), Fail> {
-    let mut space = space_with(&rt, Limits::default())?;
+/// Two calls in a namespace that has served none: its journal has them with their answers.
+fn two_in_the_journal(rt: &impl Abort, space: &mut Space) -> Result<(), Fail> {
     assert_eq!(rt; space.journal().len(), 0);
-    let effects = call_msgget(&rt, &mut space, ALICE, 50, 5, 0o1600)?;
-    assert_eq!(rt; effects.own, entered(1, Ok(Answer::Id(0))));
-    let effects = call_msgget(&rt, &mut space, DAVE, 60, 6, 0)?;
-    assert_eq!(rt; effects.own, entered(2, Err(Rule::NoKey)));
+    make(rt, space, 1, get(ALICE, 50, 5, 0o1600, Ok(Answer::Id(0))))?;
+    make(rt, space, 2, get(DAVE, 60, 6, 0, Err(Rule::NoKey)))?;
     let rows = [
         called(ALICE, 50, 5, 0o1600),
         answered(ALICE, 1, None),
@@ -192,14 +174,25 @@ fn the_journal_has_each_call_with_its_answer(rt: HostRuntime) -> Result<(), Fail
 }
 
 #[test]
-fn the_clock_never_goes_back(rt: HostRuntime) -> Result<(), Fail> {
+fn the_journal_has_each_call_with_its_answer(rt: HostRuntime) -> Result<(), Fail> {
     let mut space = space_with(&rt, Limits::default())?;
+    two_in_the_journal(&rt, &mut space)
+}
+
+/// Two calls, the second earlier than the first, in a namespace that has served none.
+fn two_by_the_clock(rt: &impl Abort, space: &mut Space) -> Result<(), Fail> {
     assert_eq!(rt; space.clients(), 2);
     assert_eq!(rt; space.clock(), 0);
-    let _ = call_msgget(&rt, &mut space, ALICE, 50, 5, 0o3600)?;
+    make(rt, space, 1, get(ALICE, 50, 5, 0o3600, Ok(Answer::Id(0))))?;
     assert_eq!(rt; space.clock(), 50);
-    let _ = call_msgget(&rt, &mut space, DAVE, 20, 6, 0)?;
+    make(rt, space, 2, get(DAVE, 20, 6, 0, Err(Rule::NoKey)))?;
     assert_eq!(rt; space.clock(), 50);
     assert!(rt; !space.is_waiting(ALICE));
     Ok(())
+}
+
+#[test]
+fn the_clock_never_goes_back(rt: HostRuntime) -> Result<(), Fail> {
+    let mut space = space_with(&rt, Limits::default())?;
+    two_by_the_clock(&rt, &mut space)
 }
