@@ -40,15 +40,6 @@ fn remove(client: u32, id: u32, wanted: Outcome) -> Worked {
     }
 }
 
-fn entered(place: u64, outcome: Outcome) -> Option<Reply> {
-    let turn = 0;
-    Some(Reply::Entered {
-        place,
-        turn,
-        outcome,
-    })
-}
-
 /// Alice is 100:10, and dave is 300:30 with the supplementary group 10.
 fn space_with(rt: &(impl Abort + AllocGlobal), limits: Limits) -> Result<Space, Fail> {
     assert!(rt; limits.in_range());
@@ -77,22 +68,29 @@ fn effects_of(
 }
 
 /// Makes a call, which must be the event at this place, and end no waiting call.
-fn make(rt: &impl Abort, space: &mut Space, place: u64, worked: Worked) -> Result<(), Fail> {
-    let Worked {
-        client,
-        now,
-        call,
-        wanted,
-    } = worked;
-    let effects = effects_of(rt, space, client, now, call)?;
+fn make(rt: &impl Abort, space: &mut Space, place: u64, worked: &Worked) -> Result<(), Fail> {
+    let call = worked.call.copy()?;
+    let effects = effects_of(rt, space, worked.client, worked.now, call)?;
     assert_eq!(rt; effects.place, place);
-    assert_eq!(rt; effects.own, entered(place, wanted), "at {place}");
     assert_eq!(rt; effects.others.len(), 0, "at {place}");
-    Ok(())
+    match &effects.own {
+        Some(
+            Reply::Entered {
+                place: told,
+                turn,
+                outcome,
+            },
+        ) => {
+            assert_eq!(rt; (*told, *turn), (place, 0));
+            assert_eq!(rt; outcome, &worked.wanted, "at {place}");
+            Ok(())
+        }
+        _ => Err(Fail::from("no reply")),
+    }
 }
 
 /// Makes these calls in a namespace that has served none.
-fn make_each(rt: &impl Abort, space: &mut Space, calls: Vec<Worked>) -> Result<(), Fail> {
+fn make_each(rt: &impl Abort, space: &mut Space, calls: &[Worked]) -> Result<(), Fail> {
     let mut place: u64 = 0;
     for worked in calls {
         place = place.wrapping_add(1);
@@ -104,27 +102,27 @@ fn make_each(rt: &impl Abort, space: &mut Space, calls: Vec<Worked>) -> Result<(
 #[test]
 fn a_removed_queue_is_gone(rt: HostRuntime) -> Result<(), Fail> {
     let mut space = space_with(&rt, Limits::default())?;
-    let calls = vec![in rt.alloc();
+    let calls = [
         get(ALICE, 0, 5, 0o1666, Ok(Answer::Id(0))),
         remove(DAVE, 0, Err(Rule::NotOwner)),
         remove(ALICE, 0, Ok(Answer::Done)),
         remove(ALICE, 0, Err(Rule::BadId)),
-    ]?;
-    make_each(&rt, &mut space, calls)
+    ];
+    make_each(&rt, &mut space, &calls)
 }
 
 #[test]
 fn a_get_asks_its_bits_of_the_group(rt: HostRuntime) -> Result<(), Fail> {
     let mut space = space_with(&rt, Limits::default())?;
-    let calls = vec![in rt.alloc();
+    let calls = [
         get(ALICE, 0, 5, 0o1640, Ok(Answer::Id(0))),
         get(DAVE, 0, 5, 0o040, Ok(Answer::Id(0))),
         get(DAVE, 0, 5, 0o020, Err(Rule::GroupBits)),
         get(DAVE, 0, 5, 0, Ok(Answer::Id(0))),
         get(DAVE, 0, 6, 0, Err(Rule::NoKey)),
         get(ALICE, 0, 5, 0o3640, Err(Rule::KeyExists)),
-    ]?;
-    make_each(&rt, &mut space, calls)
+    ];
+    make_each(&rt, &mut space, &calls)
 }
 
 #[test]
@@ -135,12 +133,12 @@ fn a_private_key_makes_a_queue_each_time(rt: HostRuntime) -> Result<(), Fail> {
         ..Limits::default()
     };
     let mut space = space_with(&rt, limits)?;
-    let calls = vec![in rt.alloc();
+    let calls = [
         get(ALICE, 0, 0, 0o600, Ok(Answer::Id(2_147_450_880))),
         get(ALICE, 0, 0, 0o600, Ok(Answer::Id(2_147_450_881))),
         get(ALICE, 0, 0, 0o600, Err(Rule::NoSlot)),
-    ]?;
-    make_each(&rt, &mut space, calls)
+    ];
+    make_each(&rt, &mut space, &calls)
 }
 
 fn called(client: u32, now: u64, key: u32, flags: u32) -> JournalRow {
@@ -161,8 +159,8 @@ fn answered(client: u32, place: u64, rule: Option<Rule>) -> JournalRow {
 /// Two calls in a namespace that has served none: its journal has them with their answers.
 fn two_in_the_journal(rt: &impl Abort, space: &mut Space) -> Result<(), Fail> {
     assert_eq!(rt; space.journal().len(), 0);
-    make(rt, space, 1, get(ALICE, 50, 5, 0o1600, Ok(Answer::Id(0))))?;
-    make(rt, space, 2, get(DAVE, 60, 6, 0, Err(Rule::NoKey)))?;
+    make(rt, space, 1, &get(ALICE, 50, 5, 0o1600, Ok(Answer::Id(0))))?;
+    make(rt, space, 2, &get(DAVE, 60, 6, 0, Err(Rule::NoKey)))?;
     let rows = [
         called(ALICE, 50, 5, 0o1600),
         answered(ALICE, 1, None),
@@ -183,9 +181,9 @@ fn the_journal_has_each_call_with_its_answer(rt: HostRuntime) -> Result<(), Fail
 fn two_by_the_clock(rt: &impl Abort, space: &mut Space) -> Result<(), Fail> {
     assert_eq!(rt; space.clients(), 2);
     assert_eq!(rt; space.clock(), 0);
-    make(rt, space, 1, get(ALICE, 50, 5, 0o3600, Ok(Answer::Id(0))))?;
+    make(rt, space, 1, &get(ALICE, 50, 5, 0o3600, Ok(Answer::Id(0))))?;
     assert_eq!(rt; space.clock(), 50);
-    make(rt, space, 2, get(DAVE, 20, 6, 0, Err(Rule::NoKey)))?;
+    make(rt, space, 2, &get(DAVE, 20, 6, 0, Err(Rule::NoKey)))?;
     assert_eq!(rt; space.clock(), 50);
     assert!(rt; !space.is_waiting(ALICE));
     Ok(())
