@@ -1,6 +1,6 @@
 // Measurements of the table of keys.
 
-use crate::measuring::{BATCH, Numbers, Pair, Run, key_of};
+use crate::measuring::{BATCH, Numbers, Run, add_batch, key_of};
 use ipc_ids::Keys;
 use std::alloc::{AllocError, Global};
 use std::io;
@@ -40,10 +40,10 @@ pub fn find(rt: &HostRuntime, size: u32, calls: u32) -> io::Result<Run> {
 
 /// Unbinds keys batch by batch, and then looks each key up, which isn't bound, and binds it again: what the
 /// first took, and what the second.
-pub fn unbind_and_bind(rt: &HostRuntime, size: u32, calls: u32) -> io::Result<Pair> {
+pub fn unbind_and_bind(rt: &HostRuntime, size: u32, calls: u32) -> io::Result<[Run; 2]> {
     let mut keys = bound(rt.alloc(), size)?;
     let mut numbers = Numbers::new();
-    let mut pair = Pair::new(calls / BATCH * BATCH);
+    let mut runs = [Run::new(calls / BATCH * BATCH); 2];
     for _ in 0..calls / BATCH {
         let first = numbers.below(size);
         let start = Instant::now(rt)?;
@@ -54,8 +54,9 @@ pub fn unbind_and_bind(rt: &HostRuntime, size: u32, calls: u32) -> io::Result<Pa
         for step in 0..BATCH {
             bind_number(&mut keys, first.wrapping_add(step) % size.max(1))?;
         }
-        pair.add_times(rt, start, middle)?;
-        pair.add_answer(keys.find(key_of(first)).unwrap_or(u32::MAX));
+        let end = Instant::now(rt)?;
+        let answer = keys.find(key_of(first)).unwrap_or(u32::MAX);
+        add_batch(&mut runs, start, middle, end, answer);
     }
-    Ok(pair)
+    Ok(runs)
 }

@@ -29,15 +29,20 @@ fn call(space: &mut Space, client: u32, asked: Call) -> Option<Reply> {
     }
 }
 
+/// A client makes its queue.
+fn begin(rt: &HostRuntime, space: &mut Space, task: Task, client: u32) -> io::Result<Worker> {
+    let mut asker = Asker::new(rt.alloc(), task)?;
+    if let Some(reply) = call(space, client, asker.first()) {
+        asker.begin(reply);
+    }
+    Ok(Worker { client, asker })
+}
+
 /// Each of so many clients makes its queue.
 fn begun(rt: &HostRuntime, space: &mut Space, task: Task, clients: u32) -> io::Result<Vec<Worker>> {
     let mut workers = Vec::new(rt.alloc());
     for client in 0..clients {
-        let mut asker = Asker::new(rt.alloc(), task)?;
-        if let Some(reply) = call(space, client, asker.first()) {
-            asker.begin(reply);
-        }
-        workers.push(Worker { client, asker })?;
+        workers.push(begin(rt, space, task, client)?)?;
     }
     Ok(workers)
 }
@@ -82,18 +87,25 @@ fn asked<R: Threads + Wait + Sync>(
     )
 }
 
+/// Times so many calls of client 0.
+fn time_alone(rt: &HostRuntime, space: &mut Space, task: Task, calls: u32) -> io::Result<Run> {
+    let Worker { asker, .. } = begin(rt, space, task, 0)?;
+    let start = Instant::now(rt)?;
+    let answered = ask_alone(space, asker, calls);
+    Run::of_each(rt, start, calls, &[answered])
+}
+
 /// One client of a namespace makes so many calls.
 pub fn of_space(rt: &HostRuntime, task: Task, calls: u32) -> io::Result<Run> {
     let mut space = opened(rt, 1)?;
-    let mut workers = begun(rt, &mut space, task, 1)?;
-    let mut run = Run::new(calls);
-    if let Some(worker) = workers.pop() {
-        let start = Instant::now(rt)?;
-        let answered = ask_alone(&mut space, worker.asker, calls);
-        run.add_time(rt, start)?;
-        run.add_answer(answered);
-    }
-    Ok(run)
+    time_alone(rt, &mut space, task, calls)
+}
+
+/// A namespace of so many clients under a mutex, in which each has made its queue.
+fn shared(rt: &HostRuntime, task: Task, clients: u32) -> io::Result<(Mutex<Space>, Vec<Worker>)> {
+    let mut space = opened(rt, clients)?;
+    let workers = begun(rt, &mut space, task, clients)?;
+    Ok((Mutex::new(space), workers))
 }
 
 /// So many clients of a namespace under a mutex make as many calls together, each in a thread of its own.
@@ -105,15 +117,8 @@ pub fn of_mutex<W: Threads + Wait + Sync>(
     calls: u32,
 ) -> io::Result<Run> {
     let each = calls / clients.max(1);
-    let mut space = opened(rt, clients)?;
-    let workers = begun(rt, &mut space, task, clients)?;
-    let locked = Mutex::new(space);
-    let mut run = Run::new(each.saturating_mul(clients));
+    let (space, workers) = shared(rt, task, clients)?;
     let start = Instant::now(rt)?;
-    let answered = asked(threads, &locked, workers, each)?;
-    run.add_time(rt, start)?;
-    for count in answered {
-        run.add_answer(count);
-    }
-    Ok(run)
+    let answered = asked(threads, &space, workers, each)?;
+    Run::of_each(rt, start, each, answered.as_slice())
 }

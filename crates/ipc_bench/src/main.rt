@@ -12,10 +12,10 @@ mod messages;
 mod service;
 mod slots;
 mod spaces;
-mod waiting;
 
 use asking::Task;
-use measuring::{Pair, Run};
+use measuring::Run;
+use messages::Way;
 use std::process::ExitCode;
 use std::sync::Wait;
 use std::thread::Threads;
@@ -32,6 +32,9 @@ const MESSAGES: [u32; 3] = [1, 100, 1_000];
 
 /// How many clients wait.
 const WAITING: [u32; 3] = [1, 16, 63];
+
+/// One client.
+const ONE: [u32; 1] = [1];
 
 /// How many clients joined a list.
 const CLIENTS: [u32; 3] = [1, 8, 64];
@@ -51,9 +54,8 @@ enum Operation {
     NextId,
     RemoveAndInsert,
     ApplyGet,
-    SendAndReceive,
+    Pass(Way),
     ReceiveLast,
-    PassToAReceiver,
     WhileOthersWait,
     Readings,
     EachStep,
@@ -72,9 +74,9 @@ const OPERATIONS: [Operation; 24] = [
     Operation::NextId,
     Operation::RemoveAndInsert,
     Operation::ApplyGet,
-    Operation::SendAndReceive,
+    Operation::Pass(Way::Queue),
     Operation::ReceiveLast,
-    Operation::PassToAReceiver,
+    Operation::Pass(Way::Receiver),
     Operation::WhileOthersWait,
     Operation::Readings,
     Operation::EachStep,
@@ -92,23 +94,14 @@ const OPERATIONS: [Operation; 24] = [
     Operation::AmongIdle,
 ];
 
-/// A measurement of one call.
+/// The run of a measurement that has one.
 fn alone(rt: &HostRuntime, run: Run) -> io::Result<Vec<Run>> {
-    Ok(vec![in rt.alloc(); run]?)
+    listed(rt, &[run])
 }
 
-/// A measurement of two calls.
-fn both(rt: &HostRuntime, pair: Pair) -> io::Result<Vec<Run>> {
-    Ok(vec![in rt.alloc(); pair.first, pair.second]?)
-}
-
-/// A measurement of some calls.
-fn each(rt: &HostRuntime, steps: [Run; combining::STEPS]) -> io::Result<Vec<Run>> {
-    let mut runs = Vec::new(rt.alloc());
-    for run in steps {
-        runs.push(run)?;
-    }
-    Ok(runs)
+/// The runs of a measurement.
+fn listed(rt: &HostRuntime, runs: &[Run]) -> io::Result<Vec<Run>> {
+    Ok(Vec::from_slice(rt.alloc(), runs)?)
 }
 
 impl Operation {
@@ -121,9 +114,9 @@ impl Operation {
             Operation::NextId => &["Slots::next_id"],
             Operation::RemoveAndInsert => &["Slots::remove", "Slots::try_insert"],
             Operation::ApplyGet => &["Space::apply, msgget of a key"],
-            Operation::SendAndReceive => &["Space::apply, msgsnd and msgrcv"],
+            Operation::Pass(Way::Queue) => &["Space::apply, msgsnd and msgrcv"],
             Operation::ReceiveLast => &["Space::apply, msgrcv of the last"],
-            Operation::PassToAReceiver => &["Space::apply, a waiting receiver"],
+            Operation::Pass(Way::Receiver) => &["Space::apply, a waiting receiver"],
             Operation::WhileOthersWait => &["Space::apply, while others wait"],
             Operation::Readings => &["reading the time"],
             Operation::EachStep => &["post", "seize", "take", "answer", "release", "collect"],
@@ -142,35 +135,17 @@ impl Operation {
         }
     }
 
-    /// The sizes at which it is measured.
-    fn sizes(self) -> &'static [u32] {
+    /// The sizes at which it is measured, and what they count.
+    fn sizes(self) -> (&'static [u32], &'static str) {
         match self {
-            Operation::SendAndReceive | Operation::PassToAReceiver => &BYTES,
-            Operation::ReceiveLast => &MESSAGES,
-            Operation::WhileOthersWait => &WAITING,
+            Operation::Pass(_) => (&BYTES, "bytes"),
+            Operation::ReceiveLast => (&MESSAGES, "messages"),
+            Operation::WhileOthersWait => (&WAITING, "waiting"),
             Operation::Readings | Operation::EachStep | Operation::Alone | Operation::OfSpace(_) =>
-                &[1],
-            Operation::OneOf | Operation::AmongIdle => &CLIENTS,
-            Operation::OfService(_) | Operation::OfMutex(_) => &ASKING,
-            _ => &OBJECTS,
-        }
-    }
-
-    /// What a size counts.
-    fn unit(self) -> &'static str {
-        match self {
-            Operation::SendAndReceive | Operation::PassToAReceiver => "bytes",
-            Operation::ReceiveLast => "messages",
-            Operation::WhileOthersWait => "waiting",
-            Operation::Readings
-            | Operation::EachStep
-            | Operation::Alone
-            | Operation::OneOf
-            | Operation::OfSpace(_)
-            | Operation::OfService(_)
-            | Operation::OfMutex(_)
-            | Operation::AmongIdle => "clients",
-            _ => "objects",
+                (&ONE, "clients"),
+            Operation::OneOf | Operation::AmongIdle => (&CLIENTS, "clients"),
+            Operation::OfService(_) | Operation::OfMutex(_) => (&ASKING, "clients"),
+            _ => (&OBJECTS, "objects"),
         }
     }
 
@@ -184,27 +159,25 @@ impl Operation {
     ) -> io::Result<Vec<Run>> {
         match self {
             Operation::Find => alone(rt, keys::find(rt, size, calls)?),
-            Operation::UnbindAndBind => both(rt, keys::unbind_and_bind(rt, size, calls)?),
+            Operation::UnbindAndBind => listed(rt, &keys::unbind_and_bind(rt, size, calls)?),
             Operation::Get => alone(rt, slots::get(rt, size, calls)?),
             Operation::NextId => alone(rt, slots::next_id(rt, size, calls)?),
-            Operation::RemoveAndInsert => both(rt, slots::remove_and_insert(rt, size, calls)?),
+            Operation::RemoveAndInsert => listed(rt, &slots::remove_and_insert(rt, size, calls)?),
             Operation::ApplyGet => alone(rt, spaces::get_of_a_key(rt, size, calls)?),
-            Operation::SendAndReceive => alone(rt, messages::send_and_receive(rt, size, calls)?),
+            Operation::Pass(way) => alone(rt, messages::pass(rt, way, size, calls)?),
             Operation::ReceiveLast => alone(rt, messages::receive_last(rt, size, calls)?),
-            Operation::PassToAReceiver => alone(rt, waiting::pass_to_a_receiver(rt, size, calls)?),
-            Operation::WhileOthersWait => alone(rt, waiting::while_others_wait(rt, size, calls)?),
+            Operation::WhileOthersWait => alone(rt, messages::while_others_wait(rt, size, calls)?),
             Operation::Readings => alone(rt, combining::readings(rt, calls)?),
-            Operation::EachStep => each(rt, combining::each_step(rt, calls)?),
+            Operation::EachStep => listed(rt, &combining::each_step(rt, calls)?),
             Operation::Alone => alone(rt, combining::alone(rt, calls)?),
             Operation::OneOf => alone(rt, combining::one_of(rt, size, calls)?),
             Operation::OfSpace(task) => alone(rt, locked::of_space(rt, task, calls)?),
             Operation::OfService(task) => {
                 alone(rt, service::of_service(rt, workers, task, size, calls)?)
             }
-            Operation::OfMutex(task) => alone(
-                rt,
-                locked::of_mutex(rt, workers, task, size, calls)?,
-            ),
+            Operation::OfMutex(task) => {
+                alone(rt, locked::of_mutex(rt, workers, task, size, calls)?)
+            }
             Operation::AmongIdle => alone(rt, service::among_idle(rt, workers, size, calls)?),
         }
     }
@@ -243,7 +216,8 @@ fn print_rows<W: Threads + Wait + Sync>(
     calls: u32,
 ) -> io::Result<()> {
     let mut measured = Vec::new(rt.alloc());
-    for size in operation.sizes() {
+    let (sizes, unit) = operation.sizes();
+    for size in sizes {
         measured.push((*size, medians(rt, workers, operation, *size, calls)?))?;
     }
     for (column, name) in operation.names().iter().enumerate() {
@@ -251,7 +225,7 @@ fn print_rows<W: Threads + Wait + Sync>(
         for (size, runs) in measured.iter() {
             let run = runs.get(column).copied().unwrap_or(Run::new(0));
             let first = *smallest.get_or_insert(run.tenths_of_nanoseconds());
-            print_row(rt, name, *size, operation.unit(), run, first)?;
+            print_row(rt, name, *size, unit, run, first)?;
         }
     }
     Ok(())

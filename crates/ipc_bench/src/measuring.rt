@@ -29,6 +29,17 @@ impl Run {
         }
     }
 
+    /// So many calls of each of some clients, all made since a moment, and what each client's came to.
+    pub fn of_each(rt: &HostRuntime, start: Instant, each: u32, sums: &[u32]) -> io::Result<Run> {
+        let clients = u32::try_from(sums.len()).unwrap_or(u32::MAX);
+        let mut run = Run::new(each.saturating_mul(clients));
+        run.add_time(rt, start)?;
+        for sum in sums {
+            run.add_answer(*sum);
+        }
+        Ok(run)
+    }
+
     /// Counts the time from a moment to another.
     pub fn add_time_between(&mut self, start: Instant, end: Instant) {
         let passed = end
@@ -55,41 +66,13 @@ impl Run {
     }
 }
 
-/// Two measurements of calls that undo one another, batch by batch.
-#[derive(Clone, Copy, Debug)]
-pub struct Pair {
-    /// The calls of the first half of each batch.
-    pub first: Run,
-    /// The calls of the second half, which undo the first.
-    pub second: Run,
-}
-
-impl Pair {
-    /// Nothing measured yet, of so many calls each.
-    pub fn new(calls: u32) -> Pair {
-        Pair {
-            first: Run::new(calls),
-            second: Run::new(calls),
-        }
-    }
-
-    /// Counts a batch: the first half from a moment to another, the second from there to now.
-    pub fn add_times(
-        &mut self,
-        rt: &HostRuntime,
-        start: Instant,
-        middle: Instant,
-    ) -> io::Result<()> {
-        let end = Instant::now(rt)?;
-        self.first.add_time_between(start, middle);
-        self.second.add_time_between(middle, end);
-        Ok(())
-    }
-
-    /// Counts an answer.
-    pub fn add_answer(&mut self, answer: u32) {
-        self.first.add_answer(answer);
-        self.second.add_answer(answer);
+/// Counts a batch in two measurements of calls that undo one another: the first half of the batch ends at
+/// `middle`.
+pub fn add_batch(runs: &mut [Run; 2], start: Instant, middle: Instant, end: Instant, answer: u32) {
+    runs[0].add_time_between(start, middle);
+    runs[1].add_time_between(middle, end);
+    for run in runs {
+        run.add_answer(answer);
     }
 }
 

@@ -1,14 +1,14 @@
-// Measurements of messages, through a whole namespace and its journal.
+// Measurements of messages and of calls that wait for them, through a whole namespace and its journal.
 
 use crate::measuring::{BATCH, Run};
-use crate::spaces::{answer, msgget, opened};
+use crate::spaces::{answer, answer_in, effects, msgget, opened};
 use ipc_call::{Answer, Call, IPC_NOWAIT, Items};
-use ipc_space::Space;
+use ipc_space::{Effects, Space};
 use std::io;
 use std::time::Instant;
 
-/// How many pairs one namespace serves, since its journal keeps each text that was sent.
-const PAIRS: u32 = 1_024;
+/// How many texts are passed in one namespace, since its journal keeps each that was sent.
+const PASSES: u32 = 1_024;
 
 /// The type of the messages that are received.
 const LAST: i64 = 2;
@@ -16,8 +16,22 @@ const LAST: i64 = 2;
 /// The type of those that stand before them.
 const BEFORE: i64 = 1;
 
+/// How a text goes from client to client.
+#[derive(Clone, Copy, Debug)]
+pub enum Way {
+    /// A client sends it to an empty queue, and receives it.
+    Queue,
+    /// A client waits for it, and another sends it.
+    Receiver,
+}
+
+/// A call of a measurement had another answer than it must have.
+fn unanswered() -> io::Error {
+    io::Error::from(io::ErrorKind::Other)
+}
+
 /// Sends a text to a queue.
-pub fn send(space: &mut Space, id: u32, mtype: i64, text: Items<u8>) -> io::Result<()> {
+fn send(space: &mut Space, id: u32, mtype: i64, text: Items<u8>) -> io::Result<()> {
     let call = Call::MsgSnd {
         id,
         mtype,
@@ -26,12 +40,12 @@ pub fn send(space: &mut Space, id: u32, mtype: i64, text: Items<u8>) -> io::Resu
     };
     match answer(space, call)? {
         Some(Answer::Done) => Ok(()),
-        _ => Err(io::Error::from(io::ErrorKind::Other)),
+        _ => Err(unanswered()),
     }
 }
 
 /// Receives the first text of a type from a queue.
-pub fn receive(space: &mut Space, id: u32, msgtyp: i64) -> io::Result<Items<u8>> {
+fn receive(space: &mut Space, id: u32, msgtyp: i64) -> io::Result<Items<u8>> {
     let call = Call::MsgRcv {
         id,
         size: u64::MAX,
@@ -40,43 +54,137 @@ pub fn receive(space: &mut Space, id: u32, msgtyp: i64) -> io::Result<Items<u8>>
     };
     match answer(space, call)? {
         Some(Answer::Message { text, .. }) => Ok(text),
-        _ => Err(io::Error::from(io::ErrorKind::Other)),
+        _ => Err(unanswered()),
+    }
+}
+
+/// A client begins to wait for a message of a queue.
+fn wait(space: &mut Space, client: u32, id: u32) -> io::Result<()> {
+    let call = Call::MsgRcv {
+        id,
+        size: u64::MAX,
+        msgtyp: 0,
+        flags: 0,
+    };
+    effects(space, client, call)?;
+    if space.is_waiting(client) {
+        Ok(())
+    } else {
+        Err(unanswered())
+    }
+}
+
+/// Client 0 sends a text for which another client waits: the text that it gets.
+fn hand_over(space: &mut Space, id: u32, text: Items<u8>) -> io::Result<Items<u8>> {
+    let call = Call::MsgSnd {
+        id,
+        mtype: LAST,
+        text,
+        flags: 0,
+    };
+    let Some(told) = effects(space, 0, call)? else {
+        return Err(unanswered());
+    };
+    let Effects { mut others, .. } = told;
+    match others.pop().and_then(|(_, reply)| answer_in(reply)) {
+        Some(Answer::Message { text, .. }) => Ok(text),
+        _ => Err(unanswered()),
     }
 }
 
 /// Sends a text to an empty queue and receives it, so many times: the text at the end.
-fn pass_along(
+fn send_and_receive(
     space: &mut Space,
     id: u32,
     mut text: Items<u8>,
-    pairs: u32,
+    passes: u32,
 ) -> io::Result<Items<u8>> {
-    for _ in 0..pairs {
+    for _ in 0..passes {
         send(space, id, LAST, text)?;
         text = receive(space, id, LAST)?;
     }
     Ok(text)
 }
 
-/// Sends a text of so many bytes and receives it, so many times, in a namespace of its own.
-fn add_pairs(rt: &HostRuntime, run: &mut Run, bytes: u32, pairs: u32) -> io::Result<()> {
-    let mut space = opened(rt, 1)?;
-    let id = msgget(&mut space, 0, 0o600)?;
+/// Client 1 begins to wait and client 0 sends it a text, so many times: the text at the end.
+fn wait_and_send(
+    space: &mut Space,
+    id: u32,
+    mut text: Items<u8>,
+    passes: u32,
+) -> io::Result<Items<u8>> {
+    for _ in 0..passes {
+        wait(space, 1, id)?;
+        text = hand_over(space, id, text)?;
+    }
+    Ok(text)
+}
+
+/// Counts the times for which a text of so many bytes is passed in a namespace.
+fn add_passes(
+    rt: &HostRuntime,
+    space: &mut Space,
+    run: &mut Run,
+    way: Way,
+    bytes: u32,
+    passes: u32,
+) -> io::Result<()> {
+    let id = msgget(space, 0, 0o600)?;
     let text = Items::new(vec![in rt.alloc(); 97u8; bytes as usize]?);
-    let start = Instant::now(rt)?;
-    let text = pass_along(&mut space, id, text, pairs)?;
+    let (start, text) = match way {
+        Way::Queue => (
+            Instant::now(rt)?,
+            send_and_receive(space, id, text, passes)?,
+        ),
+        Way::Receiver => (Instant::now(rt)?, wait_and_send(space, id, text, passes)?),
+    };
     run.add_time(rt, start)?;
     run.add_answer(u32::try_from(text.len()).unwrap_or(u32::MAX));
     Ok(())
 }
 
-/// Sends a text of so many bytes to an empty queue and receives it: a pair of calls counts as one.
-pub fn send_and_receive(rt: &HostRuntime, bytes: u32, calls: u32) -> io::Result<Run> {
+/// The same in a namespace of its own.
+fn add_passes_apart(
+    rt: &HostRuntime,
+    run: &mut Run,
+    way: Way,
+    bytes: u32,
+    passes: u32,
+) -> io::Result<()> {
+    let clients = match way {
+        Way::Queue => 1,
+        Way::Receiver => 2,
+    };
+    let mut space = opened(rt, clients)?;
+    add_passes(rt, &mut space, run, way, bytes, passes)
+}
+
+/// Passes a text of so many bytes: the two calls that pass it count as one.
+pub fn pass(rt: &HostRuntime, way: Way, bytes: u32, calls: u32) -> io::Result<Run> {
     let mut run = Run::new(calls);
-    for _ in 0..calls / PAIRS {
-        add_pairs(rt, &mut run, bytes, PAIRS)?;
+    for _ in 0..calls / PASSES {
+        add_passes_apart(rt, &mut run, way, bytes, PASSES)?;
     }
-    add_pairs(rt, &mut run, bytes, calls % PAIRS)?;
+    add_passes_apart(rt, &mut run, way, bytes, calls % PASSES)?;
+    Ok(run)
+}
+
+/// All clients but client 0 begin to wait for a message of one queue.
+fn wait_all(space: &mut Space) -> io::Result<()> {
+    let busy = msgget(space, 0, 0o600)?;
+    for client in 1..space.clients() {
+        wait(space, client, busy)?;
+    }
+    Ok(())
+}
+
+/// Sends an empty message to a queue and receives it, while so many clients wait on another queue: a pair of
+/// calls counts as one.
+pub fn while_others_wait(rt: &HostRuntime, waiting: u32, calls: u32) -> io::Result<Run> {
+    let mut run = Run::new(calls);
+    let mut space = opened(rt, waiting.saturating_add(1))?;
+    wait_all(&mut space)?;
+    add_passes(rt, &mut space, &mut run, Way::Queue, 0, calls)?;
     Ok(run)
 }
 
@@ -116,17 +224,26 @@ fn send_to_each(rt: &HostRuntime, space: &mut Space, run: &mut Run, ids: &[u32])
     Ok(())
 }
 
-/// Receives the last of so many messages, which alone has the type that is asked for, from each queue of a
-/// batch, and sends it again.
-pub fn receive_last(rt: &HostRuntime, messages: u32, calls: u32) -> io::Result<Run> {
-    let mut space = opened(rt, 1)?;
-    let ids = filled_queues(rt, &mut space, messages)?;
+/// Receives the last message of each queue of a batch, and sends it again.
+fn receive_batches(
+    rt: &HostRuntime,
+    space: &mut Space,
+    messages: u32,
+    calls: u32,
+) -> io::Result<Run> {
+    let ids = filled_queues(rt, space, messages)?;
     let mut run = Run::new(calls / BATCH * BATCH);
     for _ in 0..calls / BATCH {
         let start = Instant::now(rt)?;
-        receive_from_each(&mut space, ids.as_slice())?;
+        receive_from_each(space, ids.as_slice())?;
         run.add_time(rt, start)?;
-        send_to_each(rt, &mut space, &mut run, ids.as_slice())?;
+        send_to_each(rt, space, &mut run, ids.as_slice())?;
     }
     Ok(run)
+}
+
+/// Receives the last of so many messages, which alone has the type that is asked for.
+pub fn receive_last(rt: &HostRuntime, messages: u32, calls: u32) -> io::Result<Run> {
+    let mut space = opened(rt, 1)?;
+    receive_batches(rt, &mut space, messages, calls)
 }

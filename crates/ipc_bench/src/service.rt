@@ -58,14 +58,19 @@ fn begin(service: &Service, unjoined: Unjoined, alloc: Global, task: Task) -> Op
     }
 }
 
-/// So many calls of a client: how many were answered as they should.
-fn ask_often(worker: Worker, service: &Service, calls: u32) -> u32
-    requires { IsClientOf service.now worker.idle }
+/// So many calls of a client that joined: how many were answered as they should.
+fn ask_often(worker: Option<Worker>, service: &Service, calls: u32) -> u32
+    requires { IfSome worker (λ x. IsClientOf service.now x.idle) }
 {
-    let Worker {
-        mut idle,
-        mut asker,
-    } = worker;
+    let Some(
+        Worker {
+            mut idle,
+            mut asker,
+        },
+    ) = worker
+    else {
+        return 0;
+    };
     let mut answered: u32 = 0;
     for _ in 0..calls {
         match call(service, idle, asker.next()) {
@@ -77,16 +82,6 @@ fn ask_often(worker: Worker, service: &Service, calls: u32) -> u32
         }
     }
     answered
-}
-
-/// The same of a client that joined.
-fn ask_if_there(worker: Option<Worker>, service: &Service, calls: u32) -> u32
-    requires { IfSome worker (λ x. IsClientOf service.now x.idle) }
-{
-    match worker {
-        Some(worker) => ask_often(worker, service, calls),
-        None => 0,
-    }
 }
 
 /// Each client joins, in a thread of its own.
@@ -124,7 +119,7 @@ fn asked<R: Threads + Sync>(
         workers,
         &|worker: Option<Worker>| -> u32
             requires { IfSome worker (λ x. IsClientOf service.now x.idle) }
-        { ask_if_there(worker, service, calls) },
+        { ask_often(worker, service, calls) },
     )
 }
 
@@ -150,14 +145,9 @@ pub fn of_service<W: Threads + Sync>(
     let each = calls / clients.max(1);
     let (service, unjoined) = started(rt, clients)?;
     let workers = begun(threads, &service, unjoined, rt.alloc(), task)?;
-    let mut run = Run::new(each.saturating_mul(clients));
     let start = Instant::now(rt)?;
     let answered = asked(threads, &service, workers, each)?;
-    run.add_time(rt, start)?;
-    for count in answered {
-        run.add_answer(count);
-    }
-    Ok(run)
+    Run::of_each(rt, start, each, answered.as_slice())
 }
 
 /// One client of so many that joined gets a queue by its key; the others ask nothing.
@@ -169,12 +159,10 @@ pub fn among_idle<W: Threads + Sync>(
 ) -> io::Result<Run> {
     let (service, unjoined) = started(rt, clients)?;
     let mut workers = begun(threads, &service, unjoined, rt.alloc(), Task::Get)?;
-    let mut run = Run::new(calls);
-    if let Some(worker) = workers.pop() {
-        let start = Instant::now(rt)?;
-        let answered = ask_if_there(worker, &service, calls);
-        run.add_time(rt, start)?;
-        run.add_answer(answered);
-    }
-    Ok(run)
+    let Some(worker) = workers.pop() else {
+        return Ok(Run::new(calls));
+    };
+    let start = Instant::now(rt)?;
+    let answered = ask_often(worker, &service, calls);
+    Run::of_each(rt, start, calls, &[answered])
 }

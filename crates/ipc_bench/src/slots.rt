@@ -1,6 +1,6 @@
 // Measurements of the table of slots.
 
-use crate::measuring::{BATCH, Numbers, Pair, Run};
+use crate::measuring::{BATCH, Numbers, Run, add_batch};
 use ipc_call::Limit;
 use ipc_ids::{InsertFault, Slots};
 use std::alloc::AllocError;
@@ -90,18 +90,18 @@ pub fn next_id(rt: &HostRuntime, size: u32, calls: u32) -> io::Result<Run> {
 
 /// Removes objects batch by batch, and fills the lowest usable slots, which are theirs: what the first took,
 /// and what the second.
-pub fn remove_and_insert(rt: &HostRuntime, size: u32, calls: u32) -> io::Result<Pair> {
+pub fn remove_and_insert(rt: &HostRuntime, size: u32, calls: u32) -> io::Result<[Run; 2]> {
     let mut filled = Filled::new(rt, size)?;
     let mut numbers = Numbers::new();
-    let mut pair = Pair::new(calls / BATCH * BATCH);
+    let mut runs = [Run::new(calls / BATCH * BATCH); 2];
     for _ in 0..calls / BATCH {
         let first = numbers.below(size);
         let start = Instant::now(rt)?;
         filled.remove_batch(first, size);
         let middle = Instant::now(rt)?;
         filled.insert_batch()?;
-        pair.add_times(rt, start, middle)?;
-        pair.add_answer(filled.id_of(first));
+        let end = Instant::now(rt)?;
+        add_batch(&mut runs, start, middle, end, filled.id_of(first));
     }
-    Ok(pair)
+    Ok(runs)
 }

@@ -74,18 +74,23 @@ pub fn msgget(space: &mut Space, key: u32, flags: u32) -> io::Result<u32> {
     }
 }
 
-/// Gets the queues of keys that are there.
-pub fn get_of_a_key(rt: &HostRuntime, size: u32, calls: u32) -> io::Result<Run> {
-    let mut space = opened(rt, 1)?;
+/// Makes so many queues, and gets them by their keys.
+fn get_each(rt: &HostRuntime, space: &mut Space, size: u32, calls: u32) -> io::Result<Run> {
     for number in 0..size {
-        msgget(&mut space, key_of(number), IPC_CREAT | 0o600)?;
+        msgget(space, key_of(number), IPC_CREAT | 0o600)?;
     }
     let mut numbers = Numbers::new();
     let mut run = Run::new(calls);
     let start = Instant::now(rt)?;
     for _ in 0..calls {
-        run.add_answer(msgget(&mut space, key_of(numbers.below(size)), 0o600)?);
+        run.add_answer(msgget(space, key_of(numbers.below(size)), 0o600)?);
     }
     run.add_time(rt, start)?;
     Ok(run)
+}
+
+/// Gets the queues of keys that are there.
+pub fn get_of_a_key(rt: &HostRuntime, size: u32, calls: u32) -> io::Result<Run> {
+    let mut space = opened(rt, 1)?;
+    get_each(rt, &mut space, size, calls)
 }
