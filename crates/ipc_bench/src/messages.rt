@@ -169,23 +169,22 @@ pub fn pass(rt: &HostRuntime, way: Way, bytes: u32, calls: u32) -> io::Result<Ru
     Ok(run)
 }
 
-/// All clients but client 0 begin to wait for a message of one queue.
-fn wait_all(space: &mut Space) -> io::Result<()> {
+/// Client 0 passes an empty message, while all others wait for one of another queue.
+fn pass_beside_waiting(rt: &HostRuntime, space: &mut Space, calls: u32) -> io::Result<Run> {
     let busy = msgget(space, 0, 0o600)?;
     for client in 1..space.clients() {
         wait(space, client, busy)?;
     }
-    Ok(())
+    let mut run = Run::new(calls);
+    add_passes(rt, space, &mut run, Way::Queue, 0, calls)?;
+    Ok(run)
 }
 
 /// Sends an empty message to a queue and receives it, while so many clients wait on another queue: a pair of
 /// calls counts as one.
 pub fn while_others_wait(rt: &HostRuntime, waiting: u32, calls: u32) -> io::Result<Run> {
-    let mut run = Run::new(calls);
     let mut space = opened(rt, waiting.saturating_add(1))?;
-    wait_all(&mut space)?;
-    add_passes(rt, &mut space, &mut run, Way::Queue, 0, calls)?;
-    Ok(run)
+    pass_beside_waiting(rt, &mut space, calls)
 }
 
 /// Makes a queue with so many messages, of which the last alone has its type.
