@@ -22,7 +22,7 @@ use Rattle.pub_list.specs.Asking.{IsCollected}
 use Rattle.pub_list.specs.Records.{state_at, number_of}
 use Rattle.pub_rule.specs.Work.{IsClient, IsTaken}
 use Rattle.pub_list.proofs.Looking.{number_at, looks, below_five, looked_joined}
-use Rattle.pub_list.proofs.Working.{place_in, slot_in, call_in, alone, rejoined}
+use Rattle.pub_list.proofs.Working.{place_in, slot_in, empty_there, call_in, alone, rejoined}
 
 module _ {E C R S : Type 0} where
   -- the seat was old, mid when its slot had the call, and is new
@@ -30,6 +30,9 @@ module _ {E C R S : Type 0} where
       (put : mid.me ≡ (old.me.0, (client, slots.Call call) ∷ rest old.me.1)) where
     abbrev hands_before : old.me.1 ≡ (client, slots.Empty) ∷ []
     hands_before = alone client (old.table_id.slots - 1) old.me.0.work old.me.1 (Free client) own.working idle free
+
+    pub was_empty : (x : Slot C R S) → old.me.1 ≡ (client, x) ∷ rest old.me.1 → x ≡ slots.Empty
+    was_empty x was = empty_there client old.me.1 [] (rest old.me.1) x hands_before was
 
     pub hands_put : mid.me.1 ≡ (client, slots.Call call) ∷ rest mid.me.1
     hands_put = ap (λ (m : Me (Slot C R S) (View (Work E C R))). m.1) put ∙ ap (λ (m : Me (Slot C R S) (View (Work E C R))). (client, slots.Call call) ∷ rest m.1) (sym put)

@@ -24,7 +24,7 @@ use Rattle.pub_rule.proofs.Resuming.{refuse, hand}
 use Rattle.pub_list.specs.Joined.{IsJoined, IsWorking, own_slot, with_state, with_taken}
 use Rattle.pub_list.specs.Combining.{MayAnswer, MayPark, OwesNothing}
 use Rattle.pub_list.specs.declared.asking.Answer.TheVariants as answers
-use Rattle.pub_list.proofs.Working.{with_both, rejoined}
+use Rattle.pub_list.proofs.Working.{empty_there, with_both, rejoined}
 
 abbrev state_of : {C R S : Type 0} → Slot C R S → Option S
 state_of (slots.State x) = some x
@@ -69,6 +69,9 @@ module _ {E C R S : Type 0} where
 
     pub hands_were : old.me.1 ≡ (r, slots.Empty) ∷ others
     hands_were = with_both p (old.table_id.slots - 1) old.me.0.work old.me.1 old.me.0.work.serving own.working holds refl ∙ in_front r old.me.0.work.serving others takes
+
+    pub was_empty : (x : Slot C R S) → old.me.1 ≡ (r, x) ∷ rest old.me.1 → x ≡ slots.Empty
+    was_empty x was = empty_there r old.me.1 others (rest old.me.1) x hands_were was
 
     pub holds_one : (x : Slot C R S) × (old.me.1 ≡ (r, x) ∷ rest old.me.1)
     holds_one = (slots.Empty, hands_were ∙ ap (λ (l : List (ℕ × Slot C R S)). (r, slots.Empty) ∷ rest l) (sym hands_were))

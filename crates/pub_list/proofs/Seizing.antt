@@ -19,7 +19,7 @@ use Rattle.pub_rule.proofs.Locking.{seize, peek_lock, release}
 use Rattle.pub_list.specs.Joined.{IsJoined, IsWorking, own_slot, with_state, with_taken}
 use Rattle.pub_list.specs.Combining.{IsCombining, OwesNothing, IsSeized}
 use Rattle.pub_list.proofs.Seats.{told_still}
-use Rattle.pub_list.proofs.Working.{slot_in, is_client, with_both, rejoined}
+use Rattle.pub_list.proofs.Working.{slot_in, empty_there, is_client, with_both, rejoined}
 
 -- the state in a slot
 abbrev state_in : {C R S : Type 0} → Slot C R S → Option S
@@ -96,6 +96,9 @@ module _ {E C R S : Type 0} where
   module _ (client clients : ℕ) (state : S) (old mid : Seat (Slot C R S) (View (Work E C R))) (own : IsJoined client old) (combines : IsCombining old.me.0) (counted : old.table_id.slots - 1 ≡ clients) where
     abbrev hands_were : old.me.1 ≡ (clients, slots.Empty) ∷ own_slot old.me.0.work.stage
     hands_were = with_both client (old.table_id.slots - 1) old.me.0.work old.me.1 Nothing own.working combines.0 combines.1 ∙ ap (λ (z : ℕ). (z, slots.Empty) ∷ own_slot old.me.0.work.stage) counted
+
+    pub was_empty : (x : Slot C R S) → old.me.1 ≡ (clients, x) ∷ rest old.me.1 → x ≡ slots.Empty
+    was_empty x was = empty_there clients old.me.1 (own_slot old.me.0.work.stage) (rest old.me.1) x hands_were was
 
     pub holds_slot : (x : Slot C R S) × (old.me.1 ≡ (clients, x) ∷ rest old.me.1)
     holds_slot = (slots.Empty, hands_were ∙ ap (λ (l : List (ℕ × Slot C R S)). (clients, slots.Empty) ∷ rest l) (sym hands_were))

@@ -34,6 +34,10 @@ module _ {C R S : Type 0} where
   slot_in [] = slots.Empty
   slot_in (x ∷ xs) = x.1
 
+  -- a slot in front that is known to be empty
+  pub empty_there : (r : ℕ) (hands others more : List (ℕ × Slot C R S)) (x : Slot C R S) → hands ≡ (r, slots.Empty) ∷ others → hands ≡ (r, x) ∷ more → x ≡ slots.Empty
+  empty_there r hands others more x empty was = ap slot_in (sym was ∙ empty)
+
   -- the call in it, else d
   abbrev pub call_of : C → Slot C R S → C
   call_of d (slots.Call c) = c

@@ -23,7 +23,7 @@ ghost use Rattle.pub_list.specs.Combining.{
 
 use crate::asking::Answer;
 use crate::joined::Joined;
-use crate::lists::{List, Record};
+use crate::lists::{List, Record, let_go};
 use crate::records::WordState;
 use pub_rule::{
     ANSWERED, AnswerCall, PARKED, POSTED, ParkCall, PeekAt, PeekLock, RefuseCall, ReleaseState,
@@ -192,7 +192,7 @@ impl<S: Served> Joined<S> {
         ensures state { result ≡ state }
     {
         let table = &list.table.shared;
-        table.exchange(&mut self.seat, client as usize, Slot::Reply(reply));
+        let_go::<S>(table.exchange(&mut self.seat, client as usize, Slot::Reply(reply)));
         let said = Slot::State(state);
         table.compare_exchange_with::<AnswerCall>(
             &mut self.seat,
@@ -211,7 +211,7 @@ impl<S: Served> Joined<S> {
         ensures refused { view self.new ≡ with_work (refusing client (work self.old)) (view self.old) }
     {
         let table = &list.table.shared;
-        table.exchange(&mut self.seat, client as usize, Slot::Memory);
+        let_go::<S>(table.exchange(&mut self.seat, client as usize, Slot::Memory));
         table.store::<RefuseCall>(&mut self.seat, state_word(client), ANSWERED);
     }
 
@@ -249,7 +249,7 @@ impl<S: Served> Joined<S> {
         ensures released { IsReleased (view self.old) (view self.new) }
     {
         let table = &list.table.shared;
-        table.exchange(&mut self.seat, list.clients as usize, Slot::State(state));
+        let_go::<S>(table.exchange(&mut self.seat, list.clients as usize, Slot::State(state)));
         table.store::<ReleaseState>(&mut self.seat, lock_word(), 0);
     }
 }

@@ -1,5 +1,6 @@
 //! The list with its memory.
 ghost use Rattle.std.specs.Prelude.{◌≡◌, ◌≤◌};
+ghost use Rattle.pub_rule.specs.declared.served.Slot.TheVariants as slots;
 ghost use Rattle.pub_list.specs.Lists.{IsSized};
 
 use atomic_table::{Seat, Table};
@@ -38,5 +39,15 @@ impl<S: Served> List<S> {
         ensures { (result ≡ self.now.clients) × (1 ≤ result) × (result ≤ 64) }
     {
         self.clients
+    }
+}
+
+// Lets go of what an empty slot had. That it is known to be empty spares its reading.
+pub(crate) fn let_go<S: Served>(before: Record<S>)
+    requires { before ≡ slots.Empty }
+{
+    match before {
+        Slot::Empty => {}
+        _ => unreachable!(),
     }
 }

@@ -2,11 +2,14 @@ use Rattle.std.proofs.Common.{◌∙◌, sym, refl, ap, subst, arith}
 use Rattle.pub_rule.proofs.Numbers.{state_within}
 use Rattle.pub_rule.specs.Work.{IsClient, IsTaken}
 use Rattle.pub_list.proofs.Working.{is_client}
-use Rattle.pub_list.proofs.Replying.{holds_one, below_all, hands_put, refuses, refused_joined, word_refuses}
+use Rattle.pub_list.proofs.Replying.{was_empty, holds_one, below_all, hands_put, refuses, refused_joined, word_refuses}
 use Rattle.pub_list.proofs.joined.Joined.refuse.Goals as goal
 
 pub exchange-requires : goal.exchange-requires
 exchange-requires g c = let self = c.args.self.now in let list = c.args.list.now in (c.requires.list, holds_one self.client c.args.client self.seat self.own c.requires.took.0 (subst (IsTaken c.args.client) (sym c.requires.took.2) refl))
+
+pub let_go-requires : goal.let_go-requires
+let_go-requires g c = let self = c.args.self.now in was_empty self.client c.args.client self.seat self.own c.requires.took.0 (subst (IsTaken c.args.client) (sym c.requires.took.2) refl) c.exchange.result c.exchange.ensures.2
 
 pub store-requires : goal.store-requires
 store-requires g c = let self = c.args.self.now in let list = c.args.list.now in let put = c.exchange.ensures in let sized = list.sized.0 in let word = c.state_word.ensures in let within = state_within c.args.client list.clients (below_all self.client c.args.client self.seat self.own c.requires.took.0 (subst (IsTaken c.args.client) (sym c.requires.took.2) refl) _ list.clients (ap (λ z. z.slots) c.requires.list) list.sized.1) in let still = sym (ap (λ m. m.0) put.3) in (

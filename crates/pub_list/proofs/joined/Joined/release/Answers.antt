@@ -3,11 +3,14 @@ use Rattle.pub_rule.proofs.Numbers.{lock_within}
 use Rattle.pub_rule.specs.Work.{IsClient}
 use Rattle.pub_list.specs.Combining.{IsCombining, OwesNothing}
 use Rattle.pub_list.proofs.Working.{is_client}
-use Rattle.pub_list.proofs.Seizing.{holds_slot, hands_put, releases, released_joined, lock_releases}
+use Rattle.pub_list.proofs.Seizing.{was_empty, holds_slot, hands_put, releases, released_joined, lock_releases}
 use Rattle.pub_list.proofs.joined.Joined.release.Goals as goal
 
 pub exchange-requires : goal.exchange-requires
 exchange-requires g c = let self = c.args.self.now in let list = c.args.list.now in (c.requires.list, holds_slot self.client list.clients c.args.state self.seat self.seat self.own c.requires.combines (let at = ap (λ z. z.slots) c.requires.list in let sized = list.sized.1 in omega arith))
+
+pub let_go-requires : goal.let_go-requires
+let_go-requires g c = let self = c.args.self.now in let list = c.args.list.now in was_empty self.client list.clients c.args.state self.seat self.seat self.own c.requires.combines (let at = ap (λ z. z.slots) c.requires.list in let sized = list.sized.1 in omega arith) c.exchange.result c.exchange.ensures.2
 
 pub store-requires : goal.store-requires
 store-requires g c = let self = c.args.self.now in let list = c.args.list.now in let put = c.exchange.ensures in let sized = list.sized.0 in let word = c.lock_word.ensures in let within = lock_within list.clients in

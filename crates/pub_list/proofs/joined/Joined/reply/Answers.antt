@@ -2,13 +2,16 @@ use Rattle.std.proofs.Common.{◌∙◌, sym, ap, subst, arith}
 use Rattle.pub_rule.proofs.Numbers.{state_within}
 use Rattle.pub_rule.specs.Work.{IsClient}
 use Rattle.pub_list.proofs.Working.{is_client}
-use Rattle.pub_list.proofs.Replying.{holds_one, below_all, hands_put, taken_of, replies_now, replied_joined, word_replies}
+use Rattle.pub_list.proofs.Replying.{was_empty, holds_one, below_all, hands_put, taken_of, replies_now, replied_joined, word_replies}
 use Rattle.pub_list.specs.Combining.{MayAnswer}
 use Rattle.pub_list.specs.declared.asking.Answer.TheVariants as answers
 use Rattle.pub_list.proofs.joined.Joined.reply.Goals as goal
 
 pub exchange-requires : goal.exchange-requires
 exchange-requires g c = let self = c.args.self.now in let list = c.args.list.now in (c.requires.list, holds_one self.client c.args.client self.seat self.own c.requires.combines (taken_of g.S.Served.history g.S.Served.legal g.S.Served.client g.S.Served.call list.clients c.args.client self.seat.me.0 c.args.state g.S.Served.replies c.args.reply c.requires.answer))
+
+pub let_go-requires : goal.let_go-requires
+let_go-requires g c = let self = c.args.self.now in let list = c.args.list.now in was_empty self.client c.args.client self.seat self.own c.requires.combines (taken_of g.S.Served.history g.S.Served.legal g.S.Served.client g.S.Served.call list.clients c.args.client self.seat.me.0 c.args.state g.S.Served.replies c.args.reply c.requires.answer) c.exchange.result c.exchange.ensures.2
 
 pub compare_exchange_with-requires : goal.compare_exchange_with-requires
 compare_exchange_with-requires g c = let self = c.args.self.now in let list = c.args.list.now in let put = c.exchange.ensures in let sized = list.sized.0 in let word = c.state_word.ensures in let within = state_within c.args.client list.clients (below_all self.client c.args.client self.seat self.own c.requires.combines (taken_of g.S.Served.history g.S.Served.legal g.S.Served.client g.S.Served.call list.clients c.args.client self.seat.me.0 c.args.state g.S.Served.replies c.args.reply c.requires.answer) _ list.clients (ap (λ z. z.slots) c.requires.list) list.sized.1) in let still = sym (ap (λ m. m.0) put.3) in (
