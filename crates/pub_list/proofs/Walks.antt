@@ -65,3 +65,26 @@ pub at_client : (n : ℕ) (list : List ℕ) (count c : ℕ) (at : Option ℕ) (m
     → IsOn c list × (count < length list) × (count < length met) × Walked list count (Some c) met before
 at_client n list count c at met before l room w is = let w' = subst (λ (o : Option ℕ). Walked list count o met before) is w in let t = after_drop list count c l.0 w'.here in
     let below = t.1 in let all = at_most n list l in let long = w.long in (t.0, t.1, omega arith, w')
+
+-- a list of n clients of which `count` were visited, and `at` is the next
+pub record IsAt (n : ℕ) (list : List ℕ) (count : ℕ) (at : Option ℕ) : Type 0 where
+  pub listed : IsListOf n list
+  pub few : count ≤ length list
+  pub here : at ≡ head_of (drop count list)
+
+pub begins : (n : ℕ) (list : List ℕ) (at : Option ℕ) → IsListOf n list → at ≡ head_of list → IsAt n list 0 at
+begins n list at listed e = record { listed = listed; few = omega arith; here = e }
+
+pub at_next : (n : ℕ) (list : List ℕ) (count c : ℕ) (at : Option ℕ) → IsAt n list count at → at ≡ Some c
+    → IsOn c list × (c < n) × (count < length list) × (length list ≤ n) × (take (count + 1) list ≡ take count list ++ c ∷ [])
+at_next n list count c at i is = let t = after_drop list count c i.listed.0 (sym is ∙ i.here) in (t.0, i.listed.1 c t.0, t.1, at_most n list i.listed, t.3)
+
+pub moves_on : (n : ℕ) (list again : List ℕ) (count c : ℕ) (at next : Option ℕ) → IsAt n list count at → at ≡ Some c → again ≡ list → next ≡ head_of (after c again) → IsAt n again (count + 1) next
+moves_on n list again count c at next i is same e = let t = after_drop list count c i.listed.0 (sym is ∙ i.here) in let below = t.1 in subst (λ (l : List ℕ). IsAt n l (count + 1) next) (sym same) record {
+  listed = i.listed;
+  few = omega arith;
+  here = e ∙ (ap (λ (l : List ℕ). head_of (after c l)) same ∙ ap head_of t.2);
+}
+
+pub at_end : (n : ℕ) (list : List ℕ) (count : ℕ) (at : Option ℕ) → IsAt n list count at → at ≡ None → take count list ≡ list
+at_end n list count at i is = let few = i.few in let size = length-drop count list in let left = none_left (drop count list) (sym is ∙ i.here) in take_all count list (omega arith)

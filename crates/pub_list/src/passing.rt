@@ -67,13 +67,15 @@ impl<S: Serves> Joined<S> {
         ensures busy { IfErr result (λ c. HasMet list.now.clients self.old.client c (view self.old) (view self.new)) }
     {
         let mut state = self.seize(list)?;
-        let mut met = [0; 64];
-        let count = self.walk(list, &mut met);
-        for i in 0..count {
-            if i > 0 {
-                gate.between(i as u32);
+        let mut visited: u32 = 0;
+        let mut at = self.first(list);
+        while let Some(client) = at {
+            if visited > 0 {
+                gate.between(visited);
             }
-            state = self.visit(list, met[i], state);
+            state = self.visit(list, client, state);
+            visited += 1;
+            at = self.next(list, client);
         }
         self.release(list, state);
         Ok(())
