@@ -11,6 +11,9 @@ use crate::states::{Idle, InFlight, Service, Unjoined};
 use ipc_call::{Call, Reply};
 use pub_list::{Answer, OpenGate, PassGate, WordState};
 
+/// How often a client looks at its own record while another one combines, before it gives up this try.
+const LOOKS: u32 = 32;
+
 /// How far a call in flight is.
 #[derive(Drop)]
 pub enum Seen {
@@ -118,7 +121,8 @@ impl InFlight {
         Polled::Still(InFlight { joined }, seen)
     }
 
-    /// Tries once to combine, and serves each posted record where it could.
+    /// Tries once to combine, and serves each posted record where it could. Where another client combines, it
+    /// looks for a moment whether that one serves its call.
     pub fn combine(&mut self, service: &Service) -> Pass
         requires { IsOf service.now.list self.old.joined }
         ensures service { IsOf service.now.list self.new.joined }
@@ -137,7 +141,10 @@ impl InFlight {
     {
         match self.joined.combine_with(&service.list, gate) {
             Ok(()) => Pass::Passed,
-            Err(client) => Pass::Busy(client),
+            Err(client) => {
+                self.joined.linger(&service.list, LOOKS);
+                Pass::Busy(client)
+            }
         }
     }
 }

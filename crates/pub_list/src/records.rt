@@ -6,6 +6,7 @@ ghost use Rattle.pub_list.specs.Records.{state_at, IsLooked};
 use crate::joined::Joined;
 use crate::lists::List;
 use pub_rule::{FREE, LookAt, LookOwn, PARKED, POSTED, Served, TAKEN, state_word};
+use std::hint;
 
 /// How far a client's publication record is (flat combining: Hendler, Incze, Shavit, Tzafrir 2010). That a
 /// call may be parked is the project's own.
@@ -38,6 +39,23 @@ impl<S: Served> Joined<S> {
             self.look_own(list)
         } else {
             self.look_at(list, client)
+        }
+    }
+
+    /// Looks at the own record, at most so many times, until its call is answered or parked: while another
+    /// client combines, it is that one which serves the call (flat combining: Hendler, Incze, Shavit, Tzafrir
+    /// 2010). It tells nothing, and leaves the lock's cache line alone.
+    pub fn linger(&self, list: &List<S>, looks: u32)
+        requires { BelongsTo list.now self.now }
+    {
+        let table = &list.table.shared;
+        let word = state_word(self.client);
+        for _ in 0..looks {
+            let found = table.peek(word);
+            if found != POSTED && found != TAKEN {
+                return;
+            }
+            hint::spin_loop();
         }
     }
 
