@@ -1,5 +1,6 @@
 -- That the entries of a service meet the laws of a served state.
-use Rattle.std.proofs.Common.{◌≡◌, ◌≢◌, ◌⊎◌, ℕ, ◌+◌, ◌≤◌, cond, List, [], ◌∷◌, ◌++◌, map, length, refl, sym, ap, ◌∙◌, subst, inl, inr, arith, append-nil, eq-eqb, ne_eqb, ⊎_elim}
+use Rattle.std.proofs.Common.{◌≡◌, ◌≢◌, ◌⊎◌, ℕ, ◌+◌, ◌≤◌, cond, List, [], ◌∷◌, ◌++◌, map, length}
+use Rattle.std.proofs.Common.{refl, sym, ap, ◌∙◌, subst, inl, inr, arith, append-nil, eq-eqb, ne_eqb, ⊎_elim}
 use Rattle.std.specs.Prelude.{◌==◌}
 use Rattle.ipc_call.specs.declared.replies.Reply.{Reply}
 use Rattle.ipc_model.specs.Step.{Event}
@@ -10,7 +11,8 @@ use Rattle.ipc_space.proofs.Balance.{own_push, replies_push, told_once, no_more_
 use Rattle.pub_rule.specs.Work.{GoesOn}
 use Rattle.ipc_combiner.specs.declared.entries.Entry.{Entry}
 use Rattle.ipc_combiner.specs.declared.entries.Entry.TheVariants.{Opened, Called}
-use Rattle.ipc_combiner.specs.Entries.{called, entries_of, events_in, history_in, legal, client_of, call_of, own, replies, has_clients}
+use Rattle.ipc_combiner.specs.Entries.{called, entries_of, events_in, history_in, legal, has_clients}
+use Rattle.ipc_combiner.specs.Entries.{client_of, call_of, own, replies}
 
 events-called : (es : List Event) → events_in (map called es) ≡ es
 events-called [] = refl
@@ -57,26 +59,38 @@ as_call h (Opened limits clients) was is =
     absurd (omega (arith, both, all, one, before, none))
 
 pub push_call : (h : List Entry) (e : Event) → legal h → history_in (h ++ called e ∷ []) ≡ with_event (history_in h) e
-push_call h e was = ap (λ l. history_in (l ++ called e ∷ [])) was.0 ∙ ap history_in (sym (entries_push (history_in h) e)) ∙ history-entries (with_event (history_in h) e)
+push_call h e was = ap (λ l. history_in (l ++ called e ∷ [])) was.0
+    ∙ ap history_in (sym (entries_push (history_in h) e)) ∙ history-entries (with_event (history_in h) e)
 
-own_called : (h : List Entry) (e : Event) (r : ℕ) → legal h → own (h ++ called e ∷ []) r ≡ own h r ++ cond (e.client == r) ((e.now, e.call) ∷ []) []
+own_called : (h : List Entry) (e : Event) (r : ℕ) → legal h
+    → own (h ++ called e ∷ []) r ≡ own h r ++ cond (e.client == r) ((e.now, e.call) ∷ []) []
 own_called h e r was = ap (λ (z : History). model.own z r) (push_call h e was) ∙ own_push (history_in h) e r
 
-pub replies_called : (h : List Entry) (e : Event) (r : ℕ) → legal h → replies (h ++ called e ∷ []) r ≡ replies h r ++ replies_in (told_of (history_in h) e) r
+pub replies_called : (h : List Entry) (e : Event) (r : ℕ) → legal h
+    → replies (h ++ called e ∷ []) r ≡ replies h r ++ replies_in (told_of (history_in h) e) r
 replies_called h e r was = ap (λ (z : History). model.replies z r) (push_call h e was) ∙ replies_push (history_in h) e r
 
 -- the laws
-own_now : (h : List Entry) (e : Event) → legal h → own (h ++ called e ∷ []) e.client ≡ own h e.client ++ (e.now, e.call) ∷ []
-own_now h e was = own_called h e e.client was ∙ ap (λ b. own h e.client ++ cond b ((e.now, e.call) ∷ []) []) (eq-eqb e.client e.client refl)
+own_now : (h : List Entry) (e : Event) → legal h
+    → own (h ++ called e ∷ []) e.client ≡ own h e.client ++ (e.now, e.call) ∷ []
+own_now h e was = own_called h e e.client was
+    ∙ ap (λ b. own h e.client ++ cond b ((e.now, e.call) ∷ []) []) (eq-eqb e.client e.client refl)
 
-pub own_call : (h : List Entry) (e : Entry) → legal h → legal (h ++ e ∷ []) → own (h ++ e ∷ []) (client_of e) ≡ own h (client_of e) ++ call_of e ∷ []
-own_call h e was is = let t = as_call h e was is in subst (λ (x : Entry). own (h ++ x ∷ []) (client_of x) ≡ own h (client_of x) ++ call_of x ∷ []) (sym t.1) (own_now h t.0 was)
+pub own_call : (h : List Entry) (e : Entry) → legal h → legal (h ++ e ∷ [])
+    → own (h ++ e ∷ []) (client_of e) ≡ own h (client_of e) ++ call_of e ∷ []
+own_call h e was is = let t = as_call h e was is in
+    subst (λ (x : Entry). own (h ++ x ∷ []) (client_of x) ≡ own h (client_of x) ++ call_of x ∷ []) (sym t.1)
+    (own_now h t.0 was)
 
 other_now : (h : List Entry) (e : Event) (r : ℕ) → legal h → r ≢ e.client → own (h ++ called e ∷ []) r ≡ own h r
-other_now h e r was other = own_called h e r was ∙ ap (λ b. own h r ++ cond b ((e.now, e.call) ∷ []) []) (ne_eqb e.client r (λ same. other (sym same))) ∙ append-nil (own h r)
+other_now h e r was other = own_called h e r was
+    ∙ ap (λ b. own h r ++ cond b ((e.now, e.call) ∷ []) []) (ne_eqb e.client r (λ same. other (sym same)))
+    ∙ append-nil (own h r)
 
-pub own_other : (h : List Entry) (e : Entry) (r : ℕ) → legal h → legal (h ++ e ∷ []) → r ≢ client_of e → own (h ++ e ∷ []) r ≡ own h r
-own_other h e r was is other = let t = as_call h e was is in subst (λ (x : Entry). r ≢ client_of x → own (h ++ x ∷ []) r ≡ own h r) (sym t.1) (other_now h t.0 r was) other
+pub own_other : (h : List Entry) (e : Entry) (r : ℕ) → legal h → legal (h ++ e ∷ []) → r ≢ client_of e
+    → own (h ++ e ∷ []) r ≡ own h r
+own_other h e r was is other = let t = as_call h e was is in
+    subst (λ (x : Entry). r ≢ client_of x → own (h ++ x ∷ []) r ≡ own h r) (sym t.1) (other_now h t.0 r was) other
 
 abbrev OneMore : List Reply → List Reply → Type 0
 OneMore more l = (more ≡ l) ⊎ ((x : Reply) × (more ≡ l ++ x ∷ []))
@@ -86,17 +100,23 @@ one_of [] few = inl refl
 one_of (x ∷ []) few = inr (x, refl)
 one_of (x ∷ y ∷ l) few = absurd (omega (arith, few))
 
-more_now : (h : List Entry) (e : Event) (r : ℕ) → legal h → legal (h ++ called e ∷ []) → OneMore (replies (h ++ called e ∷ []) r) (replies h r)
+more_now : (h : List Entry) (e : Event) (r : ℕ) → legal h → legal (h ++ called e ∷ [])
+    → OneMore (replies (h ++ called e ∷ []) r) (replies h r)
 more_now h e r was is =
     let few = told_once (history_in h) e r (subst IsLegal (push_call h e was) is.1) in
     let now = replies_called h e r was in
     ⊎_elim
-    (λ (none : replies_in (told_of (history_in h) e) r ≡ []). inl (now ∙ ap (λ l. replies h r ++ l) none ∙ append-nil (replies h r)))
-    (λ (one : (x : Reply) × (replies_in (told_of (history_in h) e) r ≡ x ∷ [])). inr (one.0, now ∙ ap (λ l. replies h r ++ l) one.1))
+    (λ (none : replies_in (told_of (history_in h) e) r ≡ []).
+    inl (now ∙ ap (λ l. replies h r ++ l) none ∙ append-nil (replies h r)))
+    (λ (one : (x : Reply) × (replies_in (told_of (history_in h) e) r ≡ x ∷ [])).
+    inr (one.0, now ∙ ap (λ l. replies h r ++ l) one.1))
     (one_of (replies_in (told_of (history_in h) e) r) few)
 
-pub one_more : (h : List Entry) (e : Entry) (r : ℕ) → legal h → legal (h ++ e ∷ []) → OneMore (replies (h ++ e ∷ []) r) (replies h r)
-one_more h e r was is = let t = as_call h e was is in subst (λ (x : Entry). legal (h ++ x ∷ []) → OneMore (replies (h ++ x ∷ []) r) (replies h r)) (sym t.1) (more_now h t.0 r was) is
+pub one_more : (h : List Entry) (e : Entry) (r : ℕ) → legal h → legal (h ++ e ∷ [])
+    → OneMore (replies (h ++ e ∷ []) r) (replies h r)
+one_more h e r was is = let t = as_call h e was is in
+    subst (λ (x : Entry). legal (h ++ x ∷ []) → OneMore (replies (h ++ x ∷ []) r) (replies h r)) (sym t.1)
+    (more_now h t.0 r was) is
 
 pub no_more : (h : List Entry) (r : ℕ) → legal h → length (replies h r) ≤ length (own h r)
 no_more h r is = no_more_replies (history_in h) r is.1
