@@ -79,3 +79,8 @@ module _ {g : Ghosts Shared Entry (ℕ × Call) Reply} where
       × KeepsMarks (view v) (view w) × (told w ≡ told v) × legal (work w).seen
   HasCombined list v w (Busy c) = (c < list.clients) × (c ≢ v.client) × (work w ≡ meeting c (work v))
       × (told w ≡ told v)
+
+  -- it tried to combine, and is the same client of the service
+  abbrev pub HasTried : Records → Joined Shared Entry (ℕ × Call) Reply g → Joined Shared Entry (ℕ × Call) Reply g → Pass
+      → Type 0
+  HasTried list v w pass = IsOf list w × (w.client ≡ v.client) × HasCombined list v w pass

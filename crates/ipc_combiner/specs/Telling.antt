@@ -27,7 +27,15 @@ module _ {g : Ghosts Shared Entry (ℕ × Call) Reply} where
     pub begun : (work w).begun ≡ (work v).begun
     pub met : (work w).met ≡ (work v).met
 
+  -- the two are clients of this service
+  abbrev pub AreOf : Records → Joined Shared Entry (ℕ × Call) Reply g → Joined Shared Entry (ℕ × Call) Reply g → Type 0
+  AreOf list v o = IsOf list v × IsOf list o
+
   -- the same client of the service, which knows what it knew
   abbrev pub HasTold : Records → Joined Shared Entry (ℕ × Call) Reply g
       → Joined Shared Entry (ℕ × Call) Reply g → Type 0
   HasTold list old new = IsOf list new × (new.client ≡ old.client) × (view new ≡ view old)
+
+  -- of two clients of the service the first has learnt from the second: it was v and is w, and the second is p now
+  abbrev pub LearnsFrom : Records → (v o w p : Joined Shared Entry (ℕ × Call) Reply g) → Type 0
+  LearnsFrom list v o w p = IsOf list w × (w.client ≡ v.client) × HasLearnt v o w × HasTold list o p

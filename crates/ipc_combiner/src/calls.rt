@@ -4,7 +4,7 @@ ghost use Rattle.pub_rule.specs.declared.work.Stage.TheVariants.{Free};
 ghost use Rattle.pub_rule.specs.WorkSteps.{asking};
 ghost use Rattle.pub_rule.specs.WorkSplits.{starting};
 ghost use Rattle.pub_list.specs.Clients.{first_seen, tries, work};
-ghost use Rattle.ipc_combiner.specs.Asking.{IsPolled, HasCombined};
+ghost use Rattle.ipc_combiner.specs.Asking.{IsPolled, HasTried};
 ghost use Rattle.ipc_combiner.specs.States.{IsOf, IsUnjoinedOf};
 
 use crate::states::{Idle, InFlight, Service, Unjoined};
@@ -74,9 +74,7 @@ impl Idle {
     /// Tries once to combine, and serves each posted record where it could.
     pub fn combine(&mut self, service: &Service) -> Pass
         requires { IsOf service.now.list self.old.joined }
-        ensures service { IsOf service.now.list self.new.joined }
-        ensures client { self.new.joined.client ≡ self.old.joined.client }
-        ensures combined { HasCombined service.now.list self.old.joined self.new.joined result }
+        ensures { HasTried service.now.list self.old.joined self.new.joined result }
     {
         self.combine_with(service, &OpenGate)
     }
@@ -84,9 +82,7 @@ impl Idle {
     /// The same, with a gate between two records.
     pub fn combine_with<G: PassGate>(&mut self, service: &Service, gate: &G) -> Pass
         requires { IsOf service.now.list self.old.joined }
-        ensures service { IsOf service.now.list self.new.joined }
-        ensures client { self.new.joined.client ≡ self.old.joined.client }
-        ensures combined { HasCombined service.now.list self.old.joined self.new.joined result }
+        ensures { HasTried service.now.list self.old.joined self.new.joined result }
     {
         let own = self.joined.client();
         match self.joined.combine_with(&service.list, gate) {
@@ -125,9 +121,7 @@ impl InFlight {
     /// looks for a moment whether that one serves its call.
     pub fn combine(&mut self, service: &Service) -> Pass
         requires { IsOf service.now.list self.old.joined }
-        ensures service { IsOf service.now.list self.new.joined }
-        ensures client { self.new.joined.client ≡ self.old.joined.client }
-        ensures combined { HasCombined service.now.list self.old.joined self.new.joined result }
+        ensures { HasTried service.now.list self.old.joined self.new.joined result }
     {
         self.combine_with(service, &OpenGate)
     }
@@ -135,9 +129,7 @@ impl InFlight {
     /// The same, with a gate between two records.
     pub fn combine_with<G: PassGate>(&mut self, service: &Service, gate: &G) -> Pass
         requires { IsOf service.now.list self.old.joined }
-        ensures service { IsOf service.now.list self.new.joined }
-        ensures client { self.new.joined.client ≡ self.old.joined.client }
-        ensures combined { HasCombined service.now.list self.old.joined self.new.joined result }
+        ensures { HasTried service.now.list self.old.joined self.new.joined result }
     {
         match self.joined.combine_with(&service.list, gate) {
             Ok(()) => Pass::Passed,

@@ -1,4 +1,4 @@
-use Rattle.ipc_combiner.proofs.Learning.{has_learnt, of_service, idle_still, has_told, asking_as_was}
+use Rattle.ipc_combiner.proofs.Learning.{learns_from, idle_still, asking_as_was}
 use Rattle.ipc_combiner.proofs.states.Idle.hear.Goals as goal
 
 pub invariant_of-self : goal.invariant_of-self
@@ -7,11 +7,5 @@ invariant_of-self c = record { own = idle_still c.args.service.now.list c.args.s
 pub invariant_of-other : goal.invariant_of-other
 invariant_of-other c = record { own = asking_as_was c.args.service.now.list c.args.other.now.joined c.hear.new.other c.args.other.now.own c.hear.ensures.view }
 
-pub returns-clause-service : goal.returns-clause-service
-returns-clause-service c = of_service c.args.service.now.list c.args.self.now.joined c.args.other.now.joined c.hear.new.self c.hear.ensures.learns c.requires.own c.hear.ensures.client
-
 pub returns-clause-learns : goal.returns-clause-learns
-returns-clause-learns c = has_learnt c.args.service.now.list c.args.self.now.joined c.args.other.now.joined c.hear.new.self c.hear.ensures.learns
-
-pub returns-clause-other : goal.returns-clause-other
-returns-clause-other c = has_told c.args.service.now.list c.args.other.now.joined c.hear.new.other c.requires.other c.hear.ensures.other c.hear.ensures.view
+returns-clause-learns c = learns_from c.args.service.now.list c.args.self.now.joined c.args.other.now.joined c.hear.new.self c.hear.ensures.learns c.hear.new.other c.requires c.hear.ensures.client c.hear.ensures.other c.hear.ensures.view
