@@ -5,14 +5,14 @@ ghost use Rattle.pub_list.specs.Clients.{work};
 ghost use Rattle.ipc_combiner.specs.Asking.{HasCalled};
 ghost use Rattle.ipc_combiner.specs.States.{IsOf};
 
-use crate::calls::{Pass, Polled, Seen};
+use crate::calls::Polled;
 use crate::states::{Idle, Service};
 use crossbeam_utils::Backoff;
 use ipc_call::{Call, Reply};
 use std::sync::Wait;
 
 impl Idle {
-    /// Posts a call at a time in seconds, and looks at its own record and combines until the call has ended.
+    /// Posts a call at a time in seconds, and combines and looks at its own record until the call has ended.
     /// It spins, and then yields the processor, while another client combines or the call waits. It may never
     /// return: a call that waits ends by another client's call alone.
     pub fn call<R: Wait>(self, rt: &R, service: &Service, now: u64, call: Call) -> (Idle, Reply)
@@ -24,23 +24,13 @@ impl Idle {
         let mut flight = self.post(service, now, call);
         let backoff = Backoff::new();
         for _ in rt.forever() {
-            let seen = match flight.poll(service) {
+            flight.combine(service);
+            match flight.poll(service) {
                 Polled::Done(idle, reply) => return (idle, reply),
-                Polled::Still(still, seen) => {
-                    flight = still;
-                    seen
-                }
-            };
-            pause(&backoff, seen, flight.combine(service));
+                Polled::Still(still, _) => flight = still,
+            }
+            backoff.snooze();
         }
         unreachable!()
-    }
-}
-
-// Waits a moment, unless the pass has just dealt with the call.
-fn pause(backoff: &Backoff, seen: Seen, pass: Pass) {
-    match (seen, pass) {
-        (Seen::Posted, Pass::Passed) => {}
-        _ => backoff.snooze(),
     }
 }
