@@ -6,7 +6,7 @@ use Rattle.ipc_call.specs.declared.replies.Reply.{Reply}
 use Rattle.ipc_model.specs.State.{State, opening}
 use Rattle.ipc_model.specs.Step.{Event, step}
 use Rattle.ipc_model.specs.History.{History, IsLegal, AreLegalFrom}
-use Rattle.ipc_space.proofs.Keeping.{Follows-step}
+use Rattle.ipc_model.proofs.Keeping.{Follows-step}
 use Rattle.pub_rule.specs.declared.work.Closed.{Closed}
 use Rattle.pub_rule.specs.declared.work.Stage.{Stage}
 use Rattle.pub_rule.specs.declared.work.Stage.TheVariants.{Spent, Maker, Away, Free, Asking, Token}

@@ -9,7 +9,8 @@ use Rattle.ipc_call.specs.declared.replies.Ended.{Ended}
 use Rattle.ipc_call.specs.declared.replies.Reply.{Reply}
 use Rattle.ipc_model.specs.State.{is_waiting}
 use Rattle.ipc_space.specs.declared.spaces.Effects.{Effects}
-use Rattle.ipc_model.specs.Step.{Event, Outcome}
+use Rattle.ipc_model.specs.Step.{Event}
+use Rattle.ipc_model.specs.Decision.{Outcome}
 use Rattle.ipc_model.specs.History.{History, IsLegal, next_step, with_event, told_by}
 use Rattle.ipc_model.specs.History as model
 use Rattle.ipc_space.specs.Spaces.{own_reply, other_replies}

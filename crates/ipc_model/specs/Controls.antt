@@ -1,5 +1,8 @@
--- Controls of an object of any kind: IPC_STAT, IPC_SET and IPC_RMID (msgctl(2), semctl(2), shmctl(2)).
-use Rattle.std.specs.Prelude.{ℕ, ◌%◌, nat_le, Bool, true, false, is_none, if◌then◌else◌, List, [], ◌∷◌, length, map, Option, Some, None, option_map, unwrap_or}
+-- Controls of an object of any kind: IPC_STAT, IPC_SET and IPC_RMID (msgctl(2), semctl(2), shmctl(2)). Each asks first
+-- whether the object is there. Then IPC_STAT needs the right to read, and the others control of the object; IPC_SET with
+-- a msg_qbytes above MSGMNB needs CAP_SYS_RESOURCE too, and with one for another kind is refused before all else.
+use Rattle.std.specs.Prelude.{ℕ, ◌%◌, nat_le, Bool, true, is_none, if◌then◌else◌, [], ◌∷◌, length, Option, Some, None}
+use Rattle.std.specs.Prelude.{option_map, unwrap_or}
 use Rattle.std.specs.FinMap as finite
 use Rattle.ipc_call.specs.declared.calls.Kind.{Kind}
 use Rattle.ipc_call.specs.declared.calls.Kind.TheVariants as kinds
@@ -9,32 +12,38 @@ use Rattle.ipc_call.specs.declared.replies.Answer.TheVariants.{Status as StatusA
 use Rattle.ipc_call.specs.declared.settings.Settings.{Settings}
 use Rattle.ipc_call.specs.declared.replies.Status.{Status}
 use Rattle.ipc_call.specs.declared.replies.Status.TheVariants as statuses
-use Rattle.ipc_creds.specs.Credentials.{Credentials}
 use Rattle.ipc_perm.specs.declared.perms.Perm.{Perm}
-use Rattle.ipc_perm.specs.Access.{Need, Permission, Control, Resource, denial}
-use Rattle.ipc_ids.specs.Table.{Table, with_object, without_object}
+use Rattle.ipc_perm.specs.Access.{Permission, Control, Resource}
+use Rattle.ipc_ids.specs.Table.{Table, without_object}
+use Rattle.ipc_objects.specs.declared.object.Object.{Object}
+use Rattle.ipc_objects.specs.declared.object.Owner.{Owner}
+use Rattle.ipc_objects.specs.Objects.{changed, with_owner}
 use Rattle.msg_queue.specs.Messages.{bytes_of}
 use Rattle.ipc_model.specs.State.{Queue, State}
-use Rattle.ipc_model.specs.Plan.{Needs, Passes, Plan, Refuse, Grant, found, in_order, ◌⨾◌}
+use Rattle.ipc_model.specs.Messages.{to_read}
+use Rattle.ipc_model.specs.Plan.{Needs, Passes, Plan, Grant, found, in_order, ◌⨾◌}
+
+abbrev pub perm_in : {X : Type 0} → Table (Object X) → ℕ → Option Perm
+perm_in objects id = option_map (λ object. object.perm) (finite.get objects.objects id)
 
 -- the permissions of the object of the identifier; there are no semaphore sets and no segments yet
 abbrev pub perm_of : State → Kind → ℕ → Option Perm
-perm_of s kinds.Queue id = option_map (λ queue. queue.perm) (finite.get s.queues.objects id)
+perm_of s kinds.Queue id = perm_in s.queues id
 perm_of s kinds.Sems id = None
 perm_of s kinds.Segment id = None
 
--- the object leaves, and its key is free
-abbrev pub without : State → Kind → ℕ → State
-without s kinds.Queue id = record s { queues = without_object s.queues id }
-without s kinds.Sems id = s
-without s kinds.Segment id = s
+-- IPC_RMID: the object leaves, and its key is free
+abbrev pub removed : State → Kind → ℕ → State
+removed s kinds.Queue id = record s { queues = without_object s.queues id }
+removed s kinds.Sems id = s
+removed s kinds.Segment id = s
 
 abbrev pub remove_object : State → Kind → ℕ → Plan State
 remove_object s kind id =
-    found (perm_of s kind id) BadId _ (λ perm. Needs (Control perm) ⨾ Grant Done (without s kind id))
+    found (perm_of s kind id) BadId _ (λ perm. Needs (Control perm) ⨾ Grant Done (removed s kind id))
 
--- IPC_STAT: the state of the object; msg_cbytes and msg_qnum are counted anew
-abbrev pub status_of_queue : Queue → Status
+-- IPC_STAT: msg_cbytes and msg_qnum are counted anew
+abbrev pub status_of_queue : Object Queue → Status
 status_of_queue queue = statuses.Queue (record {
   key = queue.perm.key;
   uid = queue.perm.uid;
@@ -42,51 +51,45 @@ status_of_queue queue = statuses.Queue (record {
   cuid = queue.perm.cuid;
   cgid = queue.perm.cgid;
   mode = queue.perm.mode;
-  cbytes = bytes_of queue.messages;
-  qnum = length queue.messages;
-  qbytes = queue.qbytes;
-  lspid = queue.last_sender;
-  lrpid = queue.last_receiver;
-  stime = queue.send_time;
-  rtime = queue.receive_time;
+  cbytes = bytes_of queue.contents.messages;
+  qnum = length queue.contents.messages;
+  qbytes = queue.contents.qbytes;
+  lspid = queue.contents.last_sender;
+  lrpid = queue.contents.last_receiver;
+  stime = queue.contents.send_time;
+  rtime = queue.contents.receive_time;
   ctime = queue.change_time;
 })
 
--- IPC_SET: owner and mode, of which the low nine bits count, msg_qbytes where it is given, and the time of the change
-abbrev pub with_settings : Queue → ℕ → Settings → Queue
-with_settings queue now new = record queue {
-  perm = record queue.perm { uid = new.uid; gid = new.gid; mode = new.mode % 512 };
-  qbytes = unwrap_or new.qbytes queue.qbytes;
-  change_time = now;
-}
-
-abbrev pub stat_queue : State → Option Queue → Plan State
-stat_queue s queue = found queue BadId _ (λ queue.
-    Needs (Permission queue.perm (record { read = true; alter = false }))
-    ⨾ Grant (StatusAnswer (status_of_queue queue)) s)
+-- the permissions and the status of the object of the identifier
+abbrev pub status_of : State → Kind → ℕ → Option (Perm × Status)
+status_of s kinds.Queue id = option_map (λ queue. (queue.perm, status_of_queue queue)) (finite.get s.queues.objects id)
+status_of s kinds.Sems id = None
+status_of s kinds.Segment id = None
 
 abbrev pub stat_object : State → Kind → ℕ → Plan State
-stat_object s kinds.Queue id = stat_queue s (finite.get s.queues.objects id)
-stat_object s kinds.Sems id = Refuse BadId _
-stat_object s kinds.Segment id = Refuse BadId _
+stat_object s kind id =
+    found (status_of s kind id) BadId _ (λ told. Needs (Permission told.0 to_read) ⨾ Grant (StatusAnswer told.1) s)
+
+-- the owner that IPC_SET sets: the low nine bits of the mode count
+abbrev pub owner_in : Settings → Owner
+owner_in new = record { uid = new.uid; gid = new.gid; mode = new.mode % 512 }
+
+-- IPC_SET of a queue: its owner, the time of the change, and its msg_qbytes where that is given
+abbrev pub with_settings : ℕ → Settings → Object Queue → Object Queue
+with_settings now new queue = record (with_owner queue (owner_in new) now) {
+  contents = record queue.contents { qbytes = unwrap_or new.qbytes queue.contents.qbytes };
+}
+
+abbrev pub with_set : State → Kind → ℕ → Settings → State
+with_set s kinds.Queue id new = record s { queues = changed s.queues id (with_settings s.clock new) }
+with_set s kinds.Sems id new = s
+with_set s kinds.Segment id new = s
 
 -- a msg_qbytes above MSGMNB needs CAP_SYS_RESOURCE
 abbrev pub is_within : State → Option ℕ → Bool
 is_within s None = true
 is_within s (Some qbytes) = nat_le qbytes s.limits.msg_mnb
-
--- the queue of the identifier changes
-abbrev pub with_change : Table Queue → ℕ → (Queue → Queue) → Option Queue → Table Queue
-with_change t id change None = t
-with_change t id change (Some queue) = with_object t id (change queue)
-
-abbrev pub with_set : State → Kind → ℕ → Settings → State
-with_set s kinds.Queue id new =
-    record s {
-      queues = with_change s.queues id (λ queue. with_settings queue s.clock new) (finite.get s.queues.objects id);
-    }
-with_set s kinds.Sems id new = s
-with_set s kinds.Segment id new = s
 
 -- msg_qbytes is of queues alone
 abbrev pub takes_qbytes : Kind → Option ℕ → Bool

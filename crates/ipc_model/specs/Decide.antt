@@ -5,24 +5,37 @@ use Rattle.ipc_call.specs.declared.calls.Call.TheVariants.{MsgGet, MsgSnd, MsgRc
 use Rattle.ipc_call.specs.declared.calls.Kind.{Kind}
 use Rattle.ipc_call.specs.declared.calls.Kind.TheVariants as kinds
 use Rattle.ipc_perm.specs.Access.{Need}
-use Rattle.ipc_model.specs.State.{State, creds_at}
+use Rattle.ipc_model.specs.State.{Caller, Queues, State, caller, creds_at}
 use Rattle.ipc_model.specs.Decision.{Decision}
-use Rattle.ipc_model.specs.Plan.{Plan, decision, needs_in}
-use Rattle.ipc_model.specs.Queues.{get_queue}
+use Rattle.ipc_model.specs.Plan.{Plan, decision, needs_in, on_part}
+use Rattle.ipc_model.specs.Gets.{get_queue}
 use Rattle.ipc_model.specs.Messages.{receive_message, send_message}
 use Rattle.ipc_model.specs.Interrupts.{interrupt}
 use Rattle.ipc_model.specs.Controls.{remove_object, set_object, stat_object}
 
+-- the plan of a call, by the part of the state that the call may change
+pub data PartPlan : Type 0 where
+  OnQueues : (plan : Plan Queues) → PartPlan
+  OnState : (plan : Plan State) → PartPlan
+
+abbrev pub whole : State → PartPlan → Plan State
+whole s (OnQueues plan) = on_part (λ queues. record s { queues = queues }) plan
+whole s (OnState plan) = plan
+
 -- each call as a row of the table of checks
-unfoldable pub plan : State → ℕ → Call → Plan State
-plan s client (MsgGet key flags) = get_queue s (creds_at s client) key flags
-plan s client (MsgSnd id mtype text flags) = send_message s client id flags (record { mtype = mtype; text = text })
-plan s client (MsgRcv id size msgtyp flags) = receive_message s client id size msgtyp flags
-plan s client (IpcStat kind id) = stat_object s kind id
-plan s client (IpcSet kind id uid gid mode qbytes) =
-    set_object s kind id (record { uid = uid; gid = gid; mode = mode; qbytes = qbytes })
-plan s client (IpcRmid kind id) = remove_object s kind id
-plan s client (Interrupt pid) = interrupt s pid
+unfoldable pub part_plan : State → Caller → Call → PartPlan
+part_plan s who (MsgGet key flags) = OnQueues (get_queue s.limits s.queues who key flags)
+part_plan s who (MsgSnd id mtype text flags) =
+    OnQueues (send_message s.limits s.queues who id flags (record { mtype = mtype; text = text }))
+part_plan s who (MsgRcv id size msgtyp flags) = OnQueues (receive_message s.queues who id size msgtyp flags)
+part_plan s who (IpcStat kind id) = OnState (stat_object s kind id)
+part_plan s who (IpcSet kind id uid gid mode qbytes) =
+    OnState (set_object s kind id (record { uid = uid; gid = gid; mode = mode; qbytes = qbytes }))
+part_plan s who (IpcRmid kind id) = OnState (remove_object s kind id)
+part_plan s who (Interrupt pid) = OnState (interrupt s pid)
+
+abbrev pub plan : State → ℕ → Call → Plan State
+plan s client call = whole s (part_plan s (caller s client) call)
 
 -- the decision relation: the credentials are the caller's, by its number
 abbrev pub decide : State → ℕ → Call → Decision State

@@ -10,7 +10,8 @@ use Rattle.ipc_call.specs.declared.replies.Reply.TheVariants.{Entered}
 use Rattle.ipc_call.specs.declared.rules.Rule.{Rule}
 use Rattle.ipc_creds.specs.Credentials.{Credentials}
 use Rattle.ipc_model.specs.State.{State, opening, is_waiting}
-use Rattle.ipc_model.specs.Step.{Event, Outcome, Stepped, step}
+use Rattle.ipc_model.specs.Step.{Event, Stepped, step}
+use Rattle.ipc_model.specs.Decision.{Outcome}
 
 -- what a namespace was opened with, and its events; places are counted from 1
 pub record History : Type 0 where

@@ -1,10 +1,10 @@
 -- Interrupts: the end of a waiting call, as a caught signal brings it (EINTR of msgop(2); the call is the project's
 -- own).
-use Rattle.std.specs.Prelude.{ℕ, ◌-◌, ◌==◌, List, [], ◌∷◌, map, Option, Some, None, if◌then◌else◌, slice_get}
+use Rattle.std.specs.Prelude.{ℕ, ◌-◌, ◌==◌, Option, None, if◌then◌else◌, slice_get}
 use Rattle.ipc_call.specs.declared.rules.Rule.TheVariants.{NoProcess}
 use Rattle.ipc_call.specs.declared.replies.Answer.TheVariants.{Done}
 use Rattle.ipc_creds.specs.Credentials.{Credentials}
-use Rattle.ipc_perm.specs.Access.{Need, SameUser, denial}
+use Rattle.ipc_perm.specs.Access.{SameUser}
 use Rattle.ipc_model.specs.State.{State}
 use Rattle.ipc_model.specs.Plan.{Needs, Plan, Grant, found, ◌⨾◌}
 

@@ -3,12 +3,12 @@ pub mod Cancelled
 pub mod Controls
 pub mod Decide
 pub mod Decision
+pub mod Gets
 pub mod History
 pub mod Interrupts
 pub mod Made
 pub mod Messages
 pub mod Plan
-pub mod Queues
 pub mod State
 pub mod Step
 pub mod Waits

@@ -1,17 +1,19 @@
 -- The identifiers of the objects that the events of a history created.
-use Rattle.std.specs.Prelude.{ℕ, Bool, true, false, List, [], ◌∷◌, ◌++◌, Option, Some, Ok, if◌then◌else◌, is_none}
+use Rattle.std.specs.Prelude.{ℕ, Bool, false, List, [], ◌∷◌, ◌++◌, Option, Some, Ok, if◌then◌else◌, is_none}
 use Rattle.ipc_call.specs.declared.calls.Call.{Call}
 use Rattle.ipc_call.specs.declared.calls.Call.TheVariants.{MsgGet}
 use Rattle.ipc_call.specs.declared.calls.Kind.{Kind}
 use Rattle.ipc_call.specs.declared.calls.Kind.TheVariants as kinds
 use Rattle.ipc_call.specs.declared.replies.Answer.TheVariants.{Id}
-use Rattle.ipc_model.specs.State.{State, opening, queue_with_key}
-use Rattle.ipc_model.specs.Step.{Event, Outcome, step}
+use Rattle.ipc_model.specs.State.{State, opening}
+use Rattle.ipc_model.specs.Gets.{object_of_key}
+use Rattle.ipc_model.specs.Step.{Event, step}
+use Rattle.ipc_model.specs.Decision.{Outcome}
 use Rattle.ipc_model.specs.History.{History}
 
 -- a get creates an object of its kind where no object has its key; key 0, IPC_PRIVATE, finds none
 abbrev pub makes : State → Kind → Call → Bool
-makes s kinds.Queue (MsgGet key flags) = is_none (queue_with_key s key)
+makes s kinds.Queue (MsgGet key flags) = is_none (object_of_key s.queues key)
 makes s kind call = false
 
 -- the identifier in an answer

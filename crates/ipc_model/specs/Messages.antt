@@ -1,55 +1,56 @@
--- Messages of a queue: msgsnd and msgrcv (msgop(2), POSIX.1-2017 XSH msgsnd and msgrcv).
-use Rattle.std.specs.Prelude.{◌==◌, ℕ, ℤ, pos, int_le, nat_le, Bool, true, false, not, ◌||◌, List, [], ◌∷◌, ◌++◌, length, take, remove, slice_get, Option, Some, None, option_and_then, option_map, if◌then◌else◌}
-use Rattle.ipc_call.specs.Flags.{has_flag, msg_except, msg_noerror}
+-- Messages of a queue: msgsnd and msgrcv (msgop(2), POSIX.1-2017 XSH msgsnd and msgrcv). msgsnd: the type is at least 1
+-- and the text at most MSGMAX long, whatever the identifier; the queue is there; the caller may alter it; there is room,
+-- or the call waits. msgrcv: the queue is there; the caller may read it; a message is there, or the call waits; its text
+-- isn't too long.
+use Rattle.std.specs.Prelude.{ℕ, ℤ, pos, int_le, nat_le, Bool, true, false, not, ◌||◌, List, [], ◌∷◌, ◌++◌, length, take, remove, slice_get}
+use Rattle.std.specs.Prelude.{Option, option_and_then, option_map}
 use Rattle.std.specs.FinMap as finite
+use Rattle.ipc_call.specs.Flags.{has_flag, msg_except, msg_noerror}
+use Rattle.ipc_call.specs.declared.limits.Limits.{Limits}
 use Rattle.ipc_call.specs.declared.rules.Rule.TheVariants.{BadId, BadType, TextTooLong, QueueFull, NoMessage, MessageTooLong}
 use Rattle.ipc_call.specs.declared.replies.Answer.TheVariants.{Done, Message as MessageAnswer}
-use Rattle.ipc_creds.specs.Credentials.{Credentials}
 use Rattle.ipc_perm.specs.declared.access.Want.{Want}
-use Rattle.ipc_perm.specs.Access.{Need, Permission, denial}
-use Rattle.ipc_ids.specs.Table.{with_object}
+use Rattle.ipc_perm.specs.Access.{Permission}
+use Rattle.ipc_objects.specs.declared.object.Object.{Object}
+use Rattle.ipc_objects.specs.Objects.{with_contents}
 use Rattle.msg_queue.specs.declared.messages.Message.{Message}
 use Rattle.msg_queue.specs.Messages.{is_full, select}
-use Rattle.ipc_model.specs.State.{Queue, State, pid_of}
+use Rattle.ipc_model.specs.State.{Caller, Queue, Queues, pid_of}
 use Rattle.ipc_model.specs.Plan.{Proceeds, Needs, Passes, Plan, Grant, awaited, found, ◌⨾◌}
 
-abbrev pub queue_at : State → ℕ → Option Queue
-queue_at s id = finite.get s.queues.objects id
+abbrev pub queue_at : Queues → ℕ → Option (Object Queue)
+queue_at queues id = finite.get queues.objects id
 
-abbrev pub with_changed : State → ℕ → Queue → State
-with_changed s id queue = record s { queues = with_object s.queues id queue }
-
--- what a call that sends, or receives, needs on the queue
+-- the right that a call needs which changes what an object holds, and which tells it
 abbrev pub to_alter : Want
 to_alter = record { read = false; alter = true }
 
 abbrev pub to_read : Want
 to_read = record { read = true; alter = false }
 
--- msgsnd: the message goes last, msg_lspid and msg_stime are set
-abbrev pub with_message : Queue → ℕ → ℕ → Message → Queue
-with_message queue client now message = record queue {
+-- the message goes last, msg_lspid and msg_stime are set
+abbrev pub with_message : ℕ → ℕ → Message → Queue → Queue
+with_message client now message queue = record queue {
   messages = queue.messages ++ message ∷ [];
   last_sender = pid_of client;
   send_time = now;
 }
 
-abbrev pub send_found : State → ℕ → ℕ → ℕ → Message → Option Queue → Plan State
-send_found s client id flags message queue = found queue BadId _ (λ queue.
+abbrev pub send_found : Queues → Caller → ℕ → ℕ → Message → Option (Object Queue) → Plan Queues
+send_found queues who id flags message queue = found queue BadId _ (λ queue.
     Needs (Permission queue.perm to_alter)
-    ⨾ Proceeds (not (is_full queue.messages queue.qbytes (length message.text))) flags QueueFull _
-    ⨾ Grant Done (with_changed s id (with_message queue client s.clock message)))
+    ⨾ Proceeds (not (is_full queue.contents.messages queue.contents.qbytes (length message.text))) flags QueueFull _
+    ⨾ Grant Done (with_contents queues id (with_message who.client who.now message queue.contents)))
 
--- the type is at least 1, and the text at most MSGMAX long, whatever the identifier
-abbrev pub send_message : State → ℕ → ℕ → ℕ → Message → Plan State
-send_message s client id flags message =
+abbrev pub send_message : Limits → Queues → Caller → ℕ → ℕ → Message → Plan Queues
+send_message limits queues who id flags message =
     Passes (int_le (pos 1) message.mtype) BadType _
-    ⨾ Passes (nat_le (length message.text) s.limits.msg_max) TextTooLong _
-    ⨾ send_found s client id flags message (queue_at s id)
+    ⨾ Passes (nat_le (length message.text) limits.msg_max) TextTooLong _
+    ⨾ send_found queues who id flags message (queue_at queues id)
 
--- msgrcv: the message at the position leaves, msg_lrpid and msg_rtime are set
-abbrev pub without_message : Queue → ℕ → ℕ → ℕ → Queue
-without_message queue client now position = record queue {
+-- the message at the position leaves, msg_lrpid and msg_rtime are set
+abbrev pub without_message : ℕ → ℕ → ℕ → Queue → Queue
+without_message client now position queue = record queue {
   messages = remove queue.messages position;
   last_receiver = pid_of client;
   receive_time = now;
@@ -62,16 +63,18 @@ chosen messages msgtyp except =
     (select messages msgtyp except)
 
 -- a text longer than asked for stays in the queue, or with MSG_NOERROR it is cut, and the rest is lost
-abbrev pub take_chosen : State → ℕ → ℕ → ℕ → ℕ → Queue → Option (ℕ × Message) → Plan State
-take_chosen s client id size flags queue taken = awaited taken flags NoMessage _ (λ taken.
+abbrev pub take_chosen : Queues → Caller → ℕ → ℕ → ℕ → Queue → Option (ℕ × Message) → Plan Queues
+take_chosen queues who id size flags queue taken = awaited taken flags NoMessage _ (λ taken.
     Passes (nat_le (length taken.1.text) size || has_flag flags msg_noerror) MessageTooLong _
     ⨾ Grant (MessageAnswer taken.1.mtype (take size taken.1.text))
-    (with_changed s id (without_message queue client s.clock taken.0)))
+    (with_contents queues id (without_message who.client who.now taken.0 queue)))
 
-abbrev pub receive_found : State → ℕ → ℕ → ℕ → ℤ → ℕ → Option Queue → Plan State
-receive_found s client id size msgtyp flags queue = found queue BadId _ (λ queue.
+abbrev pub receive_found : Queues → Caller → ℕ → ℕ → ℤ → ℕ → Option (Object Queue) → Plan Queues
+receive_found queues who id size msgtyp flags queue = found queue BadId _ (λ queue.
     Needs (Permission queue.perm to_read)
-    ⨾ take_chosen s client id size flags queue (chosen queue.messages msgtyp (has_flag flags msg_except)))
+    ⨾ take_chosen queues who id size flags queue.contents
+    (chosen queue.contents.messages msgtyp (has_flag flags msg_except)))
 
-abbrev pub receive_message : State → ℕ → ℕ → ℕ → ℤ → ℕ → Plan State
-receive_message s client id size msgtyp flags = receive_found s client id size msgtyp flags (queue_at s id)
+abbrev pub receive_message : Queues → Caller → ℕ → ℕ → ℤ → ℕ → Plan Queues
+receive_message queues who id size msgtyp flags =
+    receive_found queues who id size msgtyp flags (queue_at queues id)

@@ -1,20 +1,15 @@
 -- One event: the clock, the decision on the call, the waiting calls that its grant cancels, and then those that can
 -- proceed (the order in which waiting calls end is the project's own choice).
-use Rattle.std.specs.Prelude.{ℕ, zero, suc, ◌==◌, max, Bool, not, List, [], ◌∷◌, ◌++◌, length, filter, flat_map, is_none, Option, Some, None, Ok, Err, Result}
+use Rattle.std.specs.Prelude.{ℕ, zero, suc, ◌==◌, max, Bool, not, List, [], ◌∷◌, ◌++◌, length, filter, flat_map, is_none, Option, Some, None, Ok, Err}
 use Rattle.std.specs.List.{find}
 use Rattle.ipc_call.specs.declared.calls.Call.{Call}
-use Rattle.ipc_call.specs.declared.replies.Answer.{Answer}
 use Rattle.ipc_call.specs.declared.replies.Waiting.{Waiting}
 use Rattle.ipc_call.specs.declared.replies.Ended.{Ended}
 use Rattle.ipc_call.specs.declared.rules.Rule.{Rule}
 use Rattle.ipc_model.specs.State.{State}
-use Rattle.ipc_model.specs.Decision.{Decision, Refuse, Wait, Grant, proceeds}
+use Rattle.ipc_model.specs.Decision.{Decision, Outcome, Refuse, Wait, Grant, outcome_of, proceeds}
 use Rattle.ipc_model.specs.Decide.{decide}
 use Rattle.ipc_model.specs.Cancelled.{cancelled}
-
--- how a call ended
-abbrev pub Outcome : Type 0
-Outcome = Result Answer Rule
 
 -- a call of a client at a time in seconds
 pub record Event : Type 0 where
@@ -81,11 +76,6 @@ state_by s client call (Refuse rule) = s
 state_by s client call Wait = record s { parked = s.parked ++ record { client = client; call = call } ∷ [] }
 state_by s client call (Grant answer new) = new
 
-abbrev pub own_of : Decision State → Option Outcome
-own_of (Refuse rule) = Some (Err rule)
-own_of Wait = None
-own_of (Grant answer new) = Some (Ok answer)
-
 abbrev pub told_cancelled : ℕ → Option Rule → List Ended
 told_cancelled client None = []
 told_cancelled client (Some rule) = record { client = client; outcome = Err rule } ∷ []
@@ -102,11 +92,15 @@ cancelled_by s call (Refuse rule) = record { state = s; ended = [] }
 cancelled_by s call Wait = record { state = s; ended = [] }
 cancelled_by s call (Grant answer new) = cancel s call
 
+-- the state after a call, and the waiting calls that its grant ended
+abbrev pub moved_by : State → ℕ → Call → Moved
+moved_by s client call = cancelled_by (state_by s client call (decide s client call)) call (decide s client call)
+
 abbrev pub stepped : Option Outcome → Moved → Stepped
 stepped own m = record { state = m.state; own = own; ended = m.ended }
 
 abbrev pub entered : State → ℕ → Call → Decision State → Stepped
-entered s client call d = stepped (own_of d) (and_then (cancelled_by (state_by s client call d) call d) settled)
+entered s client call d = stepped (outcome_of d) (and_then (cancelled_by (state_by s client call d) call d) settled)
 
 -- refuse, grant or wait; after a grant the calls end that it ends; then settle
 abbrev pub enter : State → ℕ → Call → Stepped

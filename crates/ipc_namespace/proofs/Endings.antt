@@ -5,27 +5,29 @@ use Rattle.std.specs.List.{find, AllByRecursion}
 use Rattle.std.proofs.lemmas.Bool.{cases_Bool, true≢false}
 use Rattle.ipc_call.specs.Flags.{has_flag, msg_except}
 use Rattle.ipc_call.specs.declared.calls.Call.{Call}
+use Rattle.ipc_call.specs.declared.calls.Call.TheVariants.{MsgSnd, MsgRcv}
 use Rattle.ipc_call.specs.declared.replies.Waiting.{Waiting}
 use Rattle.ipc_call.specs.declared.replies.Ended.{Ended}
 use Rattle.ipc_call.specs.declared.rules.Rule.{Rule}
 use Rattle.ipc_perm.specs.Access.{Permission}
 use Rattle.msg_queue.specs.declared.messages.Message.{Message}
-use Rattle.ipc_model.specs.State.{Queue, State, creds_at, is_waiting, waiting_of}
+use Rattle.ipc_model.specs.State.{Caller, Queue, Queues, State, caller, creds_at, is_waiting, waiting_of}
 use Rattle.ipc_model.specs.Plan.{needs_in}
-use Rattle.ipc_model.specs.Messages.{chosen, receive_found, take_chosen, to_read}
-use Rattle.ipc_model.specs.Decide.{needs, plan}
-use Rattle.ipc_namespace.proofs.Plans.{needs-blank}
-use Rattle.ipc_namespace.proofs.Deciding.{plan-alike}
+use Rattle.ipc_objects.specs.declared.object.Object.{Object}
+use Rattle.ipc_model.specs.Messages.{chosen, queue_at, receive_found, receive_message, send_found, send_message, take_chosen, to_alter, to_read}
+use Rattle.ipc_model.specs.Decide.{needs, part_plan, plan}
+use Rattle.ipc_model.proofs.Plans.{needs-on}
+use Rattle.ipc_model.proofs.Alike.{needs-alike, plan-alike}
 use Rattle.ipc_model.specs.Cancelled.{first_denial, waits_on}
 use Rattle.ipc_model.specs.Step.{told_cancelled, without}
 use Rattle.ipc_namespace.specs.declared.cancelling.Cancelling.{Cancelling}
 use Rattle.ipc_namespace.specs.declared.cancelling.Cancelling.TheVariants as cancellings
-use Rattle.ipc_namespace.specs.Namespace.{ended_as, cancelled_as, left_by, needs_for}
+use Rattle.ipc_namespace.specs.Namespace.{ended_as, cancelled_as, kept_by, needs_for}
 use Rattle.ipc_parked.specs.Parked.{AreApart}
 use Rattle.ipc_namespace.proofs.Own.{At, found-at, found-none, length-others, others, own-there}
 
 module _ (rule : Waiting → Option Rule) where
-  left-append : (vs ws : List Waiting) → left_by rule (vs ++ ws) ≡ left_by rule vs ++ left_by rule ws
+  left-append : (vs ws : List Waiting) → kept_by rule (vs ++ ws) ≡ kept_by rule vs ++ kept_by rule ws
   left-append [] ws = refl
   left-append (v ∷ vs) ws =
       ⊎_elim
@@ -37,9 +39,9 @@ module _ (rule : Waiting → Option Rule) where
   ended-append [] ws = refl
   ended-append (v ∷ vs) ws = ap (λ es. told_cancelled v.client (rule v) ++ es) (ended-append vs ws) ∙ sym (append_assoc (told_cancelled v.client (rule v)) (ended_as rule vs) (ended_as rule ws))
 
-  pub left-none : (ws : List Waiting) → AllByRecursion (λ w. rule w ≡ None) ws → left_by rule ws ≡ ws
+  pub left-none : (ws : List Waiting) → AllByRecursion (λ w. rule w ≡ None) ws → kept_by rule ws ≡ ws
   left-none [] none = refl
-  left-none (v ∷ ws) none = ap (λ o. cond (is_none o) (v ∷ left_by rule ws) (left_by rule ws)) none.0 ∙ ap (λ ls. v ∷ ls) (left-none ws none.1)
+  left-none (v ∷ ws) none = ap (λ o. cond (is_none o) (v ∷ kept_by rule ws) (kept_by rule ws)) none.0 ∙ ap (λ ls. v ∷ ls) (left-none ws none.1)
 
   pub ended-none : (ws : List Waiting) → AllByRecursion (λ w. rule w ≡ None) ws → ended_as rule ws ≡ []
   ended-none [] none = refl
@@ -55,10 +57,10 @@ module _ (rule : Waiting → Option Rule) where
 
   -- the first call that ends leaves: what is left is the same, and what ends has one less
   module _ (ws : List Waiting) (w : Waiting) (r : Rule) (is : rule w ≡ Some r) (at : At (λ v. is_some (rule v)) ws w) where
-    pub left-first : left_by rule ws ≡ left_by rule (others w.client ws)
+    pub left-first : kept_by rule ws ≡ kept_by rule (others w.client ws)
     left-first =
-        ap (left_by rule) at.is ∙ left-append at.before (w ∷ at.after) ∙ ap (λ o. left_by rule at.before ++ cond (is_none o) (w ∷ left_by rule at.after) (left_by rule at.after)) is
-        ∙ sym (left-append at.before at.after) ∙ ap (left_by rule) (sym at.left)
+        ap (kept_by rule) at.is ∙ left-append at.before (w ∷ at.after) ∙ ap (λ o. kept_by rule at.before ++ cond (is_none o) (w ∷ kept_by rule at.after) (kept_by rule at.after)) is
+        ∙ sym (left-append at.before at.after) ∙ ap (kept_by rule) (sym at.left)
 
     pub ended-first : ended_as rule ws ≡ record { client = w.client; outcome = Err r } ∷ ended_as rule (others w.client ws)
     ended-first =
@@ -71,25 +73,45 @@ module _ (s : State) (parked : List Waiting) where
   abbrev other : State
   other = record s { parked = parked }
 
-  pub needs-alike : (client : ℕ) (call : Call) → needs other client call ≡ needs s client call
-  needs-alike client call = needs-blank (plan other client call) (plan s client call) (plan-alike s parked s.clock client call)
+  needs-same : (client : ℕ) (call : Call) → needs other client call ≡ needs s client call
+  needs-same client call = needs-alike (plan other client call) (plan s client call) (plan-alike s parked s.clock client call)
 
   cancelled_as-alike : (cancelling : Cancelling) (w : Waiting) → cancelled_as other cancelling w ≡ cancelled_as s cancelling w
-  cancelled_as-alike (cancellings.Denied kind id) w = ap (λ ns. cond (waits_on kind id w.call) (first_denial (creds_at s w.client) ns) None) (needs-alike w.client w.call)
+  cancelled_as-alike (cancellings.Denied kind id) w = ap (λ ns. cond (waits_on kind id w.call) (first_denial (creds_at s w.client) ns) None) (needs-same w.client w.call)
   cancelled_as-alike (cancellings.Removed kind id) w = refl
   cancelled_as-alike (cancellings.Interrupted pid) w = refl
 
   pub same_rule : (cancelling : Cancelling) → cancelled_as other cancelling ≡ cancelled_as s cancelling
   same_rule cancelling = λ i w. cancelled_as-alike cancelling w i
 
--- a receiver needs to read, whatever it finds
-taken-needs : (s : State) (client id size flags : ℕ) (queue : Queue) (taken : Option (ℕ × Message)) → needs_in (take_chosen s client id size flags queue taken) ≡ []
-taken-needs s client id size flags queue None = refl
-taken-needs s client id size flags queue (Some taken) = refl
+-- what a call on messages needs, whatever it finds
+module _ (queues : Queues) (who : Caller) (id : ℕ) where
+  taken-needs : (size flags : ℕ) (queue : Queue) (taken : Option (ℕ × Message)) → needs_in (take_chosen queues who id size flags queue taken) ≡ []
+  taken-needs size flags queue None = refl
+  taken-needs size flags queue (Some taken) = refl
 
-pub received-needs : (s : State) (client id size : ℕ) (msgtyp : ℤ) (flags : ℕ) (queue : Option Queue) → needs_in (receive_found s client id size msgtyp flags queue) ≡ needs_for to_read queue
-received-needs s client id size msgtyp flags None = refl
-received-needs s client id size msgtyp flags (Some queue) = ap (λ ns. Permission queue.perm to_read ∷ ns) (taken-needs s client id size flags queue (chosen queue.messages msgtyp (has_flag flags msg_except)))
+  received-needs : (size : ℕ) (msgtyp : ℤ) (flags : ℕ) (queue : Option (Object Queue)) → needs_in (receive_found queues who id size msgtyp flags queue) ≡ needs_for to_read queue
+  received-needs size msgtyp flags None = refl
+  received-needs size msgtyp flags (Some queue) =
+      ap (λ ns. Permission queue.perm to_read ∷ ns) (taken-needs size flags queue.contents (chosen queue.contents.messages msgtyp (has_flag flags msg_except)))
+
+  sent-needs : (flags : ℕ) (message : Message) (queue : Option (Object Queue)) → needs_in (send_found queues who id flags message queue) ≡ needs_for to_alter queue
+  sent-needs flags message None = refl
+  sent-needs flags message (Some queue) = refl
+
+module _ (s : State) (client id : ℕ) where
+  pub receiver-needs : (size : ℕ) (msgtyp : ℤ) (flags : ℕ) → needs s client (MsgRcv id size msgtyp flags) ≡ needs_for to_read (queue_at s.queues id)
+  unfolding part_plan
+  receiver-needs size msgtyp flags =
+      needs-on (λ queues. record s { queues = queues }) (receive_message s.queues (caller s client) id size msgtyp flags)
+      ∙ received-needs s.queues (caller s client) id size msgtyp flags (queue_at s.queues id)
+
+  pub sender-needs : (mtype : ℤ) (text : List ℕ) (flags : ℕ) → needs s client (MsgSnd id mtype text flags) ≡ needs_for to_alter (queue_at s.queues id)
+  unfolding part_plan
+  sender-needs mtype text flags =
+      let message : Message = record { mtype = mtype; text = text } in
+      needs-on (λ queues. record s { queues = queues }) (send_message s.limits s.queues (caller s client) id flags message)
+      ∙ sent-needs s.queues (caller s client) id flags message (queue_at s.queues id)
 
 IfSome-at : {A : Type 0} (o : Option A) (x : A) (P : A → Type 0) → o ≡ Some x → IfSome o P → P x
 IfSome-at o x P is p = subst (λ v. IfSome v P) is p
@@ -105,7 +127,7 @@ module _ (initial s : State) (cancelling : Cancelling) (rest : s ≡ record init
   pub cancel-turn : (new : State) (client : ℕ) (rule : Rule) (e : Ended) → AreApart s.parked → is_waiting s client ≡ true
       → find (λ w. is_some (cancelled_as s cancelling w)) s.parked ≡ waiting_of s client → IfSome (waiting_of s client) (λ w. cancelled_as s cancelling w ≡ Some rule)
       → new ≡ without s client → e ≡ record { client = client; outcome = Err rule }
-      → (new ≡ record initial { parked = new.parked }) × (left_by f0 s.parked ≡ left_by f0 new.parked) × (ended_as f0 s.parked ≡ e ∷ ended_as f0 new.parked) × (length new.parked + 1 ≡ length s.parked)
+      → (new ≡ record initial { parked = new.parked }) × (kept_by f0 s.parked ≡ kept_by f0 new.parked) × (ended_as f0 s.parked ≡ e ∷ ended_as f0 new.parked) × (length new.parked + 1 ≡ length s.parked)
   cancel-turn new client rule e apart waits first is left told =
       let there = own-there client s.parked waits in
       let w = there.0 in
@@ -113,14 +135,14 @@ module _ (initial s : State) (cancelling : Cancelling) (rest : s ≡ record init
       let at : At (λ v. is_some (f0 v)) s.parked w = subst (λ (f : Waiting → Option Rule). At (λ v. is_some (f v)) s.parked w) rule-same (found-at (λ v. is_some (cancelled_as s cancelling v)) s.parked w apart (first ∙ there.1)) in
       let parked : new.parked ≡ others w.client s.parked = ap (λ (t : State). t.parked) left ∙ ap (λ k. others k s.parked) (sym there.2) in (
         left ∙ ap (λ (t : State). record t { parked = others client s.parked }) rest ∙ ap (λ ws. record initial { parked = ws }) (sym (ap (λ (t : State). t.parked) left)),
-        left-first f0 s.parked w rule ends at ∙ ap (left_by f0) (sym parked),
+        left-first f0 s.parked w rule ends at ∙ ap (kept_by f0) (sym parked),
         ended-first f0 s.parked w rule ends at ∙ ap (λ (x : Ended). x ∷ ended_as f0 (others w.client s.parked)) (λ i. record { client = there.2 i; outcome = Err rule })
             ∙ ap (λ (x : Ended). x ∷ ended_as f0 (others w.client s.parked)) (sym told) ∙ ap (λ ws. e ∷ ended_as f0 ws) (sym parked),
         ap (λ (t : State). length t.parked + 1) left ∙ length-others s.parked client w apart there.1 there.2,
       )
 
   -- the last: nothing is left to end
-  pub cancel-over : find (λ w. is_some (cancelled_as s cancelling w)) s.parked ≡ None → (left_by f0 s.parked ≡ s.parked) × (ended_as f0 s.parked ≡ [])
+  pub cancel-over : find (λ w. is_some (cancelled_as s cancelling w)) s.parked ≡ None → (kept_by f0 s.parked ≡ s.parked) × (ended_as f0 s.parked ≡ [])
   cancel-over none =
       let all = none_fails f0 s.parked (subst (λ (f : Waiting → Option Rule). AllByRecursion (λ w. is_some (f w) ≡ false) s.parked) rule-same (found-none (λ w. is_some (cancelled_as s cancelling w)) s.parked none)) in
       (left-none f0 s.parked all, ended-none f0 s.parked all)

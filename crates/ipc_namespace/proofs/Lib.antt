@@ -1,9 +1,7 @@
-pub mod Deciding
+pub mod Calling
 pub mod Endings
-pub mod Granting
 pub mod Moving
 pub mod Own
 pub mod Parked
-pub mod Plans
 pub mod Reserved
 pub mod Settling

@@ -1,86 +1,72 @@
--- What a granted call leaves, with the waiting calls that it ended.
-use Rattle.std.proofs.Common.{◌≡◌, ℕ, List, [], ◌∷◌, refl, sym, ap, ◌∙◌, Option, Some, None, Ok, Err}
-use Rattle.std.specs.Prelude.{IfOk, OnOk, Result}
+-- What a decided call leaves, with the waiting calls that it cancels.
+use Rattle.std.proofs.Common.{◌≡◌, ℕ, ◌<◌, List, [], ◌∷◌, get_or, length, refl, sym, ap, subst, ◌∙◌, Some, None, Err}
 use Rattle.std.specs.List.{AllByRecursion}
+use Rattle.std.proofs.lemmas.List.{get_or_default}
+use Rattle.std.proofs.lemmas.Option.{none-some}
 use Rattle.ipc_call.specs.declared.calls.Call.{Call}
-use Rattle.ipc_call.specs.declared.calls.Call.TheVariants.{IpcRmid}
-use Rattle.ipc_call.specs.declared.calls.Kind.{Kind}
-use Rattle.ipc_call.specs.declared.calls.Kind.TheVariants as kinds
 use Rattle.ipc_call.specs.declared.replies.Answer.{Answer}
-use Rattle.ipc_call.specs.declared.replies.Answer.TheVariants.{Done}
 use Rattle.ipc_call.specs.declared.replies.Waiting.{Waiting}
+use Rattle.ipc_call.specs.declared.rules.Rule.{Rule}
 use Rattle.ipc_creds.specs.Credentials.{Credentials}
-use Rattle.ipc_perm.specs.declared.perms.Perm.{Perm}
-use Rattle.ipc_perm.specs.Access.{Control, Need, SameUser}
-use Rattle.ipc_model.specs.State.{State}
-use Rattle.ipc_model.specs.Decision.{Grant}
-use Rattle.ipc_model.specs.Plan.{Needs, decision, found, ◌⨾◌}
-use Rattle.ipc_model.specs.Plan as plans
-use Rattle.ipc_call.specs.declared.rules.Rule.TheVariants.{BadId, NoProcess}
+use Rattle.ipc_model.specs.State.{State, creds_at, nobody}
+use Rattle.ipc_model.specs.Decision.{Decision, Grant, Outcome, Refuse, Wait, left_by, outcome_of}
 use Rattle.ipc_model.specs.Decide.{decide}
-use Rattle.ipc_model.specs.Controls.{perm_of, remove_object, without}
-use Rattle.ipc_model.specs.Interrupts.{interrupt, process}
 use Rattle.ipc_model.specs.Cancelled.{cancelled}
-use Rattle.ipc_model.specs.Step.{Moved, cancel, cancelled_by, state_by}
-use Rattle.ipc_namespace.specs.declared.decisions.Decided.TheVariants as ways
-use Rattle.ipc_namespace.specs.declared.cancelling.Cancelling.TheVariants as cancellings
-use Rattle.ipc_namespace.specs.Decisions.{decided}
-use Rattle.ipc_namespace.specs.Namespace.{cancelled_as, left_by, moved_by, sends_on}
+use Rattle.ipc_model.specs.Step.{Moved, cancel, cancelled_by, moved_by, state_by}
+use Rattle.queue_calls.specs.Calls.{without_answer}
 use Rattle.ipc_namespace.proofs.Endings.{ended-none, left-none}
-use Rattle.ipc_namespace.proofs.Plans.{end-go}
-use Rattle.ipc_namespace.proofs.Reserved.{none_left}
 
--- a call that was granted: what it ends follows
-pub moved-at : (s new : State) (client : ℕ) (call same : Call) (answer : Answer) → call ≡ same → decide s client same ≡ Grant answer new → moved_by s client call ≡ cancel new same
-moved-at s new client call same answer is served = ap (λ (c : Call). moved_by s client c) is ∙ ap (λ d. cancelled_by (state_by s client same d) same d) served
+refused-as : (d : Decision State) (rule : Rule) → without_answer d ≡ Some (Err rule) → d ≡ Refuse rule
+refused-as (Refuse other) rule is = let same : other ≡ rule = cc in ap (λ r. Refuse r) same
+refused-as Wait rule is = cc
+refused-as (Grant answer new) rule is = cc
 
 every : (P : Waiting → Type 0) (ws : List Waiting) → ((w : Waiting) → P w) → AllByRecursion P ws
 every P [] all = tt
 every P (w ∷ ws) all = (all w, every P ws all)
 
--- a call that ends none
-pub uncancelled : (new : State) (call : Call) → ((w : Waiting) → cancelled new call w ≡ None) → cancel new call ≡ record { state = new; ended = [] }
+-- a call that cancels none
+uncancelled : (new : State) (call : Call) → ((w : Waiting) → cancelled new call w ≡ None) → cancel new call ≡ record { state = new; ended = [] }
 uncancelled new call none = λ i. record {
   state = record new { parked = left-none (cancelled new call) new.parked (every (λ w. cancelled new call w ≡ None) new.parked none) i };
   ended = ended-none (cancelled new call) new.parked (every (λ w. cancelled new call w ≡ None) new.parked none) i;
 }
 
--- the same, where the grant may fail
-pub moved-ok : {E : Type 0} (r : Result Answer E) (s new : State) (client : ℕ) (call same : Call) → call ≡ same → ((w : Waiting) → cancelled new same w ≡ None) → IfOk r (λ answer. decide s client same ≡ Grant answer new)
-    → OnOk r (new ≡ (moved_by s client call).state) × OnOk r ([] ≡ (moved_by s client call).ended)
-moved-ok (Err e) s new client call same is none served = (tt, tt)
-moved-ok (Ok answer) s new client call same is none served =
-    let moved = moved-at s new client call same answer is served ∙ uncancelled new same none in
-    (sym (ap (λ (m : Moved). m.state) moved), sym (ap (λ (m : Moved). m.ended) moved))
+moved-state : (s : State) (client : ℕ) (call : Call) (d : Decision State) → ((new : State) (w : Waiting) → cancelled new call w ≡ None)
+    → cancelled_by (state_by s client call d) call d ≡ record { state = state_by s client call d; ended = [] }
+moved-state s client call (Refuse rule) none = refl
+moved-state s client call Wait none = refl
+moved-state s client call (Grant answer new) none = uncancelled new call (none new)
 
-removed-found : (s new : State) (need : Perm → Need) (perm : Option Perm) (c : Credentials) → decided (decision c (found perm BadId tt (λ p. Needs (need p) ⨾ plans.Grant Done new))) ≡ ways.Grant → decision c (found perm BadId tt (λ p. Needs (need p) ⨾ plans.Grant Done new)) ≡ Grant Done new
-removed-found s new need None c go = cc
-removed-found s new need (Some perm) c go = end-go c (Needs (need perm) ⨾ plans.Grant Done new) go
+-- it moves the state as its decision says
+pub moved-alone : (s : State) (client : ℕ) (call same : Call) → call ≡ same → ((new : State) (w : Waiting) → cancelled new same w ≡ None)
+    → moved_by s client call ≡ record { state = state_by s client same (decide s client same); ended = [] }
+moved-alone s client call same is none = ap (λ (c : Call). moved_by s client c) is ∙ moved-state s client same (decide s client same) none
 
-pub removed : (s : State) (c : Credentials) (kind : Kind) (id : ℕ) → decided (decision c (remove_object s kind id)) ≡ ways.Grant → decision c (remove_object s kind id) ≡ Grant Done (without s kind id)
-removed s c kind id go = removed-found s (without s kind id) (λ perm. Control perm) (perm_of s kind id) c go
+-- which is what is left, where it doesn't wait
+pub state-left : (s : State) (client : ℕ) (call : Call) (d : Decision State) (outcome : Outcome) → outcome_of d ≡ Some outcome → state_by s client call d ≡ left_by s d
+state-left s client call (Refuse rule) outcome is = refl
+state-left s client call Wait outcome is = absurd (none-some outcome is)
+state-left s client call (Grant answer new) outcome is = refl
 
--- before a queue is removed, none sends to it
-pub removed-left : (s : State) (c : Credentials) (kind : Kind) (id : ℕ) → decided (decision c (remove_object s kind id)) ≡ ways.Grant → sends_on id (left_by (cancelled_as s (cancellings.Removed kind id)) s.parked) ≡ 0
-removed-left s c kinds.Queue id go = none_left id s.parked
-removed-left s c kinds.Sems id go = cc
-removed-left s c kinds.Segment id go = cc
+pub moved-granted : (s new : State) (client : ℕ) (call : Call) (answer : Answer) → decide s client call ≡ Grant answer new → moved_by s client call ≡ cancel new call
+moved-granted s new client call answer is = ap (λ d. cancelled_by (state_by s client call d) call d) is
 
--- it is removed behind those that waited on it
-pub removed-after : (s : State) (kind : Kind) (id : ℕ) → without (record s { parked = left_by (cancelled_as s (cancellings.Removed kind id)) s.parked }) kind id ≡ (cancel (without s kind id) (IpcRmid kind id)).state
-removed-after s kinds.Queue id = refl
-removed-after s kinds.Sems id = refl
-removed-after s kinds.Segment id = refl
+pub moved-refused : (s : State) (client : ℕ) (call : Call) (rule : Rule) → decide s client call ≡ Refuse rule → moved_by s client call ≡ record { state = s; ended = [] }
+moved-refused s client call rule is = ap (λ d. cancelled_by (state_by s client call d) call d) is
 
-served-same : (answer other : Answer) (s t : State) → Grant answer s ≡ Grant other t → s ≡ t
-served-same answer other s t is = cc
+-- the client's credentials as the code reads them
+pub creds-read : (v s : State) (client : ℕ) (c : Credentials) → v ≡ s → client < length s.clients → c ≡ get_or v.clients client c → c ≡ creds_at s client
+creds-read v s client c is known read =
+    read ∙ get_or_default v.clients client c nobody (subst (λ (t : State). client < length t.clients) (sym is) known) ∙ ap (λ (t : State). creds_at t client) is
 
-pub left-removed : (s new : State) (c : Credentials) (kind : Kind) (id : ℕ) (answer : Answer) → decided (decision c (remove_object s kind id)) ≡ ways.Grant → decision c (remove_object s kind id) ≡ Grant answer new → new ≡ without s kind id
-left-removed s new c kind id answer go served = served-same answer Done new (without s kind id) (sym served ∙ removed s c kind id go)
+-- a call that is refused moves nothing
+module _ (s : State) (client : ℕ) (call : Call) (rule : Rule) (is : without_answer (decide s client call) ≡ Some (Err rule)) where
+  pub refused-outcome : outcome_of (decide s client call) ≡ Some (Err rule)
+  refused-outcome = ap (λ (d : Decision State). outcome_of d) (refused-as (decide s client call) rule is)
 
-interrupted-found : (s : State) (c : Credentials) (target : Option Credentials) → decided (decision c (found target NoProcess tt (λ t. Needs (SameUser t.euid) ⨾ plans.Grant Done s))) ≡ ways.Grant → decision c (found target NoProcess tt (λ t. Needs (SameUser t.euid) ⨾ plans.Grant Done s)) ≡ Grant Done s
-interrupted-found s c None go = cc
-interrupted-found s c (Some target) go = end-go c (Needs (SameUser target.euid) ⨾ plans.Grant Done s) go
+  pub refused-state : s ≡ (moved_by s client call).state
+  refused-state = sym (ap (λ (m : Moved). m.state) (moved-refused s client call rule (refused-as (decide s client call) rule is)))
 
-pub interrupted : (s : State) (c : Credentials) (pid : ℕ) → decided (decision c (interrupt s pid)) ≡ ways.Grant → decision c (interrupt s pid) ≡ Grant Done s
-interrupted s c pid go = interrupted-found s c (process s pid) go
+  pub refused-ended : [] ≡ (moved_by s client call).ended
+  refused-ended = sym (ap (λ (m : Moved). m.ended) (moved-refused s client call rule (refused-as (decide s client call) rule is)))

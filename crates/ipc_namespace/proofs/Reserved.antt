@@ -7,14 +7,14 @@ use Rattle.ipc_call.specs.declared.calls.Call.{Call}
 use Rattle.ipc_call.specs.declared.calls.Call.TheVariants.{MsgSnd, MsgRcv}
 use Rattle.ipc_call.specs.declared.replies.Waiting.{Waiting}
 use Rattle.ipc_call.specs.declared.rules.Rule.TheVariants.{Removed}
-use Rattle.ipc_control.specs.Held.{one_if}
+use Rattle.queue_calls.specs.Held.{one_if}
 use Rattle.ipc_model.specs.Decide.{can_wait}
 use Rattle.ipc_call.specs.declared.calls.Kind.TheVariants as kinds
 use Rattle.ipc_model.specs.Cancelled.{waits_on}
 use Rattle.ipc_parked.specs.Parked.{AreApart}
 use Rattle.ipc_namespace.proofs.Own.{found-at, others}
 use Rattle.ipc_namespace.proofs.Parked.{turned}
-use Rattle.ipc_namespace.specs.Namespace.{is_send_to, left_by, sends_on}
+use Rattle.ipc_namespace.specs.Namespace.{is_send_to, kept_by, sends_on}
 
 pub sends_on-push : (id : ℕ) (ws : List Waiting) (w : Waiting) → sends_on id (ws ++ w ∷ []) ≡ sends_on id ws + one_if (is_send_to id w.call)
 sends_on-push id [] w = let e : one_if (is_send_to id w.call) + 0 ≡ 0 + one_if (is_send_to id w.call) = omega arith in e
@@ -49,9 +49,9 @@ none_left-if id true w ws waits none = none
 none_left-if id false w ws waits none = let no = not_sent id w.call waits in let all : one_if (is_send_to id w.call) + sends_on id ws ≡ 0 = omega (arith, ap one_if no, none) in all
 
 -- where those that wait on a queue have left, none sends to it
-pub none_left : (id : ℕ) (ws : List Waiting) → sends_on id (left_by (λ w. if waits_on kinds.Queue id w.call then Some Removed else None) ws) ≡ 0
+pub none_left : (id : ℕ) (ws : List Waiting) → sends_on id (kept_by (λ w. if waits_on kinds.Queue id w.call then Some Removed else None) ws) ≡ 0
 none_left id [] = refl
-none_left id (w ∷ ws) = none_left-if id (waits_on kinds.Queue id w.call) w (left_by (λ v. if waits_on kinds.Queue id v.call then Some Removed else None) ws) refl (none_left id ws)
+none_left id (w ∷ ws) = none_left-if id (waits_on kinds.Queue id w.call) w (kept_by (λ v. if waits_on kinds.Queue id v.call then Some Removed else None) ws) refl (none_left id ws)
 
 -- where a call of the client that sends waits, a place is reserved, and it is given back when the call leaves
 module _ (id client : ℕ) (ws : List Waiting) (w : Waiting) (apart : AreApart ws) (found : find (λ v. v.client == client) ws ≡ Some w) (same : w.client ≡ client) where

@@ -2,18 +2,18 @@
 use Rattle.std.proofs.Common.{◌≡◌, ℕ, zero, suc, ◌+◌, Bool, true, false, List, [], ◌∷◌, ◌++◌, length, refl, sym, ap, subst, ◌∙◌, arith, ⊎_elim, Option, Some, None, Err}
 use Rattle.std.specs.Prelude.{IfSome}
 use Rattle.std.specs.List.{find, AllByRecursion}
-use Rattle.std.proofs.lemmas.Bool.{cases_Bool}
+use Rattle.std.proofs.lemmas.Bool.{cases_Bool, true≢false}
 use Rattle.std.proofs.lemmas.Option.{none-some}
 use Rattle.ipc_call.specs.declared.calls.Call.{Call}
-use Rattle.ipc_call.specs.declared.rules.Rule.{Rule}
 use Rattle.ipc_call.specs.declared.replies.Ended.{Ended}
 use Rattle.ipc_call.specs.declared.replies.Waiting.{Waiting}
 use Rattle.ipc_model.specs.State.{State, is_waiting, waiting_of}
 use Rattle.ipc_model.specs.Decide.{decide}
-use Rattle.ipc_model.specs.Decision.{Refuse, Wait, proceeds}
-use Rattle.ipc_model.specs.Step.{Moved, Outcome, and_then, at_time, end_waiting, enter, entered, first_ready, is_ready, own_of, settle, settle_from, settled, stepped}
-use Rattle.ipc_namespace.proofs.Deciding.{clock_alike, parked_alike}
-use Rattle.ipc_namespace.specs.Namespace.{moved_by}
+use Rattle.ipc_model.specs.Decision.{Decision, Grant, Refuse, Wait, proceeds}
+use Rattle.ipc_namespace.specs.Namespace.{is_grant}
+use Rattle.ipc_model.specs.Step.{Moved, and_then, at_time, cancelled_by, end_waiting, enter, entered, first_ready, is_ready, moved_by, settle, settle_from, settled, state_by, stepped}
+use Rattle.ipc_model.specs.Decision.{Outcome, outcome_of}
+use Rattle.ipc_model.proofs.Alike.{clock_alike, parked_alike}
 use Rattle.ipc_namespace.proofs.Own.{own-there}
 
 settle-none : (n : ℕ) (s : State) → first_ready s ≡ None → settle n s ≡ record { state = s; ended = [] }
@@ -61,18 +61,22 @@ found-nothing test [] fails = refl
 found-nothing test (w ∷ ws) fails = let no = fails.0 in rw no (found-nothing test ws fails.1)
 
 -- a call that isn't granted ends none where none is ready
-pub entered-refused : (s : State) (client : ℕ) (call : Call) (rule : Rule) → first_ready s ≡ None → decide s client call ≡ Refuse rule → enter s client call ≡ record { state = s; own = Some (Err rule); ended = [] }
-entered-refused s client call rule quiet is =
-    ap (entered s client call) is ∙ ap (λ (m : Moved). stepped (Some (Err rule)) m) (settled-none s quiet)
-
-pub entered-waiting : (s new : State) (client : ℕ) (call : Call) → first_ready s ≡ None → decide s client call ≡ Wait → new ≡ record s { parked = s.parked ++ record { client = client; call = call } ∷ [] }
-    → enter s client call ≡ record { state = new; own = None; ended = [] }
-entered-waiting s new client call quiet is same =
+entered-by : (s : State) (client : ℕ) (call : Call) (d : Decision State) → first_ready s ≡ None → decide s client call ≡ d → is_grant (outcome_of d) ≡ false
+    → enter s client call ≡ record { state = (cancelled_by (state_by s client call d) call d).state; own = outcome_of d; ended = (cancelled_by (state_by s client call d) call d).ended }
+entered-by s client call (Refuse rule) quiet is still = ap (entered s client call) is ∙ ap (λ (m : Moved). stepped (Some (Err rule)) m) (settled-none s quiet)
+entered-by s client call Wait quiet is still =
     ap (entered s client call) is
-    ∙ ap (λ (m : Moved). stepped None m) (settled-none (record s { parked = s.parked ++ record { client = client; call = call } ∷ [] }) (still_quiet s client call quiet (ap proceeds is)) ∙ (λ i. record { state = sym same i; ended = [] }))
+    ∙ ap (λ (m : Moved). stepped None m) (settled-none (record s { parked = s.parked ++ record { client = client; call = call } ∷ [] }) (still_quiet s client call quiet (ap proceeds is)))
+entered-by s client call (Grant answer new) quiet is still = absurd (true≢false still)
+
+pub entered-still : (s new : State) (client : ℕ) (call : Call) (own : Option Outcome) (ended : List Ended) → first_ready s ≡ None → is_grant own ≡ false → own ≡ outcome_of (decide s client call)
+    → new ≡ (moved_by s client call).state → ended ≡ (moved_by s client call).ended → enter s client call ≡ record { state = new; own = own; ended = ended }
+entered-still s new client call own ended quiet still is moved cancels =
+    entered-by s client call (decide s client call) quiet refl (ap is_grant (sym is) ∙ still)
+    ∙ (λ i. record { state = sym moved i; own = sym is i; ended = sym cancels i })
 
 pub entered-granted : (s t new : State) (client : ℕ) (call : Call) (own : Option Outcome) (first ended : List Ended) → t ≡ (moved_by s client call).state → first ≡ (moved_by s client call).ended
-    → own_of (decide s client call) ≡ own → new ≡ (settled t).state → ended ≡ first ++ (settled t).ended → enter s client call ≡ record { state = new; own = own; ended = ended }
+    → outcome_of (decide s client call) ≡ own → new ≡ (settled t).state → ended ≡ first ++ (settled t).ended → enter s client call ≡ record { state = new; own = own; ended = ended }
 entered-granted s t new client call own first ended moved cancels is settles ends = λ i. record {
   state = (ap (λ (u : State). (settled u).state) (sym moved) ∙ sym settles) i;
   own = is i;

@@ -23,14 +23,14 @@ ghost use Rattle.ipc_model.specs.State.{creds_at, is_waiting as waits, waiting_o
 ghost use Rattle.ipc_model.specs.Decide.{needs, can_wait as may_wait};
 ghost use Rattle.ipc_model.specs.Cancelled.{first_denial, waits_on as call_waits_on};
 ghost use Rattle.ipc_model.specs.Messages.{queue_at};
-ghost use Rattle.ipc_namespace.specs.Namespace.{ended_as, cancelled_as, left_by, needs_for};
+ghost use Rattle.ipc_namespace.specs.Namespace.{ended_as, cancelled_as, kept_by, needs_for};
 ghost use Rattle.ipc_parked.specs.Parked.{AreApart};
 
-use crate::decisions::{TO_ALTER, TO_READ};
 use crate::namespace::Namespace;
 use ipc_call::{Call, Ended, Kind, Rule};
 use ipc_parked::waits_on;
 use ipc_perm::{Verdict, Want, decide};
+use queue_calls::{TO_ALTER, TO_READ};
 
 /// Why a granted call cancels waiting ones.
 #[derive(Clone, Copy, Debug)]
@@ -48,7 +48,7 @@ impl Namespace {
     /// of those that ended.
     pub(super) fn cancel(&mut self, cancelling: Cancelling, ended: &mut Vec<Ended>)
         requires { vec_len ended.old + length self.old.parked ≤ vec_capacity ended.old }
-        ensures state { self.new ≡ record self.old { parked = left_by (cancelled_as self.old cancelling) self.old.parked } }
+        ensures state { self.new ≡ record self.old { parked = kept_by (cancelled_as self.old cancelling) self.old.parked } }
         ensures ended { ended.new.items ≡ ended.old.items ++ ended_as (cancelled_as self.old cancelling) self.old.parked }
         ensures few { vec_len ended.new + length self.new.parked ≡ vec_len ended.old + length self.old.parked }
         ensures room { vec_capacity ended.old ≤ vec_capacity ended.new }
@@ -104,7 +104,7 @@ impl Namespace {
     }
 
     /// The rule of the right that the call needs on its object, where its client lacks it.
-    #[tactic(auto, unfolding(ipc_model::specs::Decide::plan))]
+    #[tactic(auto, unfolding(ipc_model::specs::Decide::part_plan))]
     fn denial(&self, client: u32, call: &Call) -> Option<Rule>
         requires client { client < length self.now.clients }
         requires waits { may_wait call.now ≡ true }
@@ -120,11 +120,11 @@ impl Namespace {
     /// The rule of the right on a queue, where the client lacks it.
     fn denial_on(&self, client: u32, id: u32, want: Want) -> Option<Rule>
         requires { client < length self.now.clients }
-        ensures { result ≡ first_denial (creds_at self.now client) (needs_for want (queue_at self.now id)) }
+        ensures { result ≡ first_denial (creds_at self.now client) (needs_for want (queue_at self.now.queues id)) }
     {
         let creds = &self.clients[client as usize];
         let queue = self.queues.get(id)?;
-        match decide(creds, &queue.perm(), want) {
+        match decide(creds, &queue.perm, want) {
             Verdict::Allowed(_) => None,
             Verdict::Denied(rule) => Some(rule),
         }

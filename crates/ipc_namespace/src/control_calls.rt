@@ -1,85 +1,101 @@
 // The controls of objects of any kind, IPC_STAT, IPC_SET and IPC_RMID (msgctl(2), semctl(2), shmctl(2)), and the interrupt
 // of a waiting call.
 
-ghost use Rattle.std.specs.Prelude.{◌≡◌, ℕ, ◌<◌, length, option_copied};
+ghost use Rattle.std.specs.Prelude.{◌≡◌, ℕ, ◌+◌, ◌<◌, ◌≤◌, [], ⊤, length, vec_len, vec_capacity, Some, Ok, option_copied};
 ghost use Rattle.ipc_model.specs.State.{creds_at};
-ghost use Rattle.ipc_model.specs.Decision.{Grant};
+ghost use Rattle.ipc_model.specs.Decision.{left_by, outcome_of};
 ghost use Rattle.ipc_model.specs.Plan.{decision};
-ghost use Rattle.ipc_model.specs.Controls.{is_within as is_within_limit, perm_of as perm_in, remove_object, set_object, stat_object};
-ghost use Rattle.ipc_model.specs.Interrupts.{interrupt, process as process_of};
-ghost use Rattle.ipc_namespace.specs.Decisions.{decided};
-ghost use Rattle.ipc_namespace.specs.Namespace.{sends_on};
+ghost use Rattle.ipc_model.specs.Decide.{decide as decision_on};
+ghost use Rattle.ipc_model.specs.Step.{moved_by};
+ghost use Rattle.ipc_model.specs.Controls.{is_within as is_within_limit, perm_of as perm_in, remove_object, set_object};
+ghost use Rattle.ipc_model.specs.Interrupts.{interrupt as interrupt_by, process as process_of};
+ghost use Rattle.ipc_namespace.specs.Namespace.{allowed_by};
+ghost use Rattle.queue_calls.specs.Calls.{without_answer};
 
-use crate::decisions::{Decided, TO_READ, go_if};
+use crate::cancelling::Cancelling;
 use crate::namespace::Namespace;
 use bitflags::Flags;
-use ipc_call::{Answer, Kind, Rule, Settings};
+use ipc_call::{Answer, Call, Ended, Kind, Outcome, Rule, Settings};
 use ipc_creds::{Caps, Creds};
 use ipc_perm::{Perm, Verdict, decide, may_control, may_interrupt};
+use queue_calls::{TO_READ, status};
+
+/// Nothing, or the rule that denies.
+fn allowed(verdict: Verdict) -> Result<(), Rule>
+    ensures { result ≡ allowed_by verdict }
+{
+    match verdict {
+        Verdict::Allowed(_) => Ok(()),
+        Verdict::Denied(rule) => Err(rule),
+    }
+}
 
 impl Namespace {
-    /// The decision on IPC_STAT.
-    pub(super) fn decide_stat(&self, creds: &Creds, kind: Kind, id: u32) -> Decided
-        ensures { result ≡ decided (decision creds.now (stat_object self.now kind id)) }
-    {
-        match kind {
-            Kind::Queue => match self.queues.get(id) {
-                None => Decided::Refuse(Rule::BadId),
-                Some(queue) => go_if(decide(creds, &queue.perm(), TO_READ)),
-            },
-            Kind::Sems | Kind::Segment => Decided::Refuse(Rule::BadId),
-        }
-    }
-
-    /// Grants IPC_STAT. It takes no memory.
-    pub(super) fn grant_stat(&self, client: u32, kind: Kind, id: u32) -> Answer
+    /// IPC_STAT.
+    #[tactic(auto, unfolding(ipc_model::specs::Decide::part_plan))]
+    pub(super) fn stat(&self, client: u32, kind: Kind, id: u32) -> Outcome
         requires known { client < length self.now.clients }
-        requires go { decided (decision (creds_at self.now client) (stat_object self.now kind id)) ≡ Decided.Grant }
-        ensures { decision (creds_at self.now client) (stat_object self.now kind id) ≡ Grant result self.now }
+        ensures outcome { outcome_of (decision_on self.now client (Call.IpcStat kind id)) ≡ Some result }
+        ensures same { left_by self.now (decision_on self.now client (Call.IpcStat kind id)) ≡ self.now }
     {
+        let creds = &self.clients[client as usize];
         match kind {
-            Kind::Queue => match self.queues.get(id) {
-                None => unreachable!(),
-                Some(queue) => Answer::Status(queue.status()),
-            },
-            Kind::Sems | Kind::Segment => unreachable!(),
+            Kind::Queue => {
+                let Some(queue) = self.queues.get(id) else {
+                    return Err(Rule::BadId);
+                };
+                allowed(decide(creds, &queue.perm, TO_READ))?;
+                Ok(Answer::Status(status(queue)))
+            }
+            Kind::Sems | Kind::Segment => Err(Rule::BadId),
         }
     }
 
-    /// The decision on IPC_SET. Whether `qbytes` is given is asked before the identifier is looked up.
-    pub(super) fn decide_set(&self, creds: &Creds, kind: Kind, id: u32, new: Settings) -> Decided
-        ensures { result ≡ decided (decision creds.now (set_object self.now kind id new)) }
-    {
-        if kind != Kind::Queue && new.qbytes.is_some() {
-            return Decided::Refuse(Rule::BadArgument);
-        }
-        let Some(perm) = self.perm_of(kind, id) else {
-            return Decided::Refuse(Rule::BadId);
-        };
-        if let Verdict::Denied(rule) = may_control(creds, &perm) {
-            return Decided::Refuse(rule);
-        }
-        if self.is_within(new.qbytes) || creds.caps().contains(Caps::SYS_RESOURCE) {
-            Decided::Grant
-        } else {
-            Decided::Refuse(Rule::NeedsResource)
-        }
-    }
-
-    /// Grants IPC_SET. It takes no memory.
-    pub(super) fn grant_set(&mut self, client: u32, kind: Kind, id: u32, new: Settings) -> Answer
+    /// IPC_SET. The waiting calls end that it takes the right from; there is room for each in the list of those that
+    /// ended.
+    #[tactic(auto, unfolding(ipc_model::specs::Decide::part_plan))]
+    pub(super) fn set(
+        &mut self,
+        client: u32,
+        kind: Kind,
+        id: u32,
+        new: Settings,
+        ended: &mut Vec<Ended>,
+    ) -> Outcome
         requires known { client < length self.old.clients }
-        requires go { decided (decision (creds_at self.old client) (set_object self.old kind id new)) ≡ Decided.Grant }
-        ensures served { decision (creds_at self.old client) (set_object self.old kind id new) ≡ Grant result self.new }
-        ensures parked { self.new.parked ≡ self.old.parked }
-        ensures limits { self.new.limits ≡ self.old.limits }
-        ensures clients { self.new.clients ≡ self.old.clients }
+        requires empty { ended.old.items ≡ [] }
+        requires space { length self.old.parked ≤ vec_capacity ended.old }
+        ensures outcome { outcome_of (decision_on self.old client (Call.IpcSet kind id new.uid new.gid new.mode new.qbytes)) ≡ Some result }
+        ensures state { self.new ≡ (moved_by self.old client (Call.IpcSet kind id new.uid new.gid new.mode new.qbytes)).state }
+        ensures ended { ended.new.items ≡ (moved_by self.old client (Call.IpcSet kind id new.uid new.gid new.mode new.qbytes)).ended }
+        ensures few { vec_len ended.new + length self.new.parked ≡ length self.old.parked }
+        ensures space { vec_capacity ended.old ≤ vec_capacity ended.new }
     {
+        self.may_set(&self.clients[client as usize], kind, id, new)?;
         match kind {
             Kind::Queue => self.queues.set(id, new, self.clock),
             Kind::Sems | Kind::Segment => unreachable!(),
         }
-        Answer::Done
+        self.cancel(Cancelling::Denied(kind, id), ended);
+        Ok(Answer::Done)
+    }
+
+    /// Whether IPC_SET is granted. Whether `qbytes` is given is asked before the identifier is looked up.
+    fn may_set(&self, creds: &Creds, kind: Kind, id: u32, new: Settings) -> Result<(), Rule>
+        ensures { without_answer (decision creds.now (set_object self.now kind id new)) ≡ Some result }
+    {
+        if kind != Kind::Queue && new.qbytes.is_some() {
+            return Err(Rule::BadArgument);
+        }
+        let Some(perm) = self.perm_of(kind, id) else {
+            return Err(Rule::BadId);
+        };
+        allowed(may_control(creds, &perm))?;
+        if self.is_within(new.qbytes) || creds.caps().contains(Caps::SYS_RESOURCE) {
+            Ok(())
+        } else {
+            Err(Rule::NeedsResource)
+        }
     }
 
     /// Whether a msg_qbytes that is asked for is at most MSGMNB.
@@ -92,41 +108,70 @@ impl Namespace {
         }
     }
 
-    /// The decision on IPC_RMID.
-    pub(super) fn decide_remove(&self, creds: &Creds, kind: Kind, id: u32) -> Decided
-        ensures { result ≡ decided (decision creds.now (remove_object self.now kind id)) }
-    {
-        let Some(perm) = self.perm_of(kind, id) else {
-            return Decided::Refuse(Rule::BadId);
-        };
-        go_if(may_control(creds, &perm))
-    }
-
-    /// Grants IPC_RMID: the object leaves, and its key is free. It takes no memory.
-    pub(super) fn grant_remove(&mut self, client: u32, kind: Kind, id: u32) -> Answer
+    /// IPC_RMID: the object leaves, and its key is free. The waiting calls at it end; there is room for each in the list
+    /// of those that ended.
+    #[tactic(auto, unfolding(ipc_model::specs::Decide::part_plan))]
+    pub(super) fn remove(
+        &mut self,
+        client: u32,
+        kind: Kind,
+        id: u32,
+        ended: &mut Vec<Ended>,
+    ) -> Outcome
         requires known { client < length self.old.clients }
-        requires go { decided (decision (creds_at self.old client) (remove_object self.old kind id)) ≡ Decided.Grant }
-        requires left { sends_on id self.old.parked ≡ 0 }
-        ensures served { decision (creds_at self.old client) (remove_object self.old kind id) ≡ Grant result self.new }
-        ensures parked { self.new.parked ≡ self.old.parked }
-        ensures limits { self.new.limits ≡ self.old.limits }
-        ensures clients { self.new.clients ≡ self.old.clients }
+        requires empty { ended.old.items ≡ [] }
+        requires space { length self.old.parked ≤ vec_capacity ended.old }
+        ensures outcome { outcome_of (decision_on self.old client (Call.IpcRmid kind id)) ≡ Some result }
+        ensures state { self.new ≡ (moved_by self.old client (Call.IpcRmid kind id)).state }
+        ensures ended { ended.new.items ≡ (moved_by self.old client (Call.IpcRmid kind id)).ended }
+        ensures few { vec_len ended.new + length self.new.parked ≡ length self.old.parked }
+        ensures space { vec_capacity ended.old ≤ vec_capacity ended.new }
     {
+        self.may_remove(&self.clients[client as usize], kind, id)?;
+        self.cancel(Cancelling::Removed(kind, id), ended); // what waits gives its places back first
         match kind {
             Kind::Queue => self.queues.remove(id),
             Kind::Sems | Kind::Segment => unreachable!(),
         }
-        Answer::Done
+        Ok(Answer::Done)
     }
 
-    /// The decision on an interrupt of the client of a process.
-    pub(super) fn decide_interrupt(&self, creds: &Creds, pid: u32) -> Decided
-        ensures { result ≡ decided (decision creds.now (interrupt self.now pid)) }
+    /// Whether IPC_RMID is granted.
+    fn may_remove(&self, creds: &Creds, kind: Kind, id: u32) -> Result<(), Rule>
+        ensures { without_answer (decision creds.now (remove_object self.now kind id)) ≡ Some result }
     {
-        match self.process(pid) {
-            None => Decided::Refuse(Rule::NoProcess),
-            Some(target) => go_if(may_interrupt(creds, target.euid())),
-        }
+        let Some(perm) = self.perm_of(kind, id) else {
+            return Err(Rule::BadId);
+        };
+        allowed(may_control(creds, &perm))
+    }
+
+    /// An interrupt of the client of a process: its waiting call ends; there is room for it in the list of those that
+    /// ended.
+    #[tactic(auto, unfolding(ipc_model::specs::Decide::part_plan))]
+    pub(super) fn interrupt(&mut self, client: u32, pid: u32, ended: &mut Vec<Ended>) -> Outcome
+        requires known { client < length self.old.clients }
+        requires empty { ended.old.items ≡ [] }
+        requires space { length self.old.parked ≤ vec_capacity ended.old }
+        ensures outcome { outcome_of (decision_on self.old client (Call.Interrupt pid)) ≡ Some result }
+        ensures state { self.new ≡ (moved_by self.old client (Call.Interrupt pid)).state }
+        ensures ended { ended.new.items ≡ (moved_by self.old client (Call.Interrupt pid)).ended }
+        ensures few { vec_len ended.new + length self.new.parked ≡ length self.old.parked }
+        ensures space { vec_capacity ended.old ≤ vec_capacity ended.new }
+    {
+        self.may_end_wait(&self.clients[client as usize], pid)?;
+        self.cancel(Cancelling::Interrupted(pid), ended);
+        Ok(Answer::Done)
+    }
+
+    /// Whether an interrupt of the client of a process is granted.
+    fn may_end_wait(&self, creds: &Creds, pid: u32) -> Result<(), Rule>
+        ensures { without_answer (decision creds.now (interrupt_by self.now pid)) ≡ Some result }
+    {
+        let Some(target) = self.process(pid) else {
+            return Err(Rule::NoProcess);
+        };
+        allowed(may_interrupt(creds, target.euid()))
     }
 
     /// The credentials of the client of a process.
@@ -144,7 +189,7 @@ impl Namespace {
         ensures { result ≡ perm_in self.now kind id }
     {
         match kind {
-            Kind::Queue => Some(self.queues.get(id)?.perm()),
+            Kind::Queue => self.queues.perm(id),
             Kind::Sems | Kind::Segment => None,
         }
     }

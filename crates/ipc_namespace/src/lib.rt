@@ -2,9 +2,9 @@
 //! refused, granted or made to wait, and the waiting calls end that it lets go on or ends.
 #![tactic(auto)]
 
+mod callers;
 mod cancelling;
 mod control_calls;
-mod decisions;
 mod message_calls;
 mod namespace;
 mod reserving;

@@ -18,7 +18,6 @@ ghost use Rattle.std.specs.Prelude.{
   IfSome,
   OnOk,
   OnErr,
-  Ok,
   Err,
   option_and_then,
   Some,
@@ -26,30 +25,27 @@ ghost use Rattle.std.specs.Prelude.{
 };
 ghost use Rattle.ipc_call.specs.Limits.{are_in_range};
 ghost use Rattle.ipc_model.specs.State.{opening, is_waiting as waits, waiting_of};
-ghost use Rattle.ipc_model.specs.Decision.{Grant};
-ghost use Rattle.ipc_model.specs.Decide.{decide as decision_on};
+ghost use Rattle.ipc_model.specs.Decision.{outcome_of, proceeds as does_proceed};
+ghost use Rattle.ipc_model.specs.Decide.{can_wait, decide as decision_on};
 ghost use Rattle.ipc_model.specs.Waits.{AreNotReady};
-ghost use Rattle.ipc_model.specs.Decision.{proceeds as does_proceed};
 ghost use Rattle.ipc_model.specs.Step.{
   is_ready,
   first_ready as first_that_is_ready,
   end_waiting,
-  settled,
-  own_of,
   enter as enters,
+  moved_by,
+  settled,
   step,
   without,
 };
-ghost use Rattle.ipc_namespace.specs.Decisions.{decided};
-ghost use Rattle.ipc_namespace.specs.Namespace.{moved_by};
+ghost use Rattle.ipc_namespace.specs.Namespace.{is_grant};
 
-use crate::cancelling::Cancelling;
-use crate::decisions::Decided;
+use crate::callers::caller_of;
 use crate::reserving::{release_in, reserve_in, sent_to};
-use ipc_call::{Answer, Call, Ended, Limits, Memory, Outcome, Rule, Settings};
-use ipc_control::Queues;
+use ipc_call::{Call, Ended, Limits, Memory, Outcome, Rule, Settings};
 use ipc_creds::Creds;
 use ipc_parked::Parked;
+use queue_calls::Queues;
 use std::alloc::Global;
 use std::marker::Model;
 
@@ -59,18 +55,6 @@ use std::marker::Model;
 pub struct Served {
     pub own: Option<Outcome>,
     pub ended: Vec<Ended>,
-}
-
-impl Served {
-    // What an event did that ended no waiting call. It doesn't allocate.
-    fn alone(alloc: Global, own: Option<Outcome>) -> Served
-        ensures { (result.own ≡ own) × (result.ended.items ≡ []) }
-    {
-        Served {
-            own,
-            ended: Vec::new(alloc),
-        }
-    }
 }
 
 /// The state of a namespace: its objects, its clients, its clock in seconds, and the calls that wait
@@ -88,7 +72,7 @@ impl Model for Namespace {
     ghost use Rattle.std.specs.Prelude.{◌≤◌, length, vec_len};
     ghost use Rattle.std.specs.FinMap as map;
     ghost use Rattle.std.specs.Coded.{codes};
-    ghost use Rattle.ipc_control.specs.Held.{queues_of};
+    ghost use Rattle.queue_calls.specs.Held.{queues_of};
     ghost use Rattle.ipc_model.specs.State.{State};
     ghost use Rattle.ipc_parked.specs.Parked.{waiting};
     ghost use Rattle.ipc_namespace.specs.Namespace.{AreParked, IsReserved};
@@ -193,35 +177,79 @@ impl Namespace {
         requires quiet { first_that_is_ready self.old ≡ None }
         ensures ok { IfOk result (λ served. enters self.old client call ≡ record { state = self.new; own = served.own; ended = served.ended.items }) }
         ensures few { IfOk result (λ served. vec_len served.ended ≤ length self.old.parked) }
-        ensures limits { self.new.limits ≡ self.old.limits }
-        ensures clients { self.new.clients ≡ self.old.clients }
         ensures err { OnErr result (self.new ≡ self.old) }
     {
-        match self.decide(client, &call) {
-            Decided::Refuse(rule) => Ok(Served::alone(self.alloc(), Some(Err(rule)))),
-            Decided::Wait => {
-                self.park(client, place, call)?;
-                Ok(Served::alone(self.alloc(), None))
+        let mut ended = Vec::with_capacity(self.alloc(), self.most_ended())?;
+        let own = self.act(client, place, call, &mut ended)?;
+        if is_granted(&own) {
+            self.settle(&mut ended);
+        }
+        Ok(Served { own, ended })
+    }
+
+    /// Refuses or grants the call, or makes it wait. Where it is granted, the waiting calls end that it cancels; there is
+    /// room for each in the list of those that ended. The error comes only where an allocation fails, and then nothing
+    /// has changed.
+    fn act(
+        &mut self,
+        client: u32,
+        place: u64,
+        call: Call,
+        ended: &mut Vec<Ended>,
+    ) -> Result<Option<Outcome>, Memory>
+        requires known { client < length self.old.clients }
+        requires free { waits self.old client ≡ false }
+        requires empty { ended.old.items ≡ [] }
+        requires space { length self.old.parked ≤ vec_capacity ended.old }
+        ensures own { IfOk result (λ own. own ≡ outcome_of (decision_on self.old client call)) }
+        ensures state { OnOk result (self.new ≡ (moved_by self.old client call).state) }
+        ensures ended { OnOk result (ended.new.items ≡ (moved_by self.old client call).ended) }
+        ensures few { IfOk result (λ own. IfSome own (λ _. vec_len ended.new + length self.new.parked ≡ length self.old.parked)) }
+        ensures space { OnOk result (vec_capacity ended.old ≤ vec_capacity ended.new) }
+        ensures err { OnErr result (self.new ≡ self.old) }
+    {
+        match call {
+            Call::MsgGet { key, flags } => Ok(Some(self.msgget(client, key, flags)?)),
+            Call::MsgSnd {
+                id,
+                mtype,
+                text,
+                flags,
+            } => self.msgsnd(client, place, id, mtype, text, flags),
+            Call::MsgRcv {
+                id,
+                size,
+                msgtyp,
+                flags,
+            } => self.msgrcv(client, place, id, size, msgtyp, flags),
+            Call::IpcStat { kind, id } => Ok(Some(self.stat(client, kind, id))),
+            Call::IpcSet {
+                kind,
+                id,
+                uid,
+                gid,
+                mode,
+                qbytes,
+            } => {
+                let new = Settings {
+                    uid,
+                    gid,
+                    mode,
+                    qbytes,
+                };
+                Ok(Some(self.set(client, kind, id, new, ended)))
             }
-            Decided::Grant => {
-                let mut ended = Vec::with_capacity(self.alloc(), self.most_ended())?;
-                let answer = self.carry_out(client, call, &mut ended)?;
-                self.settle(&mut ended);
-                Ok(Served {
-                    own: Some(Ok(answer)),
-                    ended,
-                })
-            }
+            Call::IpcRmid { kind, id } => Ok(Some(self.remove(client, kind, id, ended))),
+            Call::Interrupt { pid } => Ok(Some(self.interrupt(client, pid, ended))),
         }
     }
 
     /// Makes the call wait, as the last, on which that was decided. What its completion needs is made here. Memory
     /// comes where a growth was refused, and then nothing has changed.
-    #[tactic(auto, unfolding(ipc_model::specs::Decide::plan))]
-    fn park(&mut self, client: u32, place: u64, call: Call) -> Result<(), Memory>
+    pub(super) fn park(&mut self, client: u32, place: u64, call: Call) -> Result<(), Memory>
         requires known { client < length self.old.clients }
         requires free { waits self.old client ≡ false }
-        requires waits { decided (decision_on self.old client call) ≡ Decided.Wait }
+        requires waits { outcome_of (decision_on self.old client call) ≡ None }
         ensures ok { OnOk result (self.new ≡ record self.old { parked = self.old.parked ++ record { client = client; call = call } ∷ [] }) }
         ensures err { OnErr result (self.new ≡ self.old) }
     {
@@ -241,8 +269,6 @@ impl Namespace {
         ensures state { self.new ≡ (settled self.old).state }
         ensures ended { ended.new.items ≡ ended.old.items ++ (settled self.old).ended }
         ensures few { vec_len ended.new ≤ vec_len ended.old + length self.old.parked }
-        ensures limits { self.new.limits ≡ self.old.limits }
-        ensures clients { self.new.clients ≡ self.old.clients }
     {
         while let Some(client) = self.first_ready() {
             let completion = self.end_ready(client);
@@ -259,30 +285,65 @@ impl Namespace {
             .earliest(|client, call| self.proceeds(client, call))
     }
 
-    /// Whether a call would not wait.
+    /// Whether a call that waits would not wait if it came now.
+    #[tactic(auto, unfolding(ipc_model::specs::Decide::part_plan))]
     fn proceeds(&self, client: u32, call: &Call) -> bool
-        requires { client < length self.now.clients }
+        requires known { client < length self.now.clients }
+        requires waits { can_wait call.now ≡ true }
         ensures { result ≡ does_proceed (decision_on self.now client call.now) }
     {
-        match self.decide(client, call) {
-            Decided::Refuse(_) | Decided::Grant => true,
-            Decided::Wait => false,
+        let who = caller_of(&self.clients, client, self.clock);
+        match call {
+            Call::MsgSnd {
+                id,
+                mtype,
+                text,
+                flags,
+            } => self
+                .queues
+                .decide_send(&self.limits, &who, *id, *mtype, text.len(), *flags)
+                .is_some(),
+            Call::MsgRcv {
+                id,
+                msgtyp,
+                flags,
+                ..
+            } => self.queues.may_receive(&who, *id, *msgtyp, *flags),
+            _ => unreachable!(),
         }
     }
 
-    /// Ends the client's waiting call, which can proceed.
+    /// Ends the client's waiting call, which can proceed: it leaves the list, and is refused or carried out. It takes no
+    /// memory: what it needs was made when it began to wait.
+    #[tactic(auto, unfolding(ipc_model::specs::Decide::part_plan))]
     fn end_ready(&mut self, client: u32) -> Ended
         requires waits { waits self.old client ≡ true }
         requires ready { IfSome (waiting_of self.old client) (λ w. is_ready self.old w ≡ true) }
         ensures ended { IfSome (waiting_of self.old client) (λ w. end_waiting self.old w ≡ record { state = self.new; ended = result ∷ [] }) }
         ensures shorter { length self.new.parked + 1 ≡ length self.old.parked }
-        ensures limits { self.new.limits ≡ self.old.limits }
-        ensures clients { self.new.clients ≡ self.old.clients }
     {
-        match self.decide(client, self.parked.call_of(client)) {
-            Decided::Refuse(rule) => self.end_refused(client, rule),
-            Decided::Wait => unreachable!(),
-            Decided::Grant => self.complete(client),
+        let call = self.parked.finish(client);
+        let who = caller_of(&self.clients, client, self.clock);
+        let outcome = match call {
+            Call::MsgSnd {
+                id,
+                mtype,
+                text,
+                flags,
+            } => self
+                .queues
+                .send_reserved(&self.limits, &who, id, mtype, text, flags),
+            Call::MsgRcv {
+                id,
+                size,
+                msgtyp,
+                flags,
+            } => self.queues.msgrcv(&who, id, size, msgtyp, flags),
+            _ => unreachable!(),
+        };
+        match outcome {
+            Some(outcome) => Ended { client, outcome },
+            None => unreachable!(),
         }
     }
 
@@ -300,149 +361,11 @@ impl Namespace {
             outcome: Err(rule),
         }
     }
+}
 
-    /// Completes the client's waiting call, on which that was decided: it leaves the list and is carried out.
-    /// It takes no memory: what it needs was made when it began to wait.
-    #[tactic(auto, unfolding(ipc_model::specs::Decide::plan))]
-    fn complete(&mut self, client: u32) -> Ended
-        requires waits { waits self.old client ≡ true }
-        requires go { IfSome (waiting_of self.old client) (λ w. decided (decision_on (without self.old client) w.client w.call) ≡ Decided.Grant) }
-        ensures ended { IfSome (waiting_of self.old client) (λ w. end_waiting self.old w ≡ record { state = self.new; ended = result ∷ [] }) }
-        ensures shorter { length self.new.parked + 1 ≡ length self.old.parked }
-        ensures limits { self.new.limits ≡ self.old.limits }
-        ensures clients { self.new.clients ≡ self.old.clients }
-    {
-        let call = self.parked.finish(client);
-        let answer = match call {
-            Call::MsgSnd {
-                id,
-                mtype,
-                text,
-                ..
-            } => {
-                self.queues.send(id, client, mtype, text, self.clock);
-                Answer::Done
-            }
-            Call::MsgRcv {
-                id,
-                size,
-                msgtyp,
-                flags,
-            } => self.grant_receive(client, id, size, msgtyp, flags),
-            _ => unreachable!(),
-        };
-        Ended {
-            client,
-            outcome: Ok(answer),
-        }
-    }
-
-    /// The decision on a call, with the credentials of its client. It takes no memory.
-    #[tactic(auto, unfolding(ipc_model::specs::Decide::plan))]
-    fn decide(&self, client: u32, call: &Call) -> Decided
-        requires { client < length self.now.clients }
-        ensures { result ≡ decided (decision_on self.now client call.now) }
-    {
-        let creds = &self.clients[client as usize];
-        match call {
-            Call::MsgGet { key, flags } => self.decide_get_queue(creds, *key, *flags),
-            Call::MsgSnd {
-                id,
-                mtype,
-                text,
-                flags,
-            } => self.decide_send(creds, *id, *mtype, text.len(), *flags),
-            Call::MsgRcv {
-                id,
-                size,
-                msgtyp,
-                flags,
-            } => self.decide_receive(creds, *id, *size, *msgtyp, *flags),
-            Call::IpcStat { kind, id } => self.decide_stat(creds, *kind, *id),
-            Call::IpcSet {
-                kind,
-                id,
-                uid,
-                gid,
-                mode,
-                qbytes,
-            } => {
-                let new = Settings {
-                    uid: *uid,
-                    gid: *gid,
-                    mode: *mode,
-                    qbytes: *qbytes,
-                };
-                self.decide_set(creds, *kind, *id, new)
-            }
-            Call::IpcRmid { kind, id } => self.decide_remove(creds, *kind, *id),
-            Call::Interrupt { pid } => self.decide_interrupt(creds, *pid),
-        }
-    }
-
-    /// Carries out a call on which that was decided, and ends the waiting calls that it ends. Memory comes where a
-    /// growth was refused, and then nothing has changed.
-    #[tactic(auto, unfolding(ipc_model::specs::Decide::plan))]
-    fn carry_out(
-        &mut self,
-        client: u32,
-        call: Call,
-        ended: &mut Vec<Ended>,
-    ) -> Result<Answer, Memory>
-        requires known { client < length self.old.clients }
-        requires go { decided (decision_on self.old client call) ≡ Decided.Grant }
-        requires empty { ended.old.items ≡ [] }
-        requires space { length self.old.parked ≤ vec_capacity ended.old }
-        ensures state { OnOk result (self.new ≡ (moved_by self.old client call).state) }
-        ensures ended { OnOk result (ended.new.items ≡ (moved_by self.old client call).ended) }
-        ensures own { IfOk result (λ answer. own_of (decision_on self.old client call) ≡ Some (Ok answer)) }
-        ensures few { OnOk result (vec_len ended.new + length self.new.parked ≡ length self.old.parked) }
-        ensures space { OnOk result (vec_capacity ended.old ≤ vec_capacity ended.new) }
-        ensures limits { self.new.limits ≡ self.old.limits }
-        ensures clients { self.new.clients ≡ self.old.clients }
-        ensures err { OnErr result (self.new ≡ self.old) }
-    {
-        match call {
-            Call::MsgGet { key, flags } => self.grant_get_queue(client, key, flags),
-            Call::MsgSnd {
-                id,
-                mtype,
-                text,
-                flags,
-            } => self.grant_send(client, id, mtype, text, flags),
-            Call::MsgRcv {
-                id,
-                size,
-                msgtyp,
-                flags,
-            } => Ok(self.grant_receive(client, id, size, msgtyp, flags)),
-            Call::IpcStat { kind, id } => Ok(self.grant_stat(client, kind, id)),
-            Call::IpcSet {
-                kind,
-                id,
-                uid,
-                gid,
-                mode,
-                qbytes,
-            } => {
-                let new = Settings {
-                    uid,
-                    gid,
-                    mode,
-                    qbytes,
-                };
-                let answer = self.grant_set(client, kind, id, new);
-                self.cancel(Cancelling::Denied(kind, id), ended);
-                Ok(answer)
-            }
-            Call::IpcRmid { kind, id } => {
-                self.cancel(Cancelling::Removed(kind, id), ended); // what waits gives its places back first
-                Ok(self.grant_remove(client, kind, id))
-            }
-            Call::Interrupt { pid } => {
-                self.cancel(Cancelling::Interrupted(pid), ended);
-                Ok(Answer::Done)
-            }
-        }
-    }
+/// Whether a call ended so that it was granted.
+fn is_granted(own: &Option<Outcome>) -> bool
+    ensures { result ≡ is_grant own.now }
+{
+    matches!(own, Some(Ok(_)))
 }

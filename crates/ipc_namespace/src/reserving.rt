@@ -2,11 +2,11 @@
 
 ghost use Rattle.std.specs.Prelude.{◌≡◌, ℕ, ◌+◌, ◌<◌, true, IsSome, OnOk, OnErr};
 ghost use Rattle.std.specs.FinMap as map;
-ghost use Rattle.ipc_control.specs.Held.{one_if, queues_of, room};
+ghost use Rattle.queue_calls.specs.Held.{one_if, queues_of, room};
 ghost use Rattle.ipc_namespace.specs.Namespace.{is_at, sent_to as call_sent_to};
 
 use ipc_call::{Call, Memory};
-use ipc_control::Queues;
+use queue_calls::Queues;
 
 /// The queue that the call sends to, in which its completion needs a place.
 pub fn sent_to(call: &Call) -> Option<u32>

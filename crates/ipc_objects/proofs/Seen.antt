@@ -1,11 +1,12 @@
 -- A table of which a part is hidden: searches and changes of what is seen of it.
 use Rattle.std.proofs.Common.{◌≡◌, ℕ, Bool, false, refl, sym, ap, ◌∙◌, Option, Some, None, ⊎_elim}
-use Rattle.std.specs.Prelude.{is_some, option_map, option_and_then, unwrap_or}
+use Rattle.std.specs.Prelude.{true, not, ◌&&◌, is_none, is_some, option_map, option_and_then, unwrap_or}
 use Rattle.std.specs.FinMap as map
-use Rattle.std.proofs.lemmas.Bool.{cases_eq}
+use Rattle.std.proofs.lemmas.Bool.{cases_eq, false≢true}
 use Rattle.std.proofs.lemmas.Option.{none-some, same_Some}
-use Rattle.ipc_ids.specs.Table.{Table, empty_table, find_object, holds_at, id_at, least_from, next_id, object_at, with_object, without_object}
+use Rattle.ipc_ids.specs.Table.{Table, empty_table, find_object, holds_at, id_at, is_retired, is_usable, least_from, next_id, object_at, with_object, without_object}
 use Rattle.ipc_ids.proofs.Ids.{same_maps}
+use Rattle.ipc_ids.proofs.Least.{least_found}
 use Rattle.ipc_ids.proofs.Images.{get-image, image-empty, image-with, image-without, next_id-image}
 use Rattle.ipc_ids.proofs.Sound.{get-insert-other, get-insert-same}
 use Rattle.ipc_objects.specs.declared.object.Object.{Object}
@@ -19,6 +20,28 @@ insert-same {X} t id x there = ap (λ (objects : _). record t { objects = object
     (λ (same : j ≡ id). ap (λ n. map.get (map.insert t.objects id x) n) same ∙ get-insert-same t.objects id x ∙ sym there ∙ ap (λ n. map.get t.objects n) (sym same))
     (λ (ne : j ≡ id → ⊥). get-insert-other t.objects id x j ne)
     (cases_eq j id)))
+
+-- of two objects that are put at one identifier the later one stays
+pub insert-twice : {X : Type 0} (t : Table X) (id : ℕ) (x y : X) → with_object (with_object t id x) id y ≡ with_object t id y
+insert-twice {X} t id x y = ap (λ (objects : _). record t { objects = objects }) (same_maps (map.insert (map.insert t.objects id x) id y) (map.insert t.objects id y) (λ j. ⊎_elim
+    (λ (same : j ≡ id). ap (λ n. map.get (map.insert (map.insert t.objects id x) id y) n) same ∙ get-insert-same (map.insert t.objects id x) id y ∙ sym (get-insert-same t.objects id y) ∙ ap (λ n. map.get (map.insert t.objects id y) n) (sym same))
+    (λ (ne : j ≡ id → ⊥). get-insert-other (map.insert t.objects id x) id y j ne ∙ get-insert-other t.objects id x j ne ∙ sym (get-insert-other t.objects id y j ne))
+    (cases_eq j id)))
+
+-- no object has the identifier of the next one
+module _ {X : Type 0} (t : Table X) where
+  usable-free : (retired : Bool) (o : Option X) → not retired && is_none o ≡ true → o ≡ None
+  usable-free retired None is = refl
+  usable-free true (Some x) is = absurd (false≢true is)
+  usable-free false (Some x) is = absurd (false≢true is)
+
+  next_id-from : (id : ℕ) (o : Option ℕ) → o ≡ least_from (λ slot. is_usable t slot) t.slots 0 → option_map (λ slot. id_at t slot) o ≡ Some id → map.get t.objects id ≡ None
+  next_id-from id None same is = absurd (none-some id is)
+  next_id-from id (Some slot) same is =
+      ap (λ n. map.get t.objects n) (sym (same_Some (id_at t slot) id is)) ∙ usable-free (is_retired t slot) (object_at t slot) (least_found (λ slot. is_usable t slot) t.slots 0 slot (sym same)).0
+
+  pub next_id-free : (id : ℕ) → next_id t ≡ Some id → map.get t.objects id ≡ None
+  next_id-free id is = next_id-from id (least_from (λ slot. is_usable t slot) t.slots 0) refl is
 
 some-map : {X Y : Type 0} (f : X → Y) (o : Option X) → is_some (option_map f o) ≡ is_some o
 some-map f None = refl
@@ -39,6 +62,41 @@ module _ {X : Type 0} (t : Table (Object X)) (id : ℕ) (new : X) where
       by : (o : Option (Object X)) → contents_of (with_perm t id (λ object. record object { contents = new }) o) j ≡ contents_of t j
       by None = refl
       by (Some object) = ap (option_map (λ (object : Object X). object.contents)) (get-insert-other t.objects id (record object { contents = new }) j ne)
+
+  pub contents-same : contents_of t id ≡ Some new → with_contents t id new ≡ t
+  contents-same there = by (map.get t.objects id) refl there
+    where
+      by : (o : Option (Object X)) → map.get t.objects id ≡ o → option_map (λ (object : Object X). object.contents) o ≡ Some new → with_perm t id (λ object. record object { contents = new }) o ≡ t
+      by None is none = refl
+      by (Some object) is some = ap (λ x. with_object t id (record object { contents = x })) (sym (same_Some object.contents new some)) ∙ insert-same t id object is
+
+-- two changes of one object
+pub changed-twice : {X : Type 0} (t : Table (Object X)) (id : ℕ) (first second : Object X → Object X) → changed (changed t id first) id second ≡ changed t id (λ object. second (first object))
+changed-twice {X} t id first second = by (map.get t.objects id) refl
+  where
+    by : (o : Option (Object X)) → map.get t.objects id ≡ o → changed (with_perm t id first o) id second ≡ with_perm t id (λ object. second (first object)) o
+    by None is = ap (with_perm t id second) is
+    by (Some object) is = ap (with_perm (with_object t id (first object)) id second) (get-insert-same t.objects id (first object)) ∙ insert-twice t id (first object) (second (first object))
+
+-- a change of one object: the same objects are there, and where it keeps the contents, so are those of each
+module _ {X : Type 0} (t : Table (Object X)) (id : ℕ) (change : Object X → Object X) where
+  pub changed-there : is_some (map.get (changed t id change).objects id) ≡ is_some (map.get t.objects id)
+  changed-there = by (map.get t.objects id) refl
+    where
+      by : (o : Option (Object X)) → map.get t.objects id ≡ o → is_some (map.get (with_perm t id change o).objects id) ≡ is_some o
+      by None is = ap (λ (o : Option (Object X)). is_some o) is
+      by (Some object) is = ap (λ (o : Option (Object X)). is_some o) (get-insert-same t.objects id (change object))
+
+  pub contents-kept : ((object : Object X) → (change object).contents ≡ object.contents) → (j : ℕ) → contents_of (changed t id change) j ≡ contents_of t j
+  contents-kept kept j = by (map.get t.objects id) refl
+    where
+      by : (o : Option (Object X)) → map.get t.objects id ≡ o → contents_of (with_perm t id change o) j ≡ contents_of t j
+      by None is = refl
+      by (Some object) is = ⊎_elim
+          (λ (same : j ≡ id). ap (λ n. contents_of (with_object t id (change object)) n) same ∙ ap (option_map (λ (object : Object X). object.contents)) (get-insert-same t.objects id (change object)) ∙ ap (λ x. Some x) (kept object)
+          ∙ ap (option_map (λ (object : Object X). object.contents)) (sym is) ∙ ap (λ n. contents_of t n) (sym same))
+          (λ (ne : j ≡ id → ⊥). ap (option_map (λ (object : Object X). object.contents)) (get-insert-other t.objects id (change object) j ne))
+          (cases_eq j id)
 
 module _ {X Y : Type 0} (f : X → Y) where
   pub empty-seen : (slots first_seq : ℕ) → all_seen f (empty_table slots first_seq) ≡ empty_table slots first_seq
@@ -96,12 +154,7 @@ module _ {X Y : Type 0} (f : X → Y) where
 
     -- a change of what is hidden alone
     pub contents-hidden : (id : ℕ) (old new : X) → contents_of t id ≡ Some old → f new ≡ f old → all_seen f (with_contents t id new) ≡ all_seen f t
-    contents-hidden id old new there same = contents-seen id new ∙ ap (λ y. with_contents (all_seen f t) id y) same ∙ by (map.get (all_seen f t).objects id) refl (contents_of-seen id ∙ ap (option_map f) there)
-      where
-        by : (o : Option (Object Y)) → map.get (all_seen f t).objects id ≡ o → option_map (λ (object : Object Y). object.contents) o ≡ Some (f old)
-            → with_perm (all_seen f t) id (λ object. record object { contents = f old }) o ≡ all_seen f t
-        by None is none = absurd (none-some (f old) none)
-        by (Some object) is some = ap (λ y. with_object (all_seen f t) id (record object { contents = y })) (sym (same_Some object.contents (f old) some)) ∙ insert-same (all_seen f t) id object is
+    contents-hidden id old new there same = contents-seen id new ∙ ap (λ y. with_contents (all_seen f t) id y) same ∙ contents-same (all_seen f t) id (f old) (contents_of-seen id ∙ ap (option_map f) there)
 
     -- a search by key finds the same objects
     pub find-seen : (key : ℕ) → find_object (has_key key) (all_seen f t) ≡ option_map {U = ℕ × Object Y} (λ (found : ℕ × Object X). (found.0, seen f found.1)) (find_object (has_key key) t)

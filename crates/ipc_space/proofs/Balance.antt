@@ -16,13 +16,14 @@ use Rattle.ipc_model.specs.State.{State, opening, is_waiting}
 use Rattle.ipc_model.specs.Decision.{Decision, Refuse, Wait, Grant, proceeds}
 use Rattle.ipc_model.specs.Decide.{decide}
 use Rattle.ipc_model.specs.Cancelled.{cancelled}
-use Rattle.ipc_model.specs.Step.{Event, Moved, Outcome, Stepped, at_time, end_waiting, ended_by, first_ready, cancelled_by, is_ready, own_of, settle, settle_from, settled, state_by, step, told_cancelled, without}
+use Rattle.ipc_model.specs.Step.{Event, Moved, Stepped, at_time, end_waiting, ended_by, first_ready, cancelled_by, is_ready, settle, settle_from, settled, state_by, step, told_cancelled, without}
+use Rattle.ipc_model.specs.Decision.{Outcome, outcome_of}
 use Rattle.ipc_model.specs.History.{AreLegalFrom, History, IsLegal, IsLegalAt, Told, answers_from, answers, next_step, own, replies, reply_of, run, run_from, told_by, told_ended, told_own, with_event}
 use Rattle.ipc_call.specs.declared.replies.Reply.{Reply}
 use Rattle.ipc_space.specs.Telling.{told_to, told_of, replies_in}
-use Rattle.ipc_space.proofs.Keeping.{Keeps, Keeps-decide, Follows-step}
+use Rattle.ipc_model.proofs.Keeping.{Keeps, Keeps-decide, Follows-step}
 use Rattle.ipc_parked.specs.Parked.{AreApart}
-use Rattle.ipc_namespace.proofs.Deciding.{parked_alike}
+use Rattle.ipc_model.proofs.Alike.{parked_alike}
 use Rattle.ipc_namespace.proofs.Own.{At, found-at, others}
 use Rattle.ipc_space.proofs.Once.{apart-cancelled_by, apart-end_waiting, apart-state_by, apart-run, apart-step, none_apart}
 
@@ -91,7 +92,7 @@ even-settle : (r n : ℕ) (s : State) → AreApart s.parked → IsEven r s (sett
 even-settle r zero s apart = omega arith
 even-settle r (suc n) s apart = even-settle_from r n (even-settle r n) s (first_ready s) apart refl
 
-even-state_by : (r : ℕ) (s : State) (client : ℕ) (call : Call) (d : Decision State) → Keeps s d → waits_of r (state_by s client call d).parked + own_told r client (own_of d) ≡ waits_of r s.parked + cond (client == r) 1 0
+even-state_by : (r : ℕ) (s : State) (client : ℕ) (call : Call) (d : Decision State) → Keeps s d → waits_of r (state_by s client call d).parked + own_told r client (outcome_of d) ≡ waits_of r s.parked + cond (client == r) 1 0
 even-state_by r s client call (Refuse rule) keeps = refl
 even-state_by r s client call Wait keeps = let one = waits-append r s.parked (record { client = client; call = call } ∷ []) in omega (arith, one)
 even-state_by r s client call (Grant answer new) keeps = let same = ap (waits_of r) keeps.0 in omega (arith, same)

@@ -11,48 +11,59 @@ use Rattle.ipc_call.specs.declared.rules.Rule.TheVariants.{BadType, TextTooLong}
 use Rattle.ipc_creds.specs.Credentials.{Credentials}
 use Rattle.ipc_perm.specs.Access.{Permission, denial}
 use Rattle.msg_queue.specs.declared.messages.Message.{Message}
-use Rattle.ipc_model.specs.State.{Queue, State, creds_at}
+use Rattle.ipc_model.specs.State.{Caller, Queue, Queues, State, caller, creds_at}
 use Rattle.ipc_model.specs.Decision.{Decision, Refuse, proceeds}
-use Rattle.ipc_model.specs.Plan.{decision, needs_in, unless}
-use Rattle.ipc_model.specs.Messages.{queue_at, receive_found, send_found, to_alter, to_read}
+use Rattle.ipc_model.specs.Plan.{decision, unless}
+use Rattle.ipc_model.specs.Messages.{queue_at, receive_found, receive_message, send_found, send_message, to_alter, to_read}
+use Rattle.ipc_objects.specs.declared.object.Object.{Object}
+use Rattle.ipc_model.proofs.Alike.{proceeds-on}
 use Rattle.ipc_namespace.specs.Namespace.{needs_for}
-use Rattle.ipc_model.specs.Decide.{can_wait, decide, needs, plan}
+use Rattle.ipc_model.specs.Decide.{can_wait, decide, needs, part_plan}
 use Rattle.ipc_model.specs.Cancelled.{first_denial, or_later}
 use Rattle.ipc_model.specs.History.{History, run}
 use Rattle.ipc_model.specs.Step.{is_ready}
 use Rattle.ipc_model.specs.Waits.{AreNotReady, ArePermitted}
-use Rattle.ipc_namespace.proofs.Deciding.{only_parkable}
-use Rattle.ipc_namespace.proofs.Endings.{received-needs}
+use Rattle.ipc_model.proofs.Alike.{only_parkable}
+use Rattle.ipc_namespace.proofs.Endings.{receiver-needs, sender-needs}
 use Rattle.ipc_namespace.proofs.Own.{found-none}
 use Rattle.ipc_space.proofs.Quiet.{IsQuiet, quiet-run}
 
-passes-waits : (b : Bool) (rule : Rule) (d : Decision State) → proceeds (cond b d (Refuse rule)) ≡ false → proceeds d ≡ false
+passes-waits : (b : Bool) (rule : Rule) (d : Decision Queues) → proceeds (cond b d (Refuse rule)) ≡ false → proceeds d ≡ false
 passes-waits true rule d waits = waits
 passes-waits false rule d waits = absurd (true≢false waits)
 
-need-waits : (o : Option Rule) (d : Decision State) → proceeds (unless o d) ≡ false → o ≡ None
+need-waits : (o : Option Rule) (d : Decision Queues) → proceeds (unless o d) ≡ false → o ≡ None
 need-waits None d waits = refl
 need-waits (Some rule) d waits = absurd (true≢false waits)
 
-sender-permitted : (s : State) (c : Credentials) (client id flags : ℕ) (message : Message) (queue : Option Queue) → proceeds (decision c (send_found s client id flags message queue)) ≡ false → first_denial c (needs_in (send_found s client id flags message queue)) ≡ None
-sender-permitted s c client id flags message None waits = refl
-sender-permitted s c client id flags message (Some queue) waits = ap (λ o. or_later o None) (need-waits (denial c (Permission queue.perm to_alter)) _ waits)
+module _ (queues : Queues) (who : Caller) (c : Credentials) (id flags : ℕ) where
+  sender-permitted : (message : Message) (queue : Option (Object Queue)) → proceeds (decision c (send_found queues who id flags message queue)) ≡ false → first_denial c (needs_for to_alter queue) ≡ None
+  sender-permitted message None waits = refl
+  sender-permitted message (Some queue) waits = ap (λ o. or_later o None) (need-waits (denial c (Permission queue.perm to_alter)) _ waits)
 
-receiver-permitted : (s : State) (c : Credentials) (client id size : ℕ) (msgtyp : ℤ) (flags : ℕ) (queue : Option Queue) → proceeds (decision c (receive_found s client id size msgtyp flags queue)) ≡ false → first_denial c (needs_for to_read queue) ≡ None
-receiver-permitted s c client id size msgtyp flags None waits = refl
-receiver-permitted s c client id size msgtyp flags (Some queue) waits = ap (λ o. or_later o None) (need-waits (denial c (Permission queue.perm to_read)) _ waits)
+  receiver-permitted : (size : ℕ) (msgtyp : ℤ) (queue : Option (Object Queue)) → proceeds (decision c (receive_found queues who id size msgtyp flags queue)) ≡ false → first_denial c (needs_for to_read queue) ≡ None
+  receiver-permitted size msgtyp None waits = refl
+  receiver-permitted size msgtyp (Some queue) waits = ap (λ o. or_later o None) (need-waits (denial c (Permission queue.perm to_read)) _ waits)
 
 -- a call that waits has the rights that it needs
 permitted : (s : State) (client : ℕ) (call : Call) → can_wait call ≡ true → proceeds (decide s client call) ≡ false → first_denial (creds_at s client) (needs s client call) ≡ None
-unfolding plan
+unfolding part_plan
 permitted s client (MsgSnd id mtype text flags) can waits =
     let message : Message = record { mtype = mtype; text = text } in
     let c = creds_at s client in
-    let rest = decision c (send_found s client id flags message (queue_at s id)) in
-    sender-permitted s c client id flags message (queue_at s id)
-    (passes-waits (nat_le (length text) s.limits.msg_max) TextTooLong rest (passes-waits (int_le (pos 1) mtype) BadType (cond (nat_le (length text) s.limits.msg_max) rest (Refuse TextTooLong)) waits))
+    let who = caller s client in
+    let p = send_message s.limits s.queues who id flags message in
+    let rest = decision c (send_found s.queues who id flags message (queue_at s.queues id)) in
+    let here = sym (proceeds-on c (λ queues. record s { queues = queues }) p) ∙ waits in
+    ap (λ ns. first_denial c ns) (sender-needs s client id mtype text flags)
+    ∙ sender-permitted s.queues who c id flags message (queue_at s.queues id)
+    (passes-waits (nat_le (length text) s.limits.msg_max) TextTooLong rest (passes-waits (int_le (pos 1) mtype) BadType (cond (nat_le (length text) s.limits.msg_max) rest (Refuse TextTooLong)) here))
 permitted s client (MsgRcv id size msgtyp flags) can waits =
-    ap (λ ns. first_denial (creds_at s client) ns) (received-needs s client id size msgtyp flags (queue_at s id)) ∙ receiver-permitted s (creds_at s client) client id size msgtyp flags (queue_at s id) waits
+    let c = creds_at s client in
+    let who = caller s client in
+    let p = receive_message s.queues who id size msgtyp flags in
+    ap (λ ns. first_denial c ns) (receiver-needs s client id size msgtyp flags)
+    ∙ receiver-permitted s.queues who c id flags size msgtyp (queue_at s.queues id) (sym (proceeds-on c (λ queues. record s { queues = queues }) p) ∙ waits)
 permitted s client call can waits = absurd (true≢false (sym can))
 
 not_ready : (s : State) → IsQuiet s → AreNotReady s

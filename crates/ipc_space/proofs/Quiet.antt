@@ -10,10 +10,11 @@ use Rattle.ipc_call.specs.declared.rules.Rule.{Rule}
 use Rattle.ipc_model.specs.State.{State, opening}
 use Rattle.ipc_model.specs.Decision.{Decision, Refuse, Wait, Grant}
 use Rattle.ipc_model.specs.Decide.{decide}
-use Rattle.ipc_model.specs.Step.{Event, at_time, end_waiting, ended_by, entered, first_ready, is_ready, own_of, settle, settle_from, settled, step, without}
+use Rattle.ipc_model.specs.Step.{Event, at_time, end_waiting, ended_by, entered, first_ready, is_ready, settle, settle_from, settled, step, without}
+use Rattle.ipc_model.specs.Decision.{outcome_of}
 use Rattle.ipc_model.specs.History.{History, run, run_from, next_step}
-use Rattle.ipc_namespace.specs.Namespace.{moved_by}
-use Rattle.ipc_space.proofs.Keeping.{Keeps, Keeps-decide}
+use Rattle.ipc_model.specs.Step.{moved_by}
+use Rattle.ipc_model.proofs.Keeping.{Keeps, Keeps-decide}
 use Rattle.ipc_namespace.proofs.Own.{others}
 use Rattle.ipc_namespace.proofs.Settling.{quiet-at_time, settled-none}
 
@@ -87,7 +88,7 @@ pub quiet-run : (h : History) → IsQuiet (run h)
 quiet-run h = quiet-run_from (opening h.limits h.clients) h.events refl
 
 -- a call that is refused, in a quiet state: nothing else changes
-refused-entered : (s : State) (client : ℕ) (call : Call) (d : Decision State) (rule : Rule) → IsQuiet s → own_of d ≡ Some (Err rule)
+refused-entered : (s : State) (client : ℕ) (call : Call) (d : Decision State) (rule : Rule) → IsQuiet s → outcome_of d ≡ Some (Err rule)
     → entered s client call d ≡ record { state = s; own = Some (Err rule); ended = [] }
 refused-entered s client call (Refuse other) rule quiet own = λ i. record { state = (settled-none s quiet i).state; own = own i; ended = (settled-none s quiet i).ended }
 refused-entered s client call Wait rule quiet own = absurd (none-some _ own)

@@ -6,7 +6,8 @@ use Rattle.ipc_call.specs.declared.replies.JournalRow.TheVariants.{Called, Answe
 use Rattle.ipc_call.specs.declared.replies.Reply.{Reply}
 use Rattle.ipc_call.specs.declared.replies.Reply.TheVariants.{Entered}
 use Rattle.ipc_model.specs.State.{State}
-use Rattle.ipc_model.specs.Step.{Event, Outcome}
+use Rattle.ipc_model.specs.Step.{Event}
+use Rattle.ipc_model.specs.Decision.{Outcome}
 use Rattle.ipc_model.specs.History.{History, IsLegal, run, rows_of, told_ended, reply_of}
 
 abbrev pub event_in : JournalRow → List Event → List Event

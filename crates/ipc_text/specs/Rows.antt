@@ -11,7 +11,7 @@ use Rattle.ipc_call.specs.declared.error.Errno.{Errno}
 use Rattle.ipc_call.specs.declared.error.Errno.TheVariants.{ENOMEM}
 use Rattle.ipc_call.specs.Errors.{number_of, name_of}
 use Rattle.ipc_call.specs.Rules.{error_of, name_of_rule}
-use Rattle.ipc_model.specs.Step.{Outcome}
+use Rattle.ipc_model.specs.Decision.{Outcome}
 use Rattle.ipc_text.specs.declared.reasons.Reason.{Reason}
 use Rattle.ipc_text.specs.declared.reasons.Reason.TheVariants as reasons
 

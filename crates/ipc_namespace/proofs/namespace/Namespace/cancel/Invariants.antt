@@ -1,5 +1,5 @@
 use Rattle.std.proofs.Common.{◌≡◌, ◌+◌, ◌≤◌, ◌++◌, length, vec_len, vec_capacity}
-use Rattle.ipc_namespace.specs.Namespace.{ended_as, cancelled_as, left_by}
+use Rattle.ipc_namespace.specs.Namespace.{ended_as, cancelled_as, kept_by}
 use Rattle.ipc_namespace.proofs.namespace.Namespace.cancel.Given as goal
 
 -- what is left to end completes what has ended
@@ -8,7 +8,7 @@ invariant-loop-client l =
     let rule = cancelled_as l.initial.self l.cancelling in
     record {
       rest : l.self ≡ record l.initial.self { parked = l.self.parked };
-      left : left_by rule l.initial.self.parked ≡ left_by rule l.self.parked;
+      left : kept_by rule l.initial.self.parked ≡ kept_by rule l.self.parked;
       ended : l.initial.ended.items ++ ended_as rule l.initial.self.parked ≡ l.ended.items ++ ended_as rule l.self.parked;
       few : vec_len l.ended + length l.self.parked ≡ vec_len l.initial.ended + length l.initial.self.parked;
       space : vec_capacity l.initial.ended ≤ vec_capacity l.ended;

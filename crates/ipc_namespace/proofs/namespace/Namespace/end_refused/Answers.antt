@@ -2,7 +2,7 @@ use Rattle.std.proofs.Common.{◌≡◌, ◌+◌, length, refl, sym, ap, ◌∙�
 use Rattle.std.specs.Prelude.{◌==◌, not}
 use Rattle.std.specs.List.{find}
 use Rattle.ipc_call.specs.declared.replies.Waiting.{Waiting}
-use Rattle.ipc_control.specs.Held.{one_if, room}
+use Rattle.queue_calls.specs.Held.{one_if, room}
 use Rattle.ipc_model.specs.State.{State, is_waiting}
 use Rattle.ipc_model.specs.Step.{without}
 use Rattle.ipc_parked.specs.Parked.{AreApart, waiting}

@@ -1,15 +1,19 @@
-use Rattle.std.proofs.Common.{◌≡◌, ◌+◌, ◌<◌, true, false, [], ◌∷◌, ◌++◌, length, sym, ap, ◌∙◌, subst}
-use Rattle.std.specs.Prelude.{◌==◌, is_err, OnOk, Result, Ok, Err}
+use Rattle.std.proofs.Common.{◌≡◌, ◌+◌, ◌<◌, true, false, [], ◌∷◌, ◌++◌, length, refl, sym, ap, ◌∙◌, subst, None}
+use Rattle.std.specs.Prelude.{◌==◌, is_err, is_some, OnOk, Result, Ok, Err}
 use Rattle.std.specs.List.{list_any}
 use Rattle.std.proofs.lemmas.Bool.{true≢false}
 use Rattle.ipc_call.specs.declared.replies.Waiting.{Waiting}
-use Rattle.ipc_control.specs.Held.{one_if, room}
+use Rattle.queue_calls.specs.Held.{one_if, room}
 use Rattle.ipc_model.specs.Decide.{can_wait, decide}
 use Rattle.ipc_model.specs.State.{State}
 use Rattle.ipc_parked.specs.Parked.{waiting}
 use Rattle.ipc_parked.proofs.Listed.{any_waiting, waiting-push}
 use Rattle.ipc_namespace.specs.Namespace.{AreParked, is_at, is_send_to, sends_on}
-use Rattle.ipc_namespace.proofs.Deciding.{goes, goes-decided, only_parkable}
+use Rattle.ipc_model.specs.Decision.{Decision, Refuse, Wait, Grant, outcome_of, proceeds}
+use Rattle.std.proofs.lemmas.Option.{none-some}
+use Rattle.ipc_model.proofs.Alike.{only_parkable}
+use Rattle.ipc_namespace.proofs.Calling.{sender-there}
+use Rattle.ipc_model.specs.Messages.{queue_at}
 use Rattle.ipc_namespace.proofs.Parked.{AreParked-push}
 use Rattle.ipc_namespace.proofs.Reserved.{sends_on-push}
 use Rattle.ipc_namespace.proofs.namespace.Namespace.park.Goals as goal
@@ -18,6 +22,11 @@ pub park-parked-requires : goal.park-parked-requires
 park-parked-requires c =
     let n = c.self.inside in
     record { free = sym (any_waiting c.args.client n.parked) ∙ ap (λ (s : State). list_any (λ w. w.client == c.args.client) s.parked) c.self.view_is ∙ c.requires.free }
+
+stays : (d : Decision State) → outcome_of d ≡ None → proceeds d ≡ false
+stays (Refuse rule) is = absurd (none-some (Err rule) (sym is))
+stays Wait is = refl
+stays (Grant answer new) is = absurd (none-some (Ok answer) (sym is))
 
 went_well : {T E : Type 0} (r : Result T E) (P : Type 0) → is_err r ≡ false → OnOk r P → P
 went_well (Ok x) P good p = p
@@ -28,7 +37,7 @@ invariant_of-self-else-is_err c =
     let n = c.self.inside in
     let w : Waiting = record { client = c.args.client; call = c.args.call } in
     let d = decide c.args.self.now c.args.client c.args.call in
-    let may : can_wait c.args.call ≡ true = only_parkable c.args.self.now c.args.client c.args.call (sym (goes-decided d) ∙ ap goes c.requires.waits) in
+    let may : can_wait c.args.call ≡ true = only_parkable c.args.self.now c.args.client c.args.call (stays d c.requires.waits) in
     let known : c.args.client < length n.clients.items = subst (λ (s : State). c.args.client < length s.clients) (sym c.self.view_is) c.requires.known in
     let free : list_any (λ v. v.client == c.args.client) (waiting n.parked) ≡ false = ap (λ (s : State). list_any (λ v. v.client == c.args.client) s.parked) c.self.view_is ∙ c.requires.free in
     let pushed = went_well c.park-parked.result _ (sym c.is_err.ensures.value ∙ c.if-is_err.false) c.park-parked.ensures.ok in
@@ -38,3 +47,8 @@ invariant_of-self-else-is_err c =
       λ id. c.in_ok-reserve_in.ensures.room id ∙ ap (λ q. room n.queues id + one_if (is_at id q)) c.sent_to-queue.ensures ∙ ap (λ k. k + one_if (is_send_to id c.args.call)) (c.self.invariant.2 id)
           ∙ sym (sends_on-push id (waiting n.parked) w) ∙ ap (λ ws. sends_on id ws) (sym longer),
     )
+
+pub reserve_in-requires : goal.reserve_in-requires
+reserve_in-requires c = λ id sends.
+    let there = sender-there c.args.self.now c.args.client c.args.call id c.requires.waits (ap (λ q. is_at id q) (sym c.sent_to-queue.ensures) ∙ sends) in
+    ap (λ (s : State). is_some (queue_at s.queues id)) c.self.view_is ∙ there

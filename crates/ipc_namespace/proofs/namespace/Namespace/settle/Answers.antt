@@ -20,6 +20,4 @@ loop-client-preserved c =
           ∙ ap (λ es. es ++ (settled new).ended) (sym (let p = c.push.ensures.items in rw c.unwrap.ensures at p));
       room = omega (arith, pushed, c.end_ready-completion.ensures.shorter, c.push.ensures.capacity, inv.room);
       few = omega (arith, pushed, c.end_ready-completion.ensures.shorter, inv.few);
-      limits = c.end_ready-completion.ensures.limits ∙ inv.limits;
-      clients = c.end_ready-completion.ensures.clients ∙ inv.clients;
     }

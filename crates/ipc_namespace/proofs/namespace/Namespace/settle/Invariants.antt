@@ -9,8 +9,6 @@ invariant-loop-client l = record {
   ended : l.initial.ended.items ++ (settled l.initial.self).ended ≡ l.ended.items ++ (settled l.self).ended;
   room : vec_len l.ended + length l.self.parked ≤ vec_capacity l.ended;
   few : vec_len l.ended + length l.self.parked ≤ vec_len l.initial.ended + length l.initial.self.parked;
-  limits : l.self.limits ≡ l.initial.self.limits;
-  clients : l.self.clients ≡ l.initial.self.clients;
 }
 
 abbrev pub decreases-loop-client : goal.decreases-loop-client

@@ -1,0 +1,162 @@
+-- The calls of queues as a namespace makes them: what is decided of its queues is decided of its state.
+use Rattle.std.proofs.Common.{◌≡◌, ℕ, ℤ, Bool, true, false, List, [], ◌∷◌, length, refl, sym, ap, subst, ◌∙◌, Option, Some, None, Ok, Err}
+use Rattle.std.specs.Prelude.{if◌then◌else◌, is_some, pos, int_le, nat_le, IfOk, IfSome, IsSome, Result}
+use Rattle.std.proofs.lemmas.Bool.{eqb-true, false≢true}
+use Rattle.std.proofs.lemmas.Option.{none-some}
+use Rattle.ipc_call.specs.declared.calls.Call.{Call}
+use Rattle.ipc_call.specs.declared.calls.Call.TheVariants.{MsgGet, MsgSnd, MsgRcv}
+use Rattle.ipc_call.specs.declared.rules.Rule.{Rule}
+use Rattle.ipc_call.specs.declared.rules.Rule.TheVariants.{BadId, BadType, TextTooLong}
+use Rattle.ipc_creds.specs.Credentials.{Credentials}
+use Rattle.ipc_objects.specs.declared.object.Object.{Object}
+use Rattle.msg_queue.specs.declared.messages.Message.{Message}
+use Rattle.ipc_model.specs.State.{Caller, Queue, Queues, State, caller, creds_at}
+use Rattle.ipc_model.specs.Decision.{Decision, Grant, Outcome, Refuse, Wait, left_by, outcome_of, proceeds}
+use Rattle.ipc_model.specs.Plan.{Plan, decision, on_part}
+use Rattle.ipc_model.specs.Gets.{get_queue}
+use Rattle.ipc_model.specs.Messages.{queue_at, receive_message, send_found, send_message}
+use Rattle.ipc_model.specs.Decide.{decide, part_plan}
+use Rattle.ipc_model.specs.Step.{ended_by, state_by}
+use Rattle.ipc_model.proofs.Plans.{left-on, outcome-on}
+use Rattle.ipc_model.proofs.Alike.{proceeds-on}
+use Rattle.queue_calls.specs.Calls.{sending, without_answer}
+use Rattle.ipc_namespace.specs.Namespace.{is_send_to}
+
+pub IfOk-map : {T E : Type 0} (r : Result T E) (P Q : T → Type 0) → ((x : T) → P x → Q x) → IfOk r P → IfOk r Q
+IfOk-map (Ok x) P Q f p = f x p
+IfOk-map (Err e) P Q f p = tt
+
+pub IfSome-at : {A : Type 0} (o : Option A) (x : A) (P : A → Type 0) → o ≡ Some x → IfSome o P → P x
+IfSome-at o x P is p = subst (λ v. IfSome v P) is p
+
+abbrev pub put_in : State → Queues → State
+put_in s queues = record s { queues = queues }
+
+-- a plan of the queues of a state, decided for a client of it, on the state as the code has it
+module _ (part : State → Caller → Plan Queues) (v s : State) (client : ℕ) (who : Caller) (is : v ≡ s) (called : who ≡ caller v client) where
+  abbrev whole_of : State → Decision State
+  whole_of t = decision (creds_at t client) (on_part (put_in t) (part t (caller t client)))
+
+  outcome-as : outcome_of (decision who.creds (part v who)) ≡ outcome_of (whole_of s)
+  outcome-as =
+      ap (λ (w : Caller). outcome_of (decision w.creds (part v w))) called
+      ∙ sym (outcome-on (creds_at v client) (put_in v) (part v (caller v client)))
+      ∙ ap (λ (t : State). outcome_of (whole_of t)) is
+
+  proceeds-as : proceeds (decision who.creds (part v who)) ≡ proceeds (whole_of s)
+  proceeds-as =
+      ap (λ (w : Caller). proceeds (decision w.creds (part v w))) called
+      ∙ sym (proceeds-on (creds_at v client) (put_in v) (part v (caller v client)))
+      ∙ ap (λ (t : State). proceeds (whole_of t)) is
+
+  left-as : (queues : Queues) → queues ≡ left_by v.queues (decision who.creds (part v who)) → put_in v queues ≡ left_by s (whole_of s)
+  left-as queues left =
+      ap (put_in v) left
+      ∙ ap (λ (w : Caller). put_in v (left_by v.queues (decision w.creds (part v w)))) called
+      ∙ sym (left-on (creds_at v client) (put_in v) (part v (caller v client)) v.queues v refl)
+      ∙ ap (λ (t : State). left_by t (whole_of t)) is
+
+module _ (v s : State) (client : ℕ) (who : Caller) (is : v ≡ s) (called : who ≡ caller v client) where
+  pub get-outcome : (key flags : ℕ) → outcome_of (decision who.creds (get_queue v.limits v.queues who key flags)) ≡ outcome_of (decide s client (MsgGet key flags))
+  unfolding part_plan
+  get-outcome key flags = outcome-as (λ t w. get_queue t.limits t.queues w key flags) v s client who is called
+
+  pub get-left : (key flags : ℕ) (queues : Queues) → queues ≡ left_by v.queues (decision who.creds (get_queue v.limits v.queues who key flags)) → put_in v queues ≡ left_by s (decide s client (MsgGet key flags))
+  unfolding part_plan
+  get-left key flags = left-as (λ t w. get_queue t.limits t.queues w key flags) v s client who is called
+
+  module _ (id size flags : ℕ) (read msgtyp : ℤ) (back : read ≡ msgtyp) where
+    pub receive-outcome : outcome_of (decision who.creds (receive_message v.queues who id size read flags)) ≡ outcome_of (decide s client (MsgRcv id size msgtyp flags))
+    unfolding part_plan
+    receive-outcome = outcome-as (λ t w. receive_message t.queues w id size read flags) v s client who is called ∙ ap (λ z. outcome_of (decide s client (MsgRcv id size z flags))) back
+
+    pub receive-proceeds : proceeds (decision who.creds (receive_message v.queues who id size read flags)) ≡ proceeds (decide s client (MsgRcv id size msgtyp flags))
+    unfolding part_plan
+    receive-proceeds = proceeds-as (λ t w. receive_message t.queues w id size read flags) v s client who is called ∙ ap (λ z. proceeds (decide s client (MsgRcv id size z flags))) back
+
+    pub receive-left : (queues : Queues) → queues ≡ left_by v.queues (decision who.creds (receive_message v.queues who id size read flags)) → put_in v queues ≡ left_by s (decide s client (MsgRcv id size msgtyp flags))
+    unfolding part_plan
+    receive-left queues left = left-as (λ t w. receive_message t.queues w id size read flags) v s client who is called queues left ∙ ap (λ z. left_by s (decide s client (MsgRcv id size z flags))) back
+
+  module _ (id flags : ℕ) (read mtype : ℤ) (text : List ℕ) (back : read ≡ mtype) where
+    abbrev sent : Decision Queues
+    sent = sending v.limits v.queues who id flags (record { mtype = read; text = text })
+
+    pub send-outcome : outcome_of sent ≡ outcome_of (decide s client (MsgSnd id mtype text flags))
+    unfolding part_plan
+    send-outcome =
+        outcome-as (λ t w. send_message t.limits t.queues w id flags (record { mtype = read; text = text })) v s client who is called
+        ∙ ap (λ z. outcome_of (decide s client (MsgSnd id z text flags))) back
+
+    pub send-proceeds : proceeds sent ≡ proceeds (decide s client (MsgSnd id mtype text flags))
+    unfolding part_plan
+    send-proceeds =
+        proceeds-as (λ t w. send_message t.limits t.queues w id flags (record { mtype = read; text = text })) v s client who is called
+        ∙ ap (λ z. proceeds (decide s client (MsgSnd id z text flags))) back
+
+    pub send-left : (queues : Queues) → queues ≡ left_by v.queues sent → put_in v queues ≡ left_by s (decide s client (MsgSnd id mtype text flags))
+    unfolding part_plan
+    send-left queues left =
+        left-as (λ t w. send_message t.limits t.queues w id flags (record { mtype = read; text = text })) v s client who is called queues left
+        ∙ ap (λ z. left_by s (decide s client (MsgSnd id z text flags))) back
+
+-- a call that waits changes nothing
+pub left-waits : {X : Type 0} (x : X) (d : Decision X) → outcome_of d ≡ None → left_by x d ≡ x
+left-waits x (Refuse rule) is = refl
+left-waits x Wait is = refl
+left-waits x (Grant answer new) is = absurd (none-some (Ok answer) (sym is))
+
+pub waits-of : {X : Type 0} (d : Decision X) → outcome_of d ≡ None → d ≡ Wait
+waits-of (Refuse rule) is = absurd (none-some (Err rule) (sym is))
+waits-of Wait is = refl
+waits-of (Grant answer new) is = absurd (none-some (Ok answer) (sym is))
+
+pub refused-state : (s : State) (client : ℕ) (call : Call) (d : Decision State) (rule : Rule) → outcome_of d ≡ Some (Err rule) → state_by s client call d ≡ s
+refused-state s client call (Refuse other) rule is = refl
+refused-state s client call Wait rule is = absurd (none-some (Err rule) is)
+refused-state s client call (Grant answer new) rule is = cc
+
+pub answered-some : {X : Type 0} (d : Decision X) → is_some (without_answer d) ≡ proceeds d
+answered-some (Refuse rule) = refl
+answered-some Wait = refl
+answered-some (Grant answer new) = refl
+
+pub answered-none : {X : Type 0} (d : Decision X) → without_answer d ≡ None → outcome_of d ≡ None
+answered-none (Refuse rule) is = cc
+answered-none Wait is = refl
+answered-none (Grant answer new) is = cc
+
+pub answered-refused : {X : Type 0} (d : Decision X) (rule : Rule) → without_answer d ≡ Some (Err rule) → (outcome_of d ≡ Some (Err rule)) × ((x : X) → left_by x d ≡ x)
+answered-refused (Refuse other) rule is = (cc, λ x. refl)
+answered-refused Wait rule is = cc
+answered-refused (Grant answer new) rule is = cc
+
+-- a waiting call that ends
+pub ended-as : (s : State) (client : ℕ) (d : Decision State) (outcome : Outcome) → outcome_of d ≡ Some outcome
+    → ended_by s client d ≡ record { state = left_by s d; ended = record { client = client; outcome = outcome } ∷ [] }
+ended-as s client (Refuse rule) outcome is = let same : Err rule ≡ outcome = cc in ap (λ o. record { state = s; ended = record { client = client; outcome = o } ∷ [] }) same
+ended-as s client Wait outcome is = absurd (none-some outcome is)
+ended-as s client (Grant answer new) outcome is = let same : Ok answer ≡ outcome = cc in ap (λ o. record { state = new; ended = record { client = client; outcome = o } ∷ [] }) same
+
+no-queue : (a b : Bool) → outcome_of {X = Queues} (if a then (if b then Refuse BadId else Refuse TextTooLong) else Refuse BadType) ≡ None → ⊥
+no-queue true true is = cc
+no-queue true false is = cc
+no-queue false b is = cc
+
+there-where : (a b : Bool) (c : Credentials) (queues : Queues) (who : Caller) (id flags : ℕ) (message : Message) (queue : Option (Object Queue))
+    → outcome_of (if a then (if b then decision c (send_found queues who id flags message queue) else Refuse TextTooLong) else Refuse BadType) ≡ None → IsSome queue
+there-where a b c queues who id flags message None is = absurd (no-queue a b is)
+there-where a b c queues who id flags message (Some queue) is = refl
+
+-- a call that waits to send has its queue
+pub sender-there : (s : State) (client : ℕ) (call : Call) (id : ℕ) → outcome_of (decide s client call) ≡ None → is_send_to id call ≡ true → IsSome (queue_at s.queues id)
+unfolding part_plan
+sender-there s client (MsgSnd other mtype text flags) id waits sends =
+    let c = creds_at s client in
+    let who = caller s client in
+    let message : Message = record { mtype = mtype; text = text } in
+    let p = send_message s.limits s.queues who other flags message in
+    ap (λ n. is_some (queue_at s.queues n)) (eqb-true id other sends)
+    ∙ there-where (int_le (pos 1) mtype) (nat_le (length text) s.limits.msg_max) c s.queues who other flags message (queue_at s.queues other)
+    (sym (outcome-on c (put_in s) p) ∙ waits)
+sender-there s client call id waits sends = absurd (false≢true sends)

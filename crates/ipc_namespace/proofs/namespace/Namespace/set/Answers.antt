@@ -1,0 +1,35 @@
+use Rattle.std.proofs.Common.{◌≡◌, sym, ap, ◌∙◌, Some, Err}
+use Rattle.std.proofs.lemmas.Result.{err_from_is_err_and}
+use Rattle.ipc_call.specs.declared.calls.Call.TheVariants.{IpcSet}
+use Rattle.ipc_call.specs.declared.rules.Rule.{Rule}
+use Rattle.ipc_creds.specs.Credentials.{Credentials}
+use Rattle.ipc_model.specs.Plan.{decision}
+use Rattle.ipc_model.specs.Decide.{decide, part_plan}
+use Rattle.ipc_model.specs.Controls.{set_object}
+use Rattle.queue_calls.specs.Calls.{without_answer}
+use Rattle.ipc_namespace.proofs.Moving.{creds-read, refused-ended, refused-outcome, refused-state}
+use Rattle.ipc_namespace.proofs.namespace.Namespace.set.Goals as goal
+use Rattle.ipc_namespace.proofs.namespace.Namespace.set.Goals.{After-from_residual, After-may_set}
+
+verdict : (c : After-may_set) → without_answer (decide c.args.self.now c.args.client (IpcSet c.args.kind c.args.id c.args.new.uid c.args.new.gid c.args.new.mode c.args.new.qbytes)) ≡ Some c.may_set.result
+unfolding part_plan
+verdict c =
+    let known = creds-read _ c.args.self.now c.args.client c.index.result.now c.self.view_is c.requires.known c.index.ensures in
+    ap (λ (creds : Credentials). without_answer (decision creds (set_object c.args.self.now c.args.kind c.args.id c.args.new))) (sym known) ∙ c.may_set.ensures
+
+refused : (c : After-from_residual) → without_answer (decide c.args.self.now c.args.client (IpcSet c.args.kind c.args.id c.args.new.uid c.args.new.gid c.args.new.mode c.args.new.qbytes)) ≡ Some (Err c.in_err-may_set.field-0.0)
+refused c = verdict (goal.at.After-from_residual c).After-may_set ∙ ap (λ r. Some r) c.in_err-may_set.was
+
+pub returns-in_err-may_set-clause-outcome : goal.returns-in_err-may_set-clause-outcome
+returns-in_err-may_set-clause-outcome c =
+    let p = err_from_is_err_and c.from_residual.result c.from_residual.ensures.1 in
+    refused-outcome c.args.self.now c.args.client (IpcSet c.args.kind c.args.id c.args.new.uid c.args.new.gid c.args.new.mode c.args.new.qbytes) c.in_err-may_set.field-0.0 (refused c)
+    ∙ ap (λ (r : Rule). Some (Err r)) (sym p.2) ∙ ap (λ o. Some o) (sym p.1)
+
+pub returns-in_err-may_set-clause-state : goal.returns-in_err-may_set-clause-state
+returns-in_err-may_set-clause-state c =
+    refused-state c.args.self.now c.args.client (IpcSet c.args.kind c.args.id c.args.new.uid c.args.new.gid c.args.new.mode c.args.new.qbytes) c.in_err-may_set.field-0.0 (refused c)
+
+pub returns-in_err-may_set-clause-ended : goal.returns-in_err-may_set-clause-ended
+returns-in_err-may_set-clause-ended c =
+    c.requires.empty ∙ refused-ended c.args.self.now c.args.client (IpcSet c.args.kind c.args.id c.args.new.uid c.args.new.gid c.args.new.mode c.args.new.qbytes) c.in_err-may_set.field-0.0 (refused c)

@@ -1,0 +1,245 @@
+//! The calls on message queues: msgget(2), msgop(2).
+
+ghost use Rattle.std.specs.Prelude.{
+  ◌≡◌,
+  ◌==◌,
+  ◌+◌,
+  ◌<◌,
+  ℕ,
+  List,
+  Some,
+  None,
+  Ok,
+  IfOk,
+  IfSome,
+  OnOk,
+  OnErr,
+  length,
+};
+ghost use Rattle.ipc_call.specs.declared.limits.Limits.{Limits as LimitsOf};
+ghost use Rattle.ipc_model.specs.State.{Queue as Contents, Queues as Table};
+ghost use Rattle.ipc_model.specs.Decision.{left_by, outcome_of, proceeds};
+ghost use Rattle.ipc_model.specs.Gets.{get_found, get_queue, new_object, new_queue as new_contents, object_of_key};
+ghost use Rattle.ipc_model.specs.Messages.{receive_message};
+ghost use Rattle.ipc_model.specs.Plan.{decision};
+ghost use Rattle.ipc_objects.specs.declared.object.Object.{Object as Entry};
+ghost use Rattle.ipc_objects.specs.Seen.{seen};
+ghost use Rattle.queue_calls.specs.Calls.{MaySend, sending, without_answer};
+ghost use Rattle.queue_calls.specs.Held.{one_if, queue_of, queues_of, room};
+
+use crate::caller::Caller;
+use crate::queue::Queue;
+use crate::queues::Queues;
+use ipc_call::{
+    Answer, Items, Limits, Memory, Outcome, Rule, creates, is_exclusive, may_wait,
+    takes_other_types,
+};
+use ipc_objects::Object;
+use ipc_perm::{Mode, Perm, Verdict, Want, asked_of_flags, decide};
+use std::alloc::Global;
+
+/// The right that a call needs which changes what an object holds.
+pub const TO_ALTER: Want = Want {
+    read: false,
+    alter: true,
+};
+
+/// The right that a call needs which tells what an object holds.
+pub const TO_READ: Want = Want {
+    read: true,
+    alter: false,
+};
+
+impl Queues {
+    /// The queue of a key, or a new one (msgget(2)). Memory comes where a growth was refused, and then nothing
+    /// has changed.
+    pub fn msgget(
+        &mut self,
+        limits: &Limits,
+        who: &Caller,
+        key: u32,
+        flags: u32,
+    ) -> Result<Outcome, Memory>
+        ensures outcome { IfOk result (λ outcome. outcome_of (decision who.entry.now.creds (get_queue limits.now (queues_of self.old) who.entry.now key flags)) ≡ Some outcome) }
+        ensures queues { OnOk result (queues_of self.new ≡ left_by (queues_of self.old) (decision who.entry.now.creds (get_queue limits.now (queues_of self.old) who.entry.now key flags))) }
+        ensures room { (j : ℕ) → room self.new j ≡ room self.old j }
+        ensures err { OnErr result (self.new ≡ self.old) }
+    {
+        match self.seek(key) {
+            None => self.make_queue(limits, who, key, flags),
+            Some((id, queue)) => Ok(found_queue(who, id, &queue.perm, flags)),
+        }
+    }
+
+    /// msgget with a key that no queue has.
+    fn make_queue(
+        &mut self,
+        limits: &Limits,
+        who: &Caller,
+        key: u32,
+        flags: u32,
+    ) -> Result<Outcome, Memory>
+        requires { object_of_key (queues_of self.old) key ≡ None }
+        ensures outcome { IfOk result (λ outcome. outcome_of (decision who.entry.now.creds (get_found (queues_of self.old) who.entry.now key flags (new_contents limits.now) None)) ≡ Some outcome) }
+        ensures queues { OnOk result (queues_of self.new ≡ left_by (queues_of self.old) (decision who.entry.now.creds (get_found (queues_of self.old) who.entry.now key flags (new_contents limits.now) None))) }
+        ensures room { (j : ℕ) → room self.new j ≡ room self.old j }
+        ensures err { OnErr result (self.new ≡ self.old) }
+    {
+        if key != 0 && !creates(flags) {
+            return Ok(Err(Rule::NoKey));
+        }
+        if self.next_id().is_none() {
+            return Ok(Err(Rule::NoSlot));
+        }
+        let queue = new_queue(self.alloc(), limits, who, key, flags);
+        let id = self.insert(queue)?;
+        Ok(Ok(Answer::Id(id)))
+    }
+
+    /// Receives a message (msgrcv of msgop(2)). None where the call waits. It takes no memory.
+    pub fn msgrcv(
+        &mut self,
+        who: &Caller,
+        id: u32,
+        size: u64,
+        msgtyp: i64,
+        flags: u32,
+    ) -> Option<Outcome>
+        ensures outcome { result ≡ outcome_of (decision who.entry.now.creds (receive_message (queues_of self.old) who.entry.now id size msgtyp flags)) }
+        ensures queues { queues_of self.new ≡ left_by (queues_of self.old) (decision who.entry.now.creds (receive_message (queues_of self.old) who.entry.now id size msgtyp flags)) }
+        ensures room { (j : ℕ) → room self.new j ≡ room self.old j }
+    {
+        let Some(queue) = self.get(id) else {
+            return Some(Err(Rule::BadId));
+        };
+        if let Verdict::Denied(rule) = decide(who.creds(), &queue.perm, TO_READ) {
+            return Some(Err(rule));
+        }
+        self.take_chosen(who, id, size, msgtyp, flags)
+    }
+
+    /// Whether msgrcv would not wait (msgop(2)).
+    pub fn may_receive(&self, who: &Caller, id: u32, msgtyp: i64, flags: u32) -> bool
+        ensures { (size : ℕ) → result ≡ proceeds (decision who.entry.now.creds (receive_message (queues_of self.now) who.entry.now id size msgtyp flags)) }
+    {
+        let Some(queue) = self.get(id) else {
+            return true;
+        };
+        if let Verdict::Denied(_) = decide(who.creds(), &queue.perm, TO_READ) {
+            return true;
+        }
+        !may_wait(flags)
+            || queue
+                .contents
+                .chosen_len(msgtyp, takes_other_types(flags))
+                .is_some()
+    }
+
+    /// Whether a message with a text of `len` bytes may be sent (msgsnd of msgop(2)), or by which rule it is refused.
+    /// None where the call waits.
+    pub fn decide_send(
+        &self,
+        limits: &Limits,
+        who: &Caller,
+        id: u32,
+        mtype: i64,
+        len: usize,
+        flags: u32,
+    ) -> Option<Result<(), Rule>>
+        ensures { (text : List ℕ) → length text ≡ len → result ≡ without_answer (sending limits.now (queues_of self.now) who.entry.now id flags (record { mtype = mtype; text = text })) }
+    {
+        if mtype < 1 {
+            return Some(Err(Rule::BadType));
+        }
+        if len as u64 > u64::from(limits.msg_max) {
+            return Some(Err(Rule::TextTooLong));
+        }
+        let Some(queue) = self.get(id) else {
+            return Some(Err(Rule::BadId));
+        };
+        if let Verdict::Denied(rule) = decide(who.creds(), &queue.perm, TO_ALTER) {
+            return Some(Err(rule));
+        }
+        if queue.contents.fits(len) {
+            Some(Ok(()))
+        } else if may_wait(flags) {
+            None
+        } else {
+            Some(Err(Rule::QueueFull))
+        }
+    }
+
+    /// msgsnd with a place that was reserved: sends the message in it, or is refused and gives it back. None where the
+    /// call waits. It takes no memory.
+    pub fn send_reserved(
+        &mut self,
+        limits: &Limits,
+        who: &Caller,
+        id: u32,
+        mtype: i64,
+        text: Items<u8>,
+        flags: u32,
+    ) -> Option<Outcome>
+        requires { 0 < room self.old id }
+        ensures outcome { result ≡ outcome_of (sending limits.now (queues_of self.old) who.entry.now id flags (record { mtype = mtype; text = text })) }
+        ensures queues { queues_of self.new ≡ left_by (queues_of self.old) (sending limits.now (queues_of self.old) who.entry.now id flags (record { mtype = mtype; text = text })) }
+        ensures room { IfSome result (λ _. (j : ℕ) → room self.new j + one_if (j == id) ≡ room self.old j) }
+    {
+        match self.decide_send(limits, who, id, mtype, text.len(), flags) {
+            None => None,
+            Some(Err(rule)) => {
+                self.release(id);
+                Some(Err(rule))
+            }
+            Some(Ok(())) => {
+                self.msgsnd(who, id, mtype, text);
+                Some(Ok(Answer::Done))
+            }
+        }
+    }
+
+    /// Sends a message, which was decided, in a place that was reserved (msgsnd of msgop(2)). It takes no memory.
+    pub fn msgsnd(&mut self, who: &Caller, id: u32, mtype: i64, text: Items<u8>)
+        requires granted { MaySend (queues_of self.old) who.now id (record { mtype = mtype; text = text }) }
+        requires reserved { 0 < room self.old id }
+        ensures queues { (limits : LimitsOf) (flags : ℕ) → without_answer (sending limits (queues_of self.old) who.entry.now id flags (record { mtype = mtype; text = text })) ≡ Some (Ok tt)
+            → queues_of self.new ≡ left_by (queues_of self.old) (sending limits (queues_of self.old) who.entry.now id flags (record { mtype = mtype; text = text })) }
+        ensures room { (j : ℕ) → room self.new j + one_if (j == id) ≡ room self.old j }
+    {
+        self.send(id, who.client(), mtype, text, who.now());
+    }
+}
+
+/// msgget with a key that a queue has. Permission is asked last (the order is the project's own).
+fn found_queue(who: &Caller, id: u32, perm: &Perm, flags: u32) -> Outcome
+    ensures outcome { (t : Table) (key : ℕ) (new : Contents) (queue : Entry Contents) → queue.perm ≡ perm.now
+        → outcome_of (decision who.entry.now.creds (get_found t who.entry.now key flags new (Some (id, queue)))) ≡ Some result }
+{
+    if creates(flags) && is_exclusive(flags) {
+        return Err(Rule::KeyExists);
+    }
+    match decide(who.creds(), perm, asked_of_flags(flags)) {
+        Verdict::Denied(rule) => Err(rule),
+        Verdict::Allowed(_) => Ok(Answer::Id(id)),
+    }
+}
+
+/// A queue that the caller owns and made, with the mode in the flags.
+fn new_queue(alloc: Global, limits: &Limits, who: &Caller, key: u32, flags: u32) -> Object<Queue>
+    ensures queue { seen queue_of result ≡ new_object who.entry.now key flags (new_contents limits.now) }
+    ensures reserved { result.contents.reserved ≡ 0 }
+{
+    let creds = who.creds();
+    Object {
+        perm: Perm {
+            key,
+            uid: creds.euid(),
+            gid: creds.egid(),
+            cuid: creds.euid(),
+            cgid: creds.egid(),
+            mode: Mode::from_low_bits(flags),
+        },
+        change_time: who.now(),
+        contents: Queue::new(alloc, limits.msg_mnb),
+    }
+}
