@@ -1,5 +1,7 @@
 pub mod Access
 pub mod Alike
+pub mod Calls
+pub mod Growing
 pub mod Keeping
 pub mod Naming
 pub mod Plans

@@ -23,7 +23,9 @@ use Rattle.ipc_model.specs.Step.{Event, at_time, cancel, cancelled_by, settled, 
 use Rattle.ipc_model.specs.History.{History}
 use Rattle.ipc_model.specs.Made.{id_in, made, made_by, made_from, makes}
 use Rattle.ipc_model.proofs.Plans.{Ends, Ends-decision, Ends-on, IfGranted}
-use Rattle.ipc_model.proofs.Keeping.{Follows, Follows-settled, Follows-step, Keeps, Keeps-decide}
+use Rattle.ipc_model.proofs.Calls.{Keeps-decide}
+use Rattle.ipc_model.proofs.Growing.{Follows, Keeps}
+use Rattle.ipc_model.proofs.Keeping.{Follows-settled, Follows-step}
 
 -- the identifier names an object of the kind, or named one that was removed
 abbrev pub IsUsed : State → Kind → ℕ → Type 0

@@ -1,26 +1,23 @@
 -- Controls of an object of any kind: IPC_STAT, IPC_SET and IPC_RMID (msgctl(2), semctl(2), shmctl(2)). Each asks first
--- whether the object is there. Then IPC_STAT needs the right to read, and the others control of the object; IPC_SET with
--- a msg_qbytes above MSGMNB needs CAP_SYS_RESOURCE too, and with one for another kind is refused before all else.
-use Rattle.std.specs.Prelude.{ℕ, ◌%◌, nat_le, Bool, true, is_none, if◌then◌else◌, [], ◌∷◌, length, Option, Some, None}
-use Rattle.std.specs.Prelude.{option_map, unwrap_or}
+-- whether the object is there. Then IPC_STAT needs the right to read, and the others control of it; IPC_SET with a
+-- msg_qbytes above MSGMNB needs CAP_SYS_RESOURCE too, and with one for another kind is refused before all else.
+use Rattle.std.specs.Prelude.{ℕ, ◌%◌, nat_le, Bool, true, is_none, if◌then◌else◌, [], ◌∷◌, length, Option, Some, None, option_map, unwrap_or}
 use Rattle.std.specs.FinMap as finite
 use Rattle.ipc_call.specs.declared.calls.Kind.{Kind}
 use Rattle.ipc_call.specs.declared.calls.Kind.TheVariants as kinds
 use Rattle.ipc_call.specs.declared.rules.Rule.TheVariants.{BadId, BadArgument}
-use Rattle.ipc_call.specs.declared.replies.Answer.TheVariants.{Done}
-use Rattle.ipc_call.specs.declared.replies.Answer.TheVariants.{Status as StatusAnswer}
+use Rattle.ipc_call.specs.declared.replies.Answer.TheVariants.{Done, Status as StatusAnswer}
 use Rattle.ipc_call.specs.declared.settings.Settings.{Settings}
 use Rattle.ipc_call.specs.declared.replies.Status.{Status}
 use Rattle.ipc_call.specs.declared.replies.Status.TheVariants as statuses
 use Rattle.ipc_perm.specs.declared.perms.Perm.{Perm}
-use Rattle.ipc_perm.specs.Access.{Permission, Control, Resource}
+use Rattle.ipc_perm.specs.Access.{Permission, Control, Resource, to_read}
 use Rattle.ipc_ids.specs.Table.{Table, without_object}
 use Rattle.ipc_objects.specs.declared.object.Object.{Object}
 use Rattle.ipc_objects.specs.declared.object.Owner.{Owner}
 use Rattle.ipc_objects.specs.Objects.{changed, with_owner}
 use Rattle.msg_queue.specs.Messages.{bytes_of}
 use Rattle.ipc_model.specs.State.{Queue, State}
-use Rattle.ipc_model.specs.Messages.{to_read}
 use Rattle.ipc_model.specs.Plan.{Needs, Passes, Plan, Grant, found, in_order, ◌⨾◌}
 
 abbrev pub perm_in : {X : Type 0} → Table (Object X) → ℕ → Option Perm
@@ -29,14 +26,12 @@ perm_in objects id = option_map (λ object. object.perm) (finite.get objects.obj
 -- the permissions of the object of the identifier; there are no semaphore sets and no segments yet
 abbrev pub perm_of : State → Kind → ℕ → Option Perm
 perm_of s kinds.Queue id = perm_in s.queues id
-perm_of s kinds.Sems id = None
-perm_of s kinds.Segment id = None
+perm_of s kind id = None
 
 -- IPC_RMID: the object leaves, and its key is free
 abbrev pub removed : State → Kind → ℕ → State
 removed s kinds.Queue id = record s { queues = without_object s.queues id }
-removed s kinds.Sems id = s
-removed s kinds.Segment id = s
+removed s kind id = s
 
 abbrev pub remove_object : State → Kind → ℕ → Plan State
 remove_object s kind id =
@@ -46,11 +41,11 @@ remove_object s kind id =
 abbrev pub status_of_queue : Object Queue → Status
 status_of_queue queue = statuses.Queue (record {
   key = queue.perm.key;
+  mode = queue.perm.mode;
   uid = queue.perm.uid;
   gid = queue.perm.gid;
   cuid = queue.perm.cuid;
   cgid = queue.perm.cgid;
-  mode = queue.perm.mode;
   cbytes = bytes_of queue.contents.messages;
   qnum = length queue.contents.messages;
   qbytes = queue.contents.qbytes;
@@ -64,8 +59,7 @@ status_of_queue queue = statuses.Queue (record {
 -- the permissions and the status of the object of the identifier
 abbrev pub status_of : State → Kind → ℕ → Option (Perm × Status)
 status_of s kinds.Queue id = option_map (λ queue. (queue.perm, status_of_queue queue)) (finite.get s.queues.objects id)
-status_of s kinds.Sems id = None
-status_of s kinds.Segment id = None
+status_of s kind id = None
 
 abbrev pub stat_object : State → Kind → ℕ → Plan State
 stat_object s kind id =
@@ -83,8 +77,7 @@ with_settings now new queue = record (with_owner queue (owner_in new) now) {
 
 abbrev pub with_set : State → Kind → ℕ → Settings → State
 with_set s kinds.Queue id new = record s { queues = changed s.queues id (with_settings s.clock new) }
-with_set s kinds.Sems id new = s
-with_set s kinds.Segment id new = s
+with_set s kind id new = s
 
 -- a msg_qbytes above MSGMNB needs CAP_SYS_RESOURCE
 abbrev pub is_within : State → Option ℕ → Bool
@@ -94,8 +87,7 @@ is_within s (Some qbytes) = nat_le qbytes s.limits.msg_mnb
 -- msg_qbytes is of queues alone
 abbrev pub takes_qbytes : Kind → Option ℕ → Bool
 takes_qbytes kinds.Queue qbytes = true
-takes_qbytes kinds.Sems qbytes = is_none qbytes
-takes_qbytes kinds.Segment qbytes = is_none qbytes
+takes_qbytes kind qbytes = is_none qbytes
 
 abbrev pub set_object : State → Kind → ℕ → Settings → Plan State
 set_object s kind id new =

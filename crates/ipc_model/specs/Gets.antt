@@ -6,6 +6,8 @@ use Rattle.ipc_call.specs.Flags.{has_flag, ipc_creat, ipc_excl}
 use Rattle.ipc_call.specs.declared.limits.Limits.{Limits}
 use Rattle.ipc_call.specs.declared.rules.Rule.TheVariants.{NoKey, KeyExists, NoSlot}
 use Rattle.ipc_call.specs.declared.replies.Answer.TheVariants.{Id}
+use Rattle.ipc_creds.specs.Credentials.{Credentials}
+use Rattle.ipc_perm.specs.declared.perms.Perm.{Perm}
 use Rattle.ipc_perm.specs.Access.{Permission, asked_of}
 use Rattle.ipc_ids.specs.Table.{Table, find_object, next_id, with_object}
 use Rattle.ipc_objects.specs.declared.object.Object.{Object}
@@ -13,20 +15,14 @@ use Rattle.ipc_objects.specs.Objects.{has_key}
 use Rattle.ipc_model.specs.State.{Caller, Queue, Queues}
 use Rattle.ipc_model.specs.Plan.{Needs, Passes, Plan, Grant, found, ◌⨾◌}
 
--- the caller is owner and creator, the mode is the low nine bits of the flags, and the time of change is now
+-- the caller is owner and creator
+abbrev pub owned_by : Credentials → ℕ → ℕ → Perm
+owned_by c key mode = record { key = key; uid = c.euid; gid = c.egid; cuid = c.euid; cgid = c.egid; mode = mode }
+
+-- the mode is the low nine bits of the flags, and the time of change is now
 abbrev pub new_object : {X : Type 0} → Caller → ℕ → ℕ → X → Object X
-new_object who key flags contents = record {
-  perm = record {
-    key = key;
-    uid = who.creds.euid;
-    gid = who.creds.egid;
-    cuid = who.creds.euid;
-    cgid = who.creds.egid;
-    mode = flags % 512;
-  };
-  change_time = who.now;
-  contents = contents;
-}
+new_object who key flags contents =
+    record { perm = owned_by who.creds key (flags % 512); change_time = who.now; contents = contents }
 
 abbrev pub make_object : {X : Type 0} → Table (Object X) → Object X → Plan (Table (Object X))
 make_object t object = found (next_id t) NoSlot _ (λ id. Grant (Id id) (with_object t id object))
@@ -51,14 +47,8 @@ get t who key flags new = get_found t who key flags new (object_of_key t key)
 
 -- no messages; pids and times are 0
 abbrev pub new_queue : Limits → Queue
-new_queue limits = record {
-  messages = [];
-  qbytes = limits.msg_mnb;
-  last_sender = 0;
-  last_receiver = 0;
-  send_time = 0;
-  receive_time = 0;
-}
+new_queue max =
+    record { messages = []; qbytes = max.msg_mnb; last_sender = 0; last_receiver = 0; send_time = 0; receive_time = 0 }
 
 abbrev pub get_queue : Limits → Queues → Caller → ℕ → ℕ → Plan Queues
 get_queue limits queues who key flags = get queues who key flags (new_queue limits)

@@ -1,16 +1,13 @@
--- Messages of a queue: msgsnd and msgrcv (msgop(2), POSIX.1-2017 XSH msgsnd and msgrcv). msgsnd: the type is at least 1
--- and the text at most MSGMAX long, whatever the identifier; the queue is there; the caller may alter it; there is room,
--- or the call waits. msgrcv: the queue is there; the caller may read it; a message is there, or the call waits; its text
--- isn't too long.
-use Rattle.std.specs.Prelude.{ℕ, ℤ, pos, int_le, nat_le, Bool, true, false, not, ◌||◌, List, [], ◌∷◌, ◌++◌, length, take, remove, slice_get}
-use Rattle.std.specs.Prelude.{Option, option_and_then, option_map}
+-- msgsnd and msgrcv (msgop(2), POSIX.1-2017 XSH). msgsnd: the type is at least 1, and the text at most MSGMAX long; the
+-- queue is there; the caller may alter it; there is room, or the call waits. msgrcv: the queue is there; the caller may
+-- read it; a message is there, or the call waits; its text isn't too long.
+use Rattle.std.specs.Prelude.{ℕ, ℤ, pos, int_le, nat_le, Bool, not, ◌||◌, List, [], ◌∷◌, ◌++◌, length, take, remove, slice_get, Option, option_and_then, option_map}
 use Rattle.std.specs.FinMap as finite
 use Rattle.ipc_call.specs.Flags.{has_flag, msg_except, msg_noerror}
 use Rattle.ipc_call.specs.declared.limits.Limits.{Limits}
 use Rattle.ipc_call.specs.declared.rules.Rule.TheVariants.{BadId, BadType, TextTooLong, QueueFull, NoMessage, MessageTooLong}
 use Rattle.ipc_call.specs.declared.replies.Answer.TheVariants.{Done, Message as MessageAnswer}
-use Rattle.ipc_perm.specs.declared.access.Want.{Want}
-use Rattle.ipc_perm.specs.Access.{Permission}
+use Rattle.ipc_perm.specs.Access.{Permission, to_alter, to_read}
 use Rattle.ipc_objects.specs.declared.object.Object.{Object}
 use Rattle.ipc_objects.specs.Objects.{with_contents}
 use Rattle.msg_queue.specs.declared.messages.Message.{Message}
@@ -21,20 +18,10 @@ use Rattle.ipc_model.specs.Plan.{Proceeds, Needs, Passes, Plan, Grant, awaited, 
 abbrev pub queue_at : Queues → ℕ → Option (Object Queue)
 queue_at queues id = finite.get queues.objects id
 
--- the right that a call needs which changes what an object holds, and which tells it
-abbrev pub to_alter : Want
-to_alter = record { read = false; alter = true }
-
-abbrev pub to_read : Want
-to_read = record { read = true; alter = false }
-
 -- the message goes last, msg_lspid and msg_stime are set
 abbrev pub with_message : ℕ → ℕ → Message → Queue → Queue
-with_message client now message queue = record queue {
-  messages = queue.messages ++ message ∷ [];
-  last_sender = pid_of client;
-  send_time = now;
-}
+with_message client now message queue =
+    record queue { messages = queue.messages ++ message ∷ []; last_sender = pid_of client; send_time = now }
 
 abbrev pub send_found : Queues → Caller → ℕ → ℕ → Message → Option (Object Queue) → Plan Queues
 send_found queues who id flags message queue = found queue BadId _ (λ queue.
@@ -50,11 +37,8 @@ send_message limits queues who id flags message =
 
 -- the message at the position leaves, msg_lrpid and msg_rtime are set
 abbrev pub without_message : ℕ → ℕ → ℕ → Queue → Queue
-without_message client now position queue = record queue {
-  messages = remove queue.messages position;
-  last_receiver = pid_of client;
-  receive_time = now;
-}
+without_message client now position queue =
+    record queue { messages = remove queue.messages position; last_receiver = pid_of client; receive_time = now }
 
 -- the message that a receiver takes, with its position
 abbrev pub chosen : List Message → ℤ → Bool → Option (ℕ × Message)

@@ -32,14 +32,13 @@ pub record State : Type 0 where
 
 -- a namespace before its first event
 abbrev pub opening : Limits → List Credentials → State
-opening limits clients =
-    record {
-      limits = limits;
-      clients = clients;
-      clock = 0;
-      queues = empty_table limits.slots limits.first_seq;
-      parked = [];
-    }
+opening limits clients = record {
+  limits = limits;
+  clients = clients;
+  clock = 0;
+  queues = empty_table limits.slots limits.first_seq;
+  parked = [];
+}
 
 -- the process of a client: its number plus 1, since pid 0 stands for none
 abbrev pub pid_of : ℕ → ℕ

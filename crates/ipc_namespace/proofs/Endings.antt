@@ -9,15 +9,16 @@ use Rattle.ipc_call.specs.declared.calls.Call.TheVariants.{MsgSnd, MsgRcv}
 use Rattle.ipc_call.specs.declared.replies.Waiting.{Waiting}
 use Rattle.ipc_call.specs.declared.replies.Ended.{Ended}
 use Rattle.ipc_call.specs.declared.rules.Rule.{Rule}
-use Rattle.ipc_perm.specs.Access.{Permission}
+use Rattle.ipc_perm.specs.Access.{Permission, to_alter, to_read}
 use Rattle.msg_queue.specs.declared.messages.Message.{Message}
 use Rattle.ipc_model.specs.State.{Caller, Queue, Queues, State, caller, creds_at, is_waiting, waiting_of}
 use Rattle.ipc_model.specs.Plan.{needs_in}
 use Rattle.ipc_objects.specs.declared.object.Object.{Object}
-use Rattle.ipc_model.specs.Messages.{chosen, queue_at, receive_found, receive_message, send_found, send_message, take_chosen, to_alter, to_read}
+use Rattle.ipc_model.specs.Messages.{chosen, queue_at, receive_found, receive_message, send_found, send_message, take_chosen}
 use Rattle.ipc_model.specs.Decide.{needs, part_plan, plan}
 use Rattle.ipc_model.proofs.Plans.{needs-on}
-use Rattle.ipc_model.proofs.Alike.{needs-alike, plan-alike}
+use Rattle.ipc_model.proofs.Alike.{needs-alike}
+use Rattle.ipc_model.proofs.Calls.{plan-alike}
 use Rattle.ipc_model.specs.Cancelled.{first_denial, waits_on}
 use Rattle.ipc_model.specs.Step.{told_cancelled, without}
 use Rattle.ipc_namespace.specs.declared.cancelling.Cancelling.{Cancelling}

@@ -13,7 +13,7 @@ use Rattle.ipc_model.specs.Decision.{Decision, Grant, Refuse, Wait, proceeds}
 use Rattle.ipc_namespace.specs.Namespace.{is_grant}
 use Rattle.ipc_model.specs.Step.{Moved, and_then, at_time, cancelled_by, end_waiting, enter, entered, first_ready, is_ready, moved_by, settle, settle_from, settled, state_by, stepped}
 use Rattle.ipc_model.specs.Decision.{Outcome, outcome_of}
-use Rattle.ipc_model.proofs.Alike.{clock_alike, parked_alike}
+use Rattle.ipc_model.proofs.Calls.{clock_alike, parked_alike}
 use Rattle.ipc_namespace.proofs.Own.{own-there}
 
 settle-none : (n : ℕ) (s : State) → first_ready s ≡ None → settle n s ≡ record { state = s; ended = [] }

@@ -29,8 +29,7 @@ ghost use Rattle.ipc_parked.specs.Parked.{AreApart};
 use crate::namespace::Namespace;
 use ipc_call::{Call, Ended, Kind, Rule};
 use ipc_parked::waits_on;
-use ipc_perm::{Verdict, Want, decide};
-use queue_calls::{TO_ALTER, TO_READ};
+use ipc_perm::{TO_ALTER, TO_READ, Verdict, Want, decide};
 
 /// Why a granted call cancels waiting ones.
 #[derive(Clone, Copy, Debug)]

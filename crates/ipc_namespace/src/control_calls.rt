@@ -17,8 +17,8 @@ use crate::namespace::Namespace;
 use bitflags::Flags;
 use ipc_call::{Answer, Call, Ended, Kind, Outcome, Rule, Settings};
 use ipc_creds::{Caps, Creds};
-use ipc_perm::{Perm, Verdict, decide, may_control, may_interrupt};
-use queue_calls::{TO_READ, status};
+use ipc_perm::{Perm, TO_READ, Verdict, decide, may_control, may_interrupt};
+use queue_calls::status;
 
 /// Nothing, or the rule that denies.
 fn allowed(verdict: Verdict) -> Result<(), Rule>

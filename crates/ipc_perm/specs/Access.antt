@@ -25,6 +25,13 @@ rights bits = record { read = bits / 4 % 2 == 1; alter = bits / 2 % 2 == 1 }
 abbrev pub is_subset : Want → Want → Bool
 is_subset asked given = (not asked.read || given.read) && (not asked.alter || given.alter)
 
+-- the right that a call needs which changes what an object holds, and which tells it
+abbrev pub to_alter : Want
+to_alter = record { read = false; alter = true }
+
+abbrev pub to_read : Want
+to_read = record { read = true; alter = false }
+
 -- the effective user owns the object or created it
 abbrev pub is_owner : Credentials → Perm → Bool
 is_owner c p = list_any (λ uid. uid == c.euid) (p.uid ∷ p.cuid ∷ [])

@@ -55,6 +55,18 @@ pub struct Want {
     pub alter: bool,
 }
 
+/// The right that a call needs which changes what an object holds.
+pub const TO_ALTER: Want = Want {
+    read: false,
+    alter: true,
+};
+
+/// The right that a call needs which tells what an object holds.
+pub const TO_READ: Want = Want {
+    read: true,
+    alter: false,
+};
+
 /// Why a caller is allowed. A capability is the ground only where the class or the ownership fails.
 #[derive(Clone, Copy, Debug, PartialEq, Eq)]
 pub enum Ground {

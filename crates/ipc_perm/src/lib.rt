@@ -6,6 +6,7 @@ mod access;
 mod perms;
 
 pub use access::{
-    Class, Ground, Verdict, Want, asked_of_flags, decide, may_control, may_interrupt,
+    Class, Ground, TO_ALTER, TO_READ, Verdict, Want, asked_of_flags, decide, may_control,
+    may_interrupt,
 };
 pub use perms::{Mode, Perm};

@@ -21,9 +21,10 @@ use Rattle.ipc_model.specs.Decision.{Outcome, outcome_of}
 use Rattle.ipc_model.specs.History.{AreLegalFrom, History, IsLegal, IsLegalAt, Told, answers_from, answers, next_step, own, replies, reply_of, run, run_from, told_by, told_ended, told_own, with_event}
 use Rattle.ipc_call.specs.declared.replies.Reply.{Reply}
 use Rattle.ipc_space.specs.Telling.{told_to, told_of, replies_in}
-use Rattle.ipc_model.proofs.Keeping.{Keeps, Keeps-decide, Follows-step}
+use Rattle.ipc_model.proofs.Calls.{Keeps-decide, parked_alike}
+use Rattle.ipc_model.proofs.Growing.{Keeps}
+use Rattle.ipc_model.proofs.Keeping.{Follows-step}
 use Rattle.ipc_parked.specs.Parked.{AreApart}
-use Rattle.ipc_model.proofs.Alike.{parked_alike}
 use Rattle.ipc_namespace.proofs.Own.{At, found-at, others}
 use Rattle.ipc_space.proofs.Once.{apart-cancelled_by, apart-end_waiting, apart-state_by, apart-run, apart-step, none_apart}
 

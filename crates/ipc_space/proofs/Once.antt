@@ -11,7 +11,8 @@ use Rattle.ipc_model.specs.Cancelled.{cancelled}
 use Rattle.ipc_model.specs.History.{AreLegalFrom, History, IsLegal, IsLegalAt, run, run_from}
 use Rattle.ipc_model.specs.Step.{Event, at_time, end_waiting, ended_by, first_ready, cancelled_by, settle, settle_from, state_by, step, without}
 use Rattle.ipc_parked.specs.Parked.{AreApart}
-use Rattle.ipc_model.proofs.Keeping.{Keeps, Keeps-decide}
+use Rattle.ipc_model.proofs.Calls.{Keeps-decide}
+use Rattle.ipc_model.proofs.Growing.{Keeps}
 use Rattle.ipc_namespace.proofs.Parked.{apart-filter, apart-push, distinct}
 
 apart-ended_by : (s : State) (client : ℕ) (d : Decision State) → Keeps s d → AreApart s.parked → AreApart (ended_by s client d).state.parked

@@ -9,12 +9,12 @@ use Rattle.ipc_call.specs.declared.replies.Waiting.{Waiting}
 use Rattle.ipc_call.specs.declared.rules.Rule.{Rule}
 use Rattle.ipc_call.specs.declared.rules.Rule.TheVariants.{BadType, TextTooLong}
 use Rattle.ipc_creds.specs.Credentials.{Credentials}
-use Rattle.ipc_perm.specs.Access.{Permission, denial}
+use Rattle.ipc_perm.specs.Access.{Permission, denial, to_alter, to_read}
 use Rattle.msg_queue.specs.declared.messages.Message.{Message}
 use Rattle.ipc_model.specs.State.{Caller, Queue, Queues, State, caller, creds_at}
 use Rattle.ipc_model.specs.Decision.{Decision, Refuse, proceeds}
 use Rattle.ipc_model.specs.Plan.{decision, unless}
-use Rattle.ipc_model.specs.Messages.{queue_at, receive_found, receive_message, send_found, send_message, to_alter, to_read}
+use Rattle.ipc_model.specs.Messages.{queue_at, receive_found, receive_message, send_found, send_message}
 use Rattle.ipc_objects.specs.declared.object.Object.{Object}
 use Rattle.ipc_model.proofs.Alike.{proceeds-on}
 use Rattle.ipc_namespace.specs.Namespace.{needs_for}
@@ -23,7 +23,7 @@ use Rattle.ipc_model.specs.Cancelled.{first_denial, or_later}
 use Rattle.ipc_model.specs.History.{History, run}
 use Rattle.ipc_model.specs.Step.{is_ready}
 use Rattle.ipc_model.specs.Waits.{AreNotReady, ArePermitted}
-use Rattle.ipc_model.proofs.Alike.{only_parkable}
+use Rattle.ipc_model.proofs.Calls.{only_parkable}
 use Rattle.ipc_namespace.proofs.Endings.{receiver-needs, sender-needs}
 use Rattle.ipc_namespace.proofs.Own.{found-none}
 use Rattle.ipc_space.proofs.Quiet.{IsQuiet, quiet-run}

@@ -14,7 +14,8 @@ use Rattle.ipc_model.specs.Step.{Event, at_time, end_waiting, ended_by, entered,
 use Rattle.ipc_model.specs.Decision.{outcome_of}
 use Rattle.ipc_model.specs.History.{History, run, run_from, next_step}
 use Rattle.ipc_model.specs.Step.{moved_by}
-use Rattle.ipc_model.proofs.Keeping.{Keeps, Keeps-decide}
+use Rattle.ipc_model.proofs.Calls.{Keeps-decide}
+use Rattle.ipc_model.proofs.Growing.{Keeps}
 use Rattle.ipc_namespace.proofs.Own.{others}
 use Rattle.ipc_namespace.proofs.Settling.{quiet-at_time, settled-none}
 

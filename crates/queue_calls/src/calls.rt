@@ -35,20 +35,8 @@ use ipc_call::{
     takes_other_types,
 };
 use ipc_objects::Object;
-use ipc_perm::{Mode, Perm, Verdict, Want, asked_of_flags, decide};
+use ipc_perm::{Mode, Perm, TO_ALTER, TO_READ, Verdict, asked_of_flags, decide};
 use std::alloc::Global;
-
-/// The right that a call needs which changes what an object holds.
-pub const TO_ALTER: Want = Want {
-    read: false,
-    alter: true,
-};
-
-/// The right that a call needs which tells what an object holds.
-pub const TO_READ: Want = Want {
-    read: true,
-    alter: false,
-};
 
 impl Queues {
     /// The queue of a key, or a new one (msgget(2)). Memory comes where a growth was refused, and then nothing

@@ -10,6 +10,5 @@ mod queues;
 mod tests;
 
 pub use caller::Caller;
-pub use calls::{TO_ALTER, TO_READ};
 pub use queue::{Queue, status};
 pub use queues::Queues;

@@ -11,7 +11,7 @@ use Rattle.ipc_model.specs.State.{State, caller, is_waiting, waiting_of}
 use Rattle.ipc_model.specs.Decision.{Decision, Grant, Outcome, Refuse, Wait, left_by, outcome_of, proceeds}
 use Rattle.ipc_model.specs.Decide.{can_wait, decide}
 use Rattle.ipc_model.specs.Step.{end_waiting, is_ready, without}
-use Rattle.ipc_model.proofs.Alike.{parked_alike}
+use Rattle.ipc_model.proofs.Calls.{parked_alike}
 use Rattle.ipc_parked.specs.Parked.{AreApart, waiting}
 use Rattle.ipc_parked.proofs.Listed.{any_waiting, waiting_at, waiting-others}
 use Rattle.ipc_namespace.specs.Namespace.{AreParked, is_send_to, sends_on}

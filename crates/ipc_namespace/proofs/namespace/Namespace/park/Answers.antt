@@ -11,7 +11,7 @@ use Rattle.ipc_parked.proofs.Listed.{any_waiting, waiting-push}
 use Rattle.ipc_namespace.specs.Namespace.{AreParked, is_at, is_send_to, sends_on}
 use Rattle.ipc_model.specs.Decision.{Decision, Refuse, Wait, Grant, outcome_of, proceeds}
 use Rattle.std.proofs.lemmas.Option.{none-some}
-use Rattle.ipc_model.proofs.Alike.{only_parkable}
+use Rattle.ipc_model.proofs.Calls.{only_parkable}
 use Rattle.ipc_namespace.proofs.Calling.{sender-there}
 use Rattle.ipc_model.specs.Messages.{queue_at}
 use Rattle.ipc_namespace.proofs.Parked.{AreParked-push}

@@ -1,0 +1,73 @@
+-- Tables and states of which the second may come after the first: they stay sound, and an identifier that was used stays
+-- used.
+use Rattle.std.proofs.Common.{◌≡◌, ℕ, refl, sym, ◌∙◌, subst, Option, Some, None}
+use Rattle.std.specs.FinMap as finite
+use Rattle.ipc_call.specs.declared.replies.Answer.{Answer}
+use Rattle.ipc_ids.specs.Table.{Table, IsSound, WasUsed, next_id, with_object, without_object}
+use Rattle.ipc_ids.proofs.Sound.{IsSound-change, IsSound-new, IsSound-without, WasUsed-with, WasUsed-without, next_id-fresh}
+use Rattle.ipc_objects.specs.declared.object.Object.{Object}
+use Rattle.ipc_objects.specs.Objects.{changed, with_perm}
+use Rattle.ipc_model.specs.State.{Queues, State}
+use Rattle.ipc_model.specs.Decision.{Decision}
+use Rattle.ipc_model.proofs.Plans.{IfGranted}
+
+-- the second table may come after the first
+pub record Grows {X : Type 0} (t u : Table X) : Type 0 where
+  pub sound : IsSound t → IsSound u
+  pub used : IsSound t → (id : ℕ) → WasUsed t id → WasUsed u id
+
+module _ {X : Type 0} where
+  pub Grows-same : (t : Table X) → Grows t t
+  Grows-same t = record { sound = λ sound. sound; used = λ sound id was. was }
+
+  Grows-on : (t u v : Table X) → Grows t u → Grows u v → Grows t v
+  Grows-on t u v first second = record {
+    sound = λ sound. second.sound (first.sound sound);
+    used = λ sound id was. second.used (first.sound sound) id (first.used sound id was);
+  }
+
+  pub Grows-new : (t : Table X) (id : ℕ) (x : X) → next_id t ≡ Some id → Grows t (with_object t id x)
+  Grows-new t id x is = record {
+    sound = λ sound. IsSound-new t sound id x (next_id-fresh t sound.few id is);
+    used = λ sound j was. WasUsed-with t id x j was;
+  }
+
+  pub Grows-gone : (t : Table X) (id : ℕ) (x : X) → finite.get t.objects id ≡ Some x → Grows t (without_object t id)
+  Grows-gone t id x there = record {
+    sound = λ sound. IsSound-without t sound id x there;
+    used = λ sound j was. WasUsed-without t sound id x there j was;
+  }
+
+module _ {X : Type 0} where
+  -- an object, where there is one, changes
+  Grows-perm : (t : Table (Object X)) (id : ℕ) (change : Object X → Object X) (o : Option (Object X)) → finite.get t.objects id ≡ o → Grows t (with_perm t id change o)
+  Grows-perm t id change None is = Grows-same t
+  Grows-perm t id change (Some object) is = record {
+    sound = λ sound. IsSound-change t sound id (change object) object is;
+    used = λ sound j was. WasUsed-with t id (change object) j was;
+  }
+
+  pub Grows-changed : (t : Table (Object X)) (id : ℕ) (change : Object X → Object X) → Grows t (changed t id change)
+  Grows-changed t id change = Grows-perm t id change (finite.get t.objects id) refl
+
+-- the second state may come after the first
+pub record Follows (s t : State) : Type 0 where
+  pub queues : Grows s.queues t.queues
+  pub clients : t.clients ≡ s.clients
+  pub limits : t.limits ≡ s.limits
+
+pub Follows-same : (s t : State) → t.queues ≡ s.queues → t.clients ≡ s.clients → t.limits ≡ s.limits → Follows s t
+Follows-same s t same clients limits = record { queues = subst (λ (q : Queues). Grows s.queues q) (sym same) (Grows-same s.queues); clients = clients; limits = limits }
+
+pub Follows-on : (s t u : State) → Follows s t → Follows t u → Follows s u
+Follows-on s t u first second = record { queues = Grows-on s.queues t.queues u.queues first.queues second.queues; clients = second.clients ∙ first.clients; limits = second.limits ∙ first.limits }
+
+-- what is granted leaves the calls that wait, and its state may follow
+abbrev pub Succeeds : State → Answer → State → Type 0
+Succeeds s answer new = (new.parked ≡ s.parked) × Follows s new
+
+abbrev pub Keeps : State → Decision State → Type 0
+Keeps s d = IfGranted (Succeeds s) d
+
+pub Succeeds-same : (s : State) (answer : Answer) → Succeeds s answer s
+Succeeds-same s answer = (refl, Follows-same s s refl refl refl)
