@@ -2,13 +2,14 @@
 use Rattle.std.specs.Prelude.{ℕ, List, codes}
 use Rattle.ipc_call.specs.declared.rules.Rule.{Rule}
 use Rattle.ipc_call.specs.declared.rules.Rule.TheVariants.{NotOwner, NeedsResource, NotSameUser, NoKey, NoProcess}
-use Rattle.ipc_call.specs.declared.rules.Rule.TheVariants.{Interrupted, MessageTooLong, QueueFull, OwnerBits}
+use Rattle.ipc_call.specs.declared.rules.Rule.TheVariants.{Interrupted, MessageTooLong, QueueFull, WouldWait, OwnerBits}
 use Rattle.ipc_call.specs.declared.rules.Rule.TheVariants.{GroupBits, OtherBits, KeyExists, BadId, BadType}
-use Rattle.ipc_call.specs.declared.rules.Rule.TheVariants.{TextTooLong, BadArgument, NoSlot, NoMessage, Removed}
+use Rattle.ipc_call.specs.declared.rules.Rule.TheVariants.{TextTooLong, BadArgument, NoSlot, ValueRange, UndoRange, NoMessage}
+use Rattle.ipc_call.specs.declared.rules.Rule.TheVariants.{Removed}
 use Rattle.ipc_call.specs.Errors as errors
 use Rattle.ipc_call.specs.declared.error.Errno.{Errno}
 use Rattle.ipc_call.specs.declared.error.Errno.TheVariants.{EPERM, ENOENT, ESRCH, EINTR, E2BIG, EAGAIN}
-use Rattle.ipc_call.specs.declared.error.Errno.TheVariants.{EACCES, EEXIST, EINVAL, ENOSPC, ENOMSG, EIDRM}
+use Rattle.ipc_call.specs.declared.error.Errno.TheVariants.{EACCES, EEXIST, EINVAL, ENOSPC, ERANGE, ENOMSG, EIDRM}
 
 unfoldable pub row_of : Rule → Errno × List ℕ
 row_of NotOwner = (EPERM, codes "not-owner")
@@ -19,6 +20,7 @@ row_of NoProcess = (ESRCH, codes "no-process")
 row_of Interrupted = (EINTR, codes "interrupted")
 row_of MessageTooLong = (E2BIG, codes "message-too-long")
 row_of QueueFull = (EAGAIN, codes "queue-full")
+row_of WouldWait = (EAGAIN, codes "would-wait")
 row_of OwnerBits = (EACCES, codes "owner-bits")
 row_of GroupBits = (EACCES, codes "group-bits")
 row_of OtherBits = (EACCES, codes "other-bits")
@@ -28,6 +30,8 @@ row_of BadType = (EINVAL, codes "bad-type")
 row_of TextTooLong = (EINVAL, codes "text-too-long")
 row_of BadArgument = (EINVAL, codes "bad-argument")
 row_of NoSlot = (ENOSPC, codes "no-slot")
+row_of ValueRange = (ERANGE, codes "value-range")
+row_of UndoRange = (ERANGE, codes "undo-range")
 row_of NoMessage = (ENOMSG, codes "no-message")
 row_of Removed = (EIDRM, codes "removed")
 

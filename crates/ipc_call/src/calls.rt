@@ -16,6 +16,17 @@ pub enum Kind {
     Segment,
 }
 
+/// One operation of semop on a semaphore of a set (sembuf of semop(2)).
+#[derive(Clone, Copy, Debug, PartialEq, Eq)]
+pub struct SemOper {
+    /// The number of the semaphore in its set, from 0 (sem_num).
+    pub num: u16,
+    /// What is added to its value; 0 waits until the value is 0 (sem_op).
+    pub op: i16,
+    /// `IPC_NOWAIT` and `SEM_UNDO` (sem_flg).
+    pub flags: u16,
+}
+
 /// One call of a client with its arguments, as POSIX.1-2017 XSI IPC has it. Flag bits that a call doesn't
 /// know are ignored.
 #[derive(Debug, Drop, PartialEq)]

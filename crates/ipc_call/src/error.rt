@@ -28,6 +28,8 @@ pub enum Errno {
     EINVAL = 22,
     /// No space left on device: no slot is usable.
     ENOSPC = 28,
+    /// Result too large.
+    ERANGE = 34,
     /// No message of desired type.
     ENOMSG = 42,
     /// Identifier removed.
@@ -60,6 +62,7 @@ impl Errno {
             Errno::EEXIST => "EEXIST",
             Errno::EINVAL => "EINVAL",
             Errno::ENOSPC => "ENOSPC",
+            Errno::ERANGE => "ERANGE",
             Errno::ENOMSG => "ENOMSG",
             Errno::EIDRM => "EIDRM",
         }

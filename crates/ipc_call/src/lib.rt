@@ -12,11 +12,11 @@ mod replies;
 mod rules;
 mod settings;
 
-pub use calls::{Call, Kind};
+pub use calls::{Call, Kind, SemOper};
 pub use error::Errno;
 pub use flags::{
-    IPC_CREAT, IPC_EXCL, IPC_NOWAIT, MSG_EXCEPT, MSG_NOERROR, creates, cuts_text, is_exclusive,
-    may_wait, takes_other_types,
+    IPC_CREAT, IPC_EXCL, IPC_NOWAIT, MSG_EXCEPT, MSG_NOERROR, SEM_UNDO, creates, cuts_text,
+    is_exclusive, may_wait, takes_other_types, undoes,
 };
 pub use items::Items;
 pub use limits::{Limit, Limits};

@@ -5,7 +5,7 @@ ghost use Rattle.ipc_call.specs.Rules.{error_of, name_of_rule, number_of};
 
 use crate::error::Errno;
 
-/// Why a call was refused. Each error is that of POSIX.1-2017 XSH msgget, msgsnd, msgrcv or msgctl, and of Linux.
+/// Why a call was refused. Each error is that of POSIX.1-2017 XSH msgget, msgsnd, msgrcv, msgctl or semop, and of Linux.
 #[derive(Clone, Copy, Debug, PartialEq, Eq)]
 pub enum Rule {
     /// The caller neither owns nor created the object, and lacks CAP_SYS_ADMIN.
@@ -24,6 +24,8 @@ pub enum Rule {
     MessageTooLong,
     /// The queue is full for the message.
     QueueFull,
+    /// An operation of semop with `IPC_NOWAIT` can't go on now.
+    WouldWait,
     /// The caller is in the owner class, and the owner's permission bits lack one that is asked.
     OwnerBits,
     /// The caller is in the group class, and the group's permission bits lack one that is asked.
@@ -42,6 +44,10 @@ pub enum Rule {
     BadArgument,
     /// Each slot of the kind holds an object or is retired.
     NoSlot,
+    /// The value of a semaphore would rise above SEMVMX, 32767.
+    ValueRange,
+    /// An operation with `SEM_UNDO` would take the caller's semadj of a semaphore out of -32768 to 32767.
+    UndoRange,
     /// The queue has no message of the type that is asked for.
     NoMessage,
     /// The object was removed while the call waited.
@@ -77,6 +83,7 @@ impl Rule {
             Rule::Interrupted => (Errno::EINTR, "interrupted"),
             Rule::MessageTooLong => (Errno::E2BIG, "message-too-long"),
             Rule::QueueFull => (Errno::EAGAIN, "queue-full"),
+            Rule::WouldWait => (Errno::EAGAIN, "would-wait"),
             Rule::OwnerBits => (Errno::EACCES, "owner-bits"),
             Rule::GroupBits => (Errno::EACCES, "group-bits"),
             Rule::OtherBits => (Errno::EACCES, "other-bits"),
@@ -86,6 +93,8 @@ impl Rule {
             Rule::TextTooLong => (Errno::EINVAL, "text-too-long"),
             Rule::BadArgument => (Errno::EINVAL, "bad-argument"),
             Rule::NoSlot => (Errno::ENOSPC, "no-slot"),
+            Rule::ValueRange => (Errno::ERANGE, "value-range"),
+            Rule::UndoRange => (Errno::ERANGE, "undo-range"),
             Rule::NoMessage => (Errno::ENOMSG, "no-message"),
             Rule::Removed => (Errno::EIDRM, "removed"),
         }
