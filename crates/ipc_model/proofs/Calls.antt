@@ -8,10 +8,11 @@ use Rattle.ipc_call.specs.declared.calls.Call.TheVariants.{MsgGet, MsgSnd, MsgRc
 use Rattle.ipc_call.specs.declared.calls.Kind.{Kind}
 use Rattle.ipc_call.specs.declared.calls.Kind.TheVariants as kinds
 use Rattle.ipc_call.specs.declared.settings.Settings.{Settings}
+use Rattle.ipc_call.specs.declared.replies.Answer.{Answer}
 use Rattle.ipc_call.specs.declared.replies.Answer.TheVariants.{Done, Status as StatusAnswer}
 use Rattle.ipc_call.specs.declared.replies.Waiting.{Waiting}
 use Rattle.ipc_call.specs.declared.rules.Rule.TheVariants.{BadArgument, BadId, BadType, NoKey, NoProcess, NoSlot, TextTooLong}
-use Rattle.ipc_perm.specs.Access.{Control, Permission, Resource, to_read}
+use Rattle.ipc_perm.specs.Access.{Control, Need, Permission, Resource, to_read}
 use Rattle.ipc_ids.specs.Table.{Table, next_id}
 use Rattle.ipc_objects.specs.declared.object.Object.{Object}
 use Rattle.msg_queue.specs.declared.messages.Message.{Message}
@@ -72,6 +73,13 @@ module _ (s : State) (parked : List Waiting) (clock : ℕ) where
   resource-alike true new old = refl
   resource-alike false new old = refl
 
+  -- a plan that asks something of the permissions of an object
+  named-alike : (kind : Kind) (id : ℕ) (need : Perm → Need) (answer : Answer) (new old : State)
+      → blank (found (perm_of later kind id) BadId tt (λ perm. Needs (need perm) ⨾ plans.Grant answer new)) ≡ blank (found (perm_of s kind id) BadId tt (λ perm. Needs (need perm) ⨾ plans.Grant answer old))
+  named-alike kind id need answer new old =
+      ap (λ o. blank (found o BadId tt (λ perm. Needs (need perm) ⨾ plans.Grant answer new))) (perm-alike kind id)
+      ∙ blank-found (perm_of s kind id) BadId tt _ _ (λ perm. refl)
+
   -- a plan of the queues, from two states with the same queues
   queues-alike : (p q : Plan Queues) → blank p ≡ blank q → blank (whole later (OnQueues p)) ≡ blank (whole s (OnQueues q))
   queues-alike p q same = blank-on (λ queues. record later { queues = queues }) p ∙ same ∙ sym (blank-on (λ queues. record s { queues = queues }) q)
@@ -100,9 +108,7 @@ module _ (s : State) (parked : List Waiting) (clock : ℕ) where
       ap (λ p. Passes (takes_qbytes kind qbytes) BadArgument tt ⨾ p)
       (ap (λ o. blank (found o BadId tt (λ perm. Needs (Control perm) ⨾ in_order (if is_within s qbytes then [] else Needs Resource ∷ []) (plans.Grant Done new)))) (perm-alike kind id)
       ∙ blank-found (perm_of s kind id) BadId tt _ _ (λ perm. ap (λ p. Needs (Control perm) ⨾ p) (resource-alike (is_within s qbytes) new (with_set s kind id set))))
-  plan-alike client (IpcRmid kind id) =
-      ap (λ o. blank (found o BadId tt (λ perm. Needs (Control perm) ⨾ plans.Grant Done (removed later kind id)))) (perm-alike kind id)
-      ∙ blank-found (perm_of s kind id) BadId tt _ _ (λ perm. refl)
+  plan-alike client (IpcRmid kind id) = named-alike kind id (λ perm. Control perm) Done (removed later kind id) (removed s kind id)
   plan-alike client (Interrupt pid) = blank-found (process s pid) NoProcess tt _ _ (λ target. refl)
 
 -- a call goes on or waits alike on any list of waiting calls, and at each time

@@ -49,6 +49,12 @@ state-left s client call (Refuse rule) outcome is = refl
 state-left s client call Wait outcome is = absurd (none-some outcome is)
 state-left s client call (Grant answer new) outcome is = refl
 
+-- a call that changes nothing moves nothing
+pub moved-nothing : (s : State) (client : ℕ) (call same : Call) (outcome : Outcome) → call ≡ same → ((new : State) (w : Waiting) → cancelled new same w ≡ None)
+    → outcome_of (decide s client same) ≡ Some outcome → left_by s (decide s client same) ≡ s → moved_by s client call ≡ record { state = s; ended = [] }
+moved-nothing s client call same outcome is none ends left =
+    moved-alone s client call same is none ∙ (λ i. record { state = (state-left s client same (decide s client same) outcome ends ∙ left) i; ended = [] })
+
 pub moved-granted : (s new : State) (client : ℕ) (call : Call) (answer : Answer) → decide s client call ≡ Grant answer new → moved_by s client call ≡ cancel new call
 moved-granted s new client call answer is = ap (λ d. cancelled_by (state_by s client call d) call d) is
 

@@ -62,12 +62,6 @@ object_of (kind ∷ []) = None
 object_of (kind ∷ id ∷ []) = kind_named kind >>= λ k. option_map (λ i. (k, i)) (number_32 id)
 object_of (kind ∷ id ∷ more ∷ others) = None
 
-abbrev pub stat_of : List (List ℕ) → Option Call
-stat_of words = option_map (λ object. IpcStat object.0 object.1) (object_of words)
-
-abbrev pub rmid_of : List (List ℕ) → Option Call
-rmid_of words = option_map (λ object. IpcRmid object.0 object.1) (object_of words)
-
 -- [QBYTES]
 abbrev pub qbytes_of : List (List ℕ) → Option (Option ℕ)
 qbytes_of [] = Some None
@@ -106,9 +100,10 @@ process_of word words = if bytes_eq word (codes "interrupt") then interrupt_of w
 -- the word of a control of an object of any kind or of a process, and its arguments
 unfoldable pub control_of : List ℕ → List (List ℕ) → Option Call
 control_of word words =
-    if bytes_eq word (codes "stat") then stat_of words
+    if bytes_eq word (codes "stat") then option_map (λ object. IpcStat object.0 object.1) (object_of words)
     else (if bytes_eq word (codes "set") then set_of words
-    else (if bytes_eq word (codes "rmid") then rmid_of words else process_of word words))
+    else (if bytes_eq word (codes "rmid") then option_map (λ object. IpcRmid object.0 object.1) (object_of words)
+    else process_of word words))
 
 -- the word of the call, and its arguments
 unfoldable pub call_of : List (List ℕ) → Option Call

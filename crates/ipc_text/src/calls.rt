@@ -2,7 +2,7 @@
 
 ghost use Rattle.std.specs.Prelude.{◌≡◌, ◌≢◌, [], ◌∷◌, length, IfOk, MatchOption};
 ghost use Rattle.ipc_text.specs.Calls.{call_of as call_words, control_of as control_words, interrupt_of as interrupt_words, process_of as process_words, kind_named as kind_word, msgget_of as msgget_words, object_of as object_words};
-ghost use Rattle.ipc_text.specs.Calls.{qbytes_of as qbytes_words, rmid_of as rmid_words, set_of as set_line, set_words as set_parts, stat_of as stat_words};
+ghost use Rattle.ipc_text.specs.Calls.{qbytes_of as qbytes_words, set_of as set_line, set_words as set_parts};
 ghost use Rattle.ipc_text.specs.Calls.{msgrcv_of as msgrcv_line, msgrcv_words as msgrcv_parts, msgsnd_of as msgsnd_line, msgsnd_words as msgsnd_parts};
 ghost use Rattle.ipc_text.specs.Words.{words_of};
 
@@ -36,9 +36,9 @@ fn control_of(word: &[u8], words: &[u8]) -> Option<Call>
     ensures { result ≡ control_words word.now (words_of words.now) }
 {
     match word {
-        b"stat" => stat_of(words),
+        b"stat" => object_of(words).map(|(kind, id)| Call::IpcStat { kind, id }),
         b"set" => set_of(words),
-        b"rmid" => rmid_of(words),
+        b"rmid" => object_of(words).map(|(kind, id)| Call::IpcRmid { kind, id }),
         _ => process_of(word, words),
     }
 }
@@ -154,20 +154,6 @@ fn object_of(words: &[u8]) -> Option<(Kind, u32)>
     let kind = kind_named(kind)?;
     let id = number_32(id)?;
     Some((kind, id))
-}
-
-fn stat_of(words: &[u8]) -> Option<Call>
-    ensures { result ≡ stat_words (words_of words.now) }
-{
-    let (kind, id) = object_of(words)?;
-    Some(Call::IpcStat { kind, id })
-}
-
-fn rmid_of(words: &[u8]) -> Option<Call>
-    ensures { result ≡ rmid_words (words_of words.now) }
-{
-    let (kind, id) = object_of(words)?;
-    Some(Call::IpcRmid { kind, id })
 }
 
 fn interrupt_of(words: &[u8]) -> Option<Call>

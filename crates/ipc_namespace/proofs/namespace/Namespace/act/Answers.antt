@@ -5,7 +5,7 @@ use Rattle.std.proofs.lemmas.Result.{on_ok_weaker}
 use Rattle.ipc_call.specs.declared.calls.Call.TheVariants.{MsgGet, MsgSnd, MsgRcv, IpcStat}
 use Rattle.ipc_model.specs.Decide.{decide}
 use Rattle.ipc_model.specs.Step.{Moved, state_by}
-use Rattle.ipc_namespace.proofs.Moving.{moved-alone, state-left}
+use Rattle.ipc_namespace.proofs.Moving.{moved-alone, moved-nothing, state-left}
 use Rattle.ipc_namespace.proofs.namespace.Namespace.act.Goals as goal
 
 pub returns-in_ok-msgget-in-MsgGet-clause-state : goal.returns-in_ok-msgget-in-MsgGet-clause-state
@@ -53,11 +53,8 @@ returns-in-MsgRcv-clause-ended c =
 
 pub returns-in-IpcStat-clause-state : goal.returns-in-IpcStat-clause-state
 returns-in-IpcStat-clause-state c =
-    let s = c.args.self.now in
-    let same = IpcStat c.in-IpcStat.kind c.in-IpcStat.id in
-    let moved = moved-alone s c.args.client c.args.call same c.in-IpcStat.is (λ new w. refl) in
-    sym c.stat.ensures.same ∙ sym (state-left s c.args.client same (decide s c.args.client same) _ c.stat.ensures.outcome) ∙ sym (ap (λ (m : Moved). m.state) moved)
+    sym (ap (λ (m : Moved). m.state) (moved-nothing c.args.self.now c.args.client c.args.call (IpcStat c.in-IpcStat.kind c.in-IpcStat.id) _ c.in-IpcStat.is (λ new w. refl) c.stat.ensures.outcome c.stat.ensures.same))
 
 pub returns-in-IpcStat-clause-ended : goal.returns-in-IpcStat-clause-ended
 returns-in-IpcStat-clause-ended c =
-    c.requires.empty ∙ sym (ap (λ (m : Moved). m.ended) (moved-alone c.args.self.now c.args.client c.args.call (IpcStat c.in-IpcStat.kind c.in-IpcStat.id) c.in-IpcStat.is (λ new w. refl)))
+    c.requires.empty ∙ sym (ap (λ (m : Moved). m.ended) (moved-nothing c.args.self.now c.args.client c.args.call (IpcStat c.in-IpcStat.kind c.in-IpcStat.id) _ c.in-IpcStat.is (λ new w. refl) c.stat.ensures.outcome c.stat.ensures.same))
