@@ -1,10 +1,12 @@
 -- The calls of queues as a namespace makes them: what is decided of its queues is decided of its state.
 use Rattle.std.proofs.Common.{◌≡◌, ℕ, ℤ, Bool, true, false, List, [], ◌∷◌, length, refl, sym, ap, subst, ◌∙◌, Option, Some, None, Ok, Err}
-use Rattle.std.specs.Prelude.{if◌then◌else◌, is_some, pos, int_le, nat_le, IfOk, IfSome, IsSome, Result}
+use Rattle.std.specs.Prelude.{⊤, if◌then◌else◌, is_some, pos, int_le, nat_le, IfOk, IfSome, IsSome, Result}
 use Rattle.std.proofs.lemmas.Bool.{eqb-true, false≢true}
 use Rattle.std.proofs.lemmas.Option.{none-some}
 use Rattle.ipc_call.specs.declared.calls.Call.{Call}
 use Rattle.ipc_call.specs.declared.calls.Call.TheVariants.{MsgGet, MsgSnd, MsgRcv}
+use Rattle.ipc_call.specs.declared.limits.Limits.{Limits}
+use Rattle.ipc_call.specs.declared.replies.Answer.TheVariants.{Done}
 use Rattle.ipc_call.specs.declared.rules.Rule.{Rule}
 use Rattle.ipc_call.specs.declared.rules.Rule.TheVariants.{BadId, BadType, TextTooLong}
 use Rattle.ipc_creds.specs.Credentials.{Credentials}
@@ -16,8 +18,8 @@ use Rattle.ipc_model.specs.Plan.{Plan, decision, on_part}
 use Rattle.ipc_model.specs.Gets.{get_queue}
 use Rattle.ipc_model.specs.Messages.{queue_at, receive_message, send_found, send_message}
 use Rattle.ipc_model.specs.Decide.{decide, part_plan}
-use Rattle.ipc_model.specs.Step.{ended_by, state_by}
-use Rattle.ipc_model.proofs.Plans.{left-on, outcome-on}
+use Rattle.ipc_model.specs.Step.{end_waiting, ended_by, state_by, without}
+use Rattle.ipc_model.proofs.Plans.{Ends-decision, Ends-found, IfGranted, left-on, outcome-on}
 use Rattle.ipc_model.proofs.Alike.{proceeds-on}
 use Rattle.queue_calls.specs.Calls.{sending, without_answer}
 use Rattle.ipc_namespace.specs.Namespace.{is_send_to}
@@ -55,6 +57,17 @@ module _ (part : State → Caller → Plan Queues) (v s : State) (client : ℕ) 
       ∙ ap (λ (w : Caller). put_in v (left_by v.queues (decision w.creds (part v w)))) called
       ∙ sym (left-on (creds_at v client) (put_in v) (part v (caller v client)) v.queues v refl)
       ∙ ap (λ (t : State). left_by t (whole_of t)) is
+
+-- a decision without its answer, by how the call ends
+abbrev answered : Option Outcome → Option (Result ⊤ Rule)
+answered None = None
+answered (Some (Ok answer)) = Some (Ok tt)
+answered (Some (Err rule)) = Some (Err rule)
+
+answered-as : {X : Type 0} (d : Decision X) → without_answer d ≡ answered (outcome_of d)
+answered-as (Refuse rule) = refl
+answered-as Wait = refl
+answered-as (Grant answer new) = refl
 
 module _ (v s : State) (client : ℕ) (who : Caller) (is : v ≡ s) (called : who ≡ caller v client) where
   pub get-outcome : (key flags : ℕ) → outcome_of (decision who.creds (get_queue v.limits v.queues who key flags)) ≡ outcome_of (decide s client (MsgGet key flags))
@@ -94,6 +107,9 @@ module _ (v s : State) (client : ℕ) (who : Caller) (is : v ≡ s) (called : wh
         proceeds-as (λ t w. send_message t.limits t.queues w id flags (record { mtype = read; text = text })) v s client who is called
         ∙ ap (λ z. proceeds (decide s client (MsgSnd id z text flags))) back
 
+    pub send-answered : without_answer sent ≡ without_answer (decide s client (MsgSnd id mtype text flags))
+    send-answered = answered-as sent ∙ ap answered send-outcome ∙ sym (answered-as (decide s client (MsgSnd id mtype text flags)))
+
     pub send-left : (queues : Queues) → queues ≡ left_by v.queues sent → put_in v queues ≡ left_by s (decide s client (MsgSnd id mtype text flags))
     unfolding part_plan
     send-left queues left =
@@ -121,6 +137,23 @@ answered-some (Refuse rule) = refl
 answered-some Wait = refl
 answered-some (Grant answer new) = refl
 
+pub outcome-some : {X : Type 0} (d : Decision X) → is_some (outcome_of d) ≡ proceeds d
+outcome-some (Refuse rule) = refl
+outcome-some Wait = refl
+outcome-some (Grant answer new) = refl
+
+-- what a msgsnd that is granted answers
+done-granted : (d : Decision Queues) → IfGranted (λ answer new. answer ≡ Done) d → without_answer d ≡ Some (Ok tt) → outcome_of d ≡ Some (Ok Done)
+done-granted (Refuse rule) done is = cc
+done-granted Wait done is = cc
+done-granted (Grant answer new) done is = ap (λ a. Some (Ok a)) done
+
+pub sent-done : (limits : Limits) (queues : Queues) (who : Caller) (id flags : ℕ) (message : Message) → without_answer (sending limits queues who id flags message) ≡ Some (Ok tt)
+    → outcome_of (sending limits queues who id flags message) ≡ Some (Ok Done)
+sent-done limits queues who id flags message =
+    done-granted (sending limits queues who id flags message)
+    (Ends-decision who.creds (λ answer new. answer ≡ Done) (send_message limits queues who id flags message) (Ends-found (λ answer new. answer ≡ Done) (queue_at queues id) BadId tt _ (λ queue is. refl)))
+
 pub answered-none : {X : Type 0} (d : Decision X) → without_answer d ≡ None → outcome_of d ≡ None
 answered-none (Refuse rule) is = cc
 answered-none Wait is = refl
@@ -131,12 +164,18 @@ answered-refused (Refuse other) rule is = (cc, λ x. refl)
 answered-refused Wait rule is = cc
 answered-refused (Grant answer new) rule is = cc
 
--- a waiting call that ends
-pub ended-as : (s : State) (client : ℕ) (d : Decision State) (outcome : Outcome) → outcome_of d ≡ Some outcome
+ended-as : (s : State) (client : ℕ) (d : Decision State) (outcome : Outcome) → outcome_of d ≡ Some outcome
     → ended_by s client d ≡ record { state = left_by s d; ended = record { client = client; outcome = outcome } ∷ [] }
 ended-as s client (Refuse rule) outcome is = let same : Err rule ≡ outcome = cc in ap (λ o. record { state = s; ended = record { client = client; outcome = o } ∷ [] }) same
 ended-as s client Wait outcome is = absurd (none-some outcome is)
 ended-as s client (Grant answer new) outcome is = let same : Ok answer ≡ outcome = cc in ap (λ o. record { state = new; ended = record { client = client; outcome = o } ∷ [] }) same
+
+-- a waiting call that ends
+pub ends-so : (s new : State) (client : ℕ) (call : Call) (outcome : Outcome) → outcome_of (decide (without s client) client call) ≡ Some outcome
+    → new ≡ left_by (without s client) (decide (without s client) client call)
+    → end_waiting s (record { client = client; call = call }) ≡ record { state = new; ended = record { client = client; outcome = outcome } ∷ [] }
+ends-so s new client call outcome told left =
+    ended-as (without s client) client (decide (without s client) client call) outcome told ∙ (λ i. record { state = sym left i; ended = record { client = client; outcome = outcome } ∷ [] })
 
 no-queue : (a b : Bool) → outcome_of {X = Queues} (if a then (if b then Refuse BadId else Refuse TextTooLong) else Refuse BadType) ≡ None → ⊥
 no-queue true true is = cc

@@ -1,5 +1,6 @@
 pub mod Calling
 pub mod Endings
+pub mod Leaving
 pub mod Moving
 pub mod Own
 pub mod Parked

@@ -1,6 +1,6 @@
 -- The waiting call of a client in the list: where it stands, and what is left without it.
-use Rattle.std.proofs.Common.{◌≡◌, ℕ, ◌+◌, Bool, true, false, List, [], ◌∷◌, ◌++◌, length, length-append, refl, sym, ap, subst, ◌∙◌, arith, ⊎_elim, Option, Some, None}
-use Rattle.std.specs.Prelude.{◌==◌, not, filter, IfSome, option_map, option_and_then}
+use Rattle.std.proofs.Common.{◌≡◌, ℕ, zero, suc, ◌+◌, Bool, true, false, List, [], ◌∷◌, ◌++◌, length, length-append, refl, sym, ap, subst, ◌∙◌, arith, ⊎_elim, Option, Some, None}
+use Rattle.std.specs.Prelude.{◌==◌, not, filter, slice_get, IfSome, option_map, option_and_then}
 use Rattle.std.specs.List.{find, list_any, AllByRecursion}
 use Rattle.std.proofs.lemmas.Bool.{cases_Bool, eq-eqb, eqb-true, or_parts, false≢true}
 use Rattle.std.proofs.lemmas.Option.{none-some, same_Some}
@@ -129,6 +129,20 @@ pub first-own : (test : Waiting → Bool) (ws : List Waiting) (o : Option Waitin
     → find test ws ≡ option_and_then (λ client. find (λ w. w.client == client) ws) (option_map (λ w. w.client) o)
 first-own test ws None apart found = found
 first-own test ws (Some w) apart found = found ∙ sym (found-at test ws w apart found).own
+
+none-nth : (any : Waiting → Bool) (ws : List Waiting) (i : ℕ) (w : Waiting) → list_any any ws ≡ false → slice_get ws i ≡ Some w → any w ≡ false
+none-nth any [] i w none at = absurd (none-some w at)
+none-nth any (v ∷ ws) zero w none at = ap any (sym (same_Some v w at)) ∙ (or_parts (any v) (list_any any ws) none).0
+none-nth any (v ∷ ws) (suc i) w none at = none-nth any ws i w (or_parts (any v) (list_any any ws) none).1 at
+
+-- the call at a place in the list is its client's own
+pub nth-own : (ws : List Waiting) (i : ℕ) (w : Waiting) → AreApart ws → slice_get ws i ≡ Some w → find (λ v. v.client == w.client) ws ≡ Some w
+unfolding AreApart
+nth-own [] i w apart at = absurd (none-some w at)
+nth-own (v ∷ ws) zero w apart at = let own = eq-eqb v.client w.client (ap (λ (u : Waiting). u.client) (same_Some v w at)) in rw own at
+nth-own (v ∷ ws) (suc i) w apart at =
+    let other : (v.client == w.client) ≡ false = turned w.client v.client (none-nth (λ u. u.client == v.client) ws i w apart.0 at) in
+    rw other (nth-own ws i w apart.1 at)
 
 -- one call less
 pub length-others : (ws : List Waiting) (client : ℕ) (w : Waiting) → AreApart ws → find (λ v. v.client == client) ws ≡ Some w → w.client ≡ client → length (others client ws) + 1 ≡ length ws

@@ -1,8 +1,8 @@
 -- The places that are reserved for waiting calls that send.
 use Rattle.std.proofs.Common.{◌≡◌, ℕ, ℤ, ◌+◌, ◌<◌, Bool, true, false, cond, List, [], ◌∷◌, ◌++◌, refl, sym, ap, ◌∙◌, arith, Some, None}
-use Rattle.std.specs.Prelude.{◌==◌, is_none, if◌then◌else◌}
+use Rattle.std.specs.Prelude.{◌==◌, is_none, if◌then◌else◌, IsSome}
 use Rattle.std.specs.List.{find}
-use Rattle.std.proofs.lemmas.Bool.{true≢false}
+use Rattle.std.proofs.lemmas.Bool.{false≢true, true≢false}
 use Rattle.ipc_call.specs.declared.calls.Call.{Call}
 use Rattle.ipc_call.specs.declared.calls.Call.TheVariants.{MsgSnd, MsgRcv}
 use Rattle.ipc_call.specs.declared.replies.Waiting.{Waiting}
@@ -14,7 +14,7 @@ use Rattle.ipc_model.specs.Cancelled.{waits_on}
 use Rattle.ipc_parked.specs.Parked.{AreApart}
 use Rattle.ipc_namespace.proofs.Own.{found-at, others}
 use Rattle.ipc_namespace.proofs.Parked.{turned}
-use Rattle.ipc_namespace.specs.Namespace.{is_send_to, kept_by, sends_on}
+use Rattle.ipc_namespace.specs.Namespace.{is_send_to, kept_by, sends_on, sent_to}
 
 pub sends_on-push : (id : ℕ) (ws : List Waiting) (w : Waiting) → sends_on id (ws ++ w ∷ []) ≡ sends_on id ws + one_if (is_send_to id w.call)
 sends_on-push id [] w = let e : one_if (is_send_to id w.call) + 0 ≡ 0 + one_if (is_send_to id w.call) = omega arith in e
@@ -60,6 +60,11 @@ module _ (id client : ℕ) (ws : List Waiting) (w : Waiting) (apart : AreApart w
 
   pub room-left : (old new : ℕ) → new + one_if (is_send_to id w.call) ≡ old → old ≡ sends_on id ws → new ≡ sends_on id (others client ws)
   room-left old new less is = let some = sends_on-others id client ws w apart found same in omega (arith, some, less, is)
+
+-- a call that sends is a msgsnd
+pub only_send : (call : Call) → IsSome (sent_to call) → ((id : ℕ) (mtype : ℤ) (text : List ℕ) (flags : ℕ) → call ≡ MsgSnd id mtype text flags → ⊥) → ⊥
+only_send (MsgSnd id mtype text flags) some sends = sends id mtype text flags refl
+only_send call some sends = absurd (false≢true some)
 
 -- a call that may wait sends or receives
 pub no_other : (call : Call) → can_wait call ≡ true → ((id : ℕ) (mtype : ℤ) (text : List ℕ) (flags : ℕ) → call ≡ MsgSnd id mtype text flags → ⊥) → ((id size : ℕ) (msgtyp : ℤ) (flags : ℕ) → call ≡ MsgRcv id size msgtyp flags → ⊥) → ⊥

@@ -1,20 +1,20 @@
 -- The waiting calls that can proceed: the code ends the first until none is left, the definition counts its turns down.
-use Rattle.std.proofs.Common.{◌≡◌, ℕ, zero, suc, ◌+◌, Bool, true, false, List, [], ◌∷◌, ◌++◌, length, refl, sym, ap, subst, ◌∙◌, arith, ⊎_elim, Option, Some, None, Err}
-use Rattle.std.specs.Prelude.{IfSome}
+use Rattle.std.proofs.Common.{◌≡◌, ℕ, zero, suc, ◌+◌, ◌<◌, ◌≤◌, Bool, true, false, List, [], ◌∷◌, ◌++◌, length, refl, sym, ap, ◌∙◌, arith, ⊎_elim, Option, Some, None, Err}
+use Rattle.std.specs.Prelude.{IfSome, drop, option_map, slice_get}
 use Rattle.std.specs.List.{find, AllByRecursion}
 use Rattle.std.proofs.lemmas.Bool.{cases_Bool, true≢false}
-use Rattle.std.proofs.lemmas.Option.{none-some}
+use Rattle.std.proofs.lemmas.List.{at_drop_all}
+use Rattle.std.proofs.lemmas.Option.{none-some, same_Some}
 use Rattle.ipc_call.specs.declared.calls.Call.{Call}
 use Rattle.ipc_call.specs.declared.replies.Ended.{Ended}
 use Rattle.ipc_call.specs.declared.replies.Waiting.{Waiting}
-use Rattle.ipc_model.specs.State.{State, is_waiting, waiting_of}
+use Rattle.ipc_model.specs.State.{State}
 use Rattle.ipc_model.specs.Decide.{decide}
 use Rattle.ipc_model.specs.Decision.{Decision, Grant, Refuse, Wait, proceeds}
 use Rattle.ipc_namespace.specs.Namespace.{is_grant}
 use Rattle.ipc_model.specs.Step.{Moved, and_then, at_time, cancelled_by, end_waiting, enter, entered, first_ready, is_ready, moved_by, settle, settle_from, settled, state_by, stepped}
 use Rattle.ipc_model.specs.Decision.{Outcome, outcome_of}
 use Rattle.ipc_model.proofs.Calls.{clock_alike, parked_alike}
-use Rattle.ipc_namespace.proofs.Own.{own-there}
 
 settle-none : (n : ℕ) (s : State) → first_ready s ≡ None → settle n s ≡ record { state = s; ended = [] }
 settle-none zero s none = refl
@@ -28,14 +28,40 @@ settle-some : (n k : ℕ) (s new : State) (w : Waiting) (e : Ended) → n ≡ su
 settle-some n k s new w e is first ends = ap (λ j. settle j s) is ∙ ap (λ o. settle_from (settle k) s o) first ∙ ap (λ (m : Moved). and_then m (settle k)) ends
 
 -- one turn: the first leaves, and the rest follows
-pub settled-turn : (s new : State) (client : ℕ) (e : Ended) → first_ready s ≡ waiting_of s client → is_waiting s client ≡ true
-    → IfSome (waiting_of s client) (λ w. end_waiting s w ≡ record { state = new; ended = e ∷ [] }) → length new.parked + 1 ≡ length s.parked
+pub settled-turn : (s new : State) (e : Ended) → option_map (end_waiting s) (first_ready s) ≡ Some (record { state = new; ended = e ∷ [] }) → length new.parked + 1 ≡ length s.parked
     → settled s ≡ record { state = (settled new).state; ended = e ∷ (settled new).ended }
-settled-turn s new client e first waits ends shorter =
-    let own = own-there client s.parked waits in
-    let turn = subst (λ o. IfSome o (λ w. end_waiting s w ≡ record { state = new; ended = e ∷ [] })) own.1 ends in
-    let count : length s.parked ≡ suc (length new.parked) = omega (arith, shorter) in
-    settle-some (length s.parked) (length new.parked) s new own.0 e count (first ∙ own.1) turn
+settled-turn s new e ends shorter = by (first_ready s) refl ends
+  where
+    by : (o : Option Waiting) → first_ready s ≡ o → option_map (end_waiting s) o ≡ Some (record { state = new; ended = e ∷ [] }) → settled s ≡ record { state = (settled new).state; ended = e ∷ (settled new).ended }
+    by None first ends = absurd (none-some {A = Moved} (record { state = new; ended = e ∷ [] }) ends)
+    by (Some w) first ends =
+        let count : length s.parked ≡ suc (length new.parked) = omega (arith, shorter) in
+        settle-some (length s.parked) (length new.parked) s new w e count first (same_Some (end_waiting s w) (record { state = new; ended = e ∷ [] }) ends)
+
+-- the last: none is left that is ready
+pub settled-over : (s : State) → option_map (end_waiting s) (first_ready s) ≡ None → settled s ≡ record { state = s; ended = [] }
+settled-over s ends = by (first_ready s) refl ends
+  where
+    by : (o : Option Waiting) → first_ready s ≡ o → option_map (end_waiting s) o ≡ None → settled s ≡ record { state = s; ended = [] }
+    by None first ends = settled-none s first
+    by (Some w) first ends = absurd (none-some (end_waiting s w) (sym ends))
+
+-- the calls are tried in turn: what is found from one on
+module _ (test : Waiting → Bool) where
+  pub find-next : (ws : List Waiting) (i : ℕ) → IfSome (slice_get ws i) (λ w. false ≡ test w) → find test (drop i ws) ≡ find test (drop (suc i) ws)
+  find-next [] zero fails = refl
+  find-next [] (suc i) fails = refl
+  find-next (w ∷ ws) zero fails = let no = sym fails in rw no refl
+  find-next (w ∷ ws) (suc i) fails = find-next ws i fails
+
+  pub find-over : (ws : List Waiting) (i : ℕ) → length ws ≤ i → find test (drop i ws) ≡ None
+  find-over ws i past = at_drop_all (find test) ws i past
+
+  pub find-here : {M : Type 0} (f : Waiting → M) (m : M) (ws : List Waiting) (i : ℕ) → i < length ws → IfSome (slice_get ws i) (λ w. true ≡ test w) → IfSome (slice_get ws i) (λ w. f w ≡ m)
+      → option_map f (find test (drop i ws)) ≡ Some m
+  find-here f m [] i within passes is = absurd (omega (arith, within))
+  find-here f m (w ∷ ws) zero within passes is = let yes = sym passes in rw yes (ap (λ x. Some x) is)
+  find-here f m (w ∷ ws) (suc i) within passes is = find-here f m ws i (omega (arith, within)) passes is
 
 found-last : (test : Waiting → Bool) (ws : List Waiting) (w : Waiting) → find test ws ≡ None → test w ≡ false → find test (ws ++ w ∷ []) ≡ None
 found-last test [] w none fails = rw fails refl

@@ -16,19 +16,24 @@ ghost use Rattle.std.specs.Prelude.{
   IsTrue,
   IfOk,
   IfSome,
+  IfNone,
+  IsSome,
   OnOk,
   OnErr,
   Err,
-  option_and_then,
+  is_some,
+  option_map,
+  slice_get,
   Some,
   None,
 };
 ghost use Rattle.ipc_call.specs.Limits.{are_in_range};
 ghost use Rattle.ipc_model.specs.State.{opening, is_waiting as waits, waiting_of};
-ghost use Rattle.ipc_model.specs.Decision.{outcome_of, proceeds as does_proceed};
-ghost use Rattle.ipc_model.specs.Decide.{can_wait, decide as decision_on};
+ghost use Rattle.ipc_model.specs.Decision.{outcome_of};
+ghost use Rattle.ipc_model.specs.Decide.{decide as decision_on};
 ghost use Rattle.ipc_model.specs.Waits.{AreNotReady};
 ghost use Rattle.ipc_model.specs.Step.{
+  Moved as MovedTo,
   is_ready,
   first_ready as first_that_is_ready,
   end_waiting,
@@ -38,11 +43,12 @@ ghost use Rattle.ipc_model.specs.Step.{
   step,
   without,
 };
-ghost use Rattle.ipc_namespace.specs.Namespace.{is_grant};
+ghost use Rattle.ipc_namespace.specs.Namespace.{is_grant, sent_to as call_sent_to};
+ghost use Rattle.queue_calls.specs.Calls.{without_answer};
 
 use crate::callers::caller_of;
 use crate::reserving::{release_in, reserve_in, sent_to};
-use ipc_call::{Call, Ended, Limits, Memory, Outcome, Rule, Settings};
+use ipc_call::{Answer, Call, Ended, Limits, Memory, Outcome, Rule, Settings};
 use ipc_creds::Creds;
 use ipc_parked::Parked;
 use queue_calls::Queues;
@@ -270,59 +276,35 @@ impl Namespace {
         ensures ended { ended.new.items ≡ ended.old.items ++ (settled self.old).ended }
         ensures few { vec_len ended.new ≤ vec_len ended.old + length self.old.parked }
     {
-        while let Some(client) = self.first_ready() {
-            let completion = self.end_ready(client);
+        while let Some(completion) = self.complete_first() {
             ended.push(completion).unwrap();
         }
     }
 
-    /// The client of the earliest waiting call that would no longer wait.
-    fn first_ready(&self) -> Option<u32>
-        ensures first { first_that_is_ready self.now ≡ option_and_then (waiting_of self.now) result }
-        ensures waits { IfSome result (λ client. waits self.now client ≡ true) }
+    /// Ends the earliest waiting call that can proceed. None where none can.
+    fn complete_first(&mut self) -> Option<Ended>
+        ensures first { option_map (end_waiting self.old) (first_that_is_ready self.old) ≡ option_map {U = MovedTo} (λ ended. record { state = self.new; ended = ended ∷ [] }) result }
+        ensures none { IfNone result (self.new ≡ self.old) }
+        ensures shorter { IfSome result (λ _. length self.new.parked + 1 ≡ length self.old.parked) }
     {
-        self.parked
-            .earliest(|client, call| self.proceeds(client, call))
-    }
-
-    /// Whether a call that waits would not wait if it came now.
-    #[tactic(auto, unfolding(ipc_model::specs::Decide::part_plan))]
-    fn proceeds(&self, client: u32, call: &Call) -> bool
-        requires known { client < length self.now.clients }
-        requires waits { can_wait call.now ≡ true }
-        ensures { result ≡ does_proceed (decision_on self.now client call.now) }
-    {
-        let who = caller_of(&self.clients, client, self.clock);
-        match call {
-            Call::MsgSnd {
-                id,
-                mtype,
-                text,
-                flags,
-            } => self
-                .queues
-                .decide_send(&self.limits, &who, *id, *mtype, text.len(), *flags)
-                .is_some(),
-            Call::MsgRcv {
-                id,
-                msgtyp,
-                flags,
-                ..
-            } => self.queues.may_receive(&who, *id, *msgtyp, *flags),
-            _ => unreachable!(),
+        for index in 0..self.parked.len() {
+            if let Some(completion) = self.try_waiting(index) {
+                return Some(completion);
+            }
         }
+        None
     }
 
-    /// Ends the client's waiting call, which can proceed: it leaves the list, and is refused or carried out. It takes no
-    /// memory: what it needs was made when it began to wait.
+    /// Tries the waiting call at an index in order of arrival. Where it no longer waits it leaves the list, refused or
+    /// carried out. It takes no memory: what it needs was made when it began to wait.
     #[tactic(auto, unfolding(ipc_model::specs::Decide::part_plan))]
-    fn end_ready(&mut self, client: u32) -> Ended
-        requires waits { waits self.old client ≡ true }
-        requires ready { IfSome (waiting_of self.old client) (λ w. is_ready self.old w ≡ true) }
-        ensures ended { IfSome (waiting_of self.old client) (λ w. end_waiting self.old w ≡ record { state = self.new; ended = result ∷ [] }) }
-        ensures shorter { length self.new.parked + 1 ≡ length self.old.parked }
+    fn try_waiting(&mut self, index: usize) -> Option<Ended>
+        ensures ready { IfSome (slice_get self.old.parked index) (λ w. is_some result ≡ is_ready self.old w) }
+        ensures ended { IfSome (slice_get self.old.parked index) (λ w. IfSome result (λ ended. end_waiting self.old w ≡ record { state = self.new; ended = ended ∷ [] })) }
+        ensures none { IfNone result (self.new ≡ self.old) }
+        ensures shorter { IfSome result (λ _. length self.new.parked + 1 ≡ length self.old.parked) }
     {
-        let call = self.parked.finish(client);
+        let (client, call) = self.parked.nth(index)?;
         let who = caller_of(&self.clients, client, self.clock);
         let outcome = match call {
             Call::MsgSnd {
@@ -330,20 +312,51 @@ impl Namespace {
                 mtype,
                 text,
                 flags,
-            } => self
-                .queues
-                .send_reserved(&self.limits, &who, id, mtype, text, flags),
+            } => {
+                let decided = self
+                    .queues
+                    .decide_send(&self.limits, &who, *id, *mtype, text.len(), *flags)?;
+                return Some(self.end_send(client, decided));
+            }
             Call::MsgRcv {
                 id,
                 size,
                 msgtyp,
                 flags,
-            } => self.queues.msgrcv(&who, id, size, msgtyp, flags),
+            } => self.queues.msgrcv(&who, *id, *size, *msgtyp, *flags)?,
             _ => unreachable!(),
         };
-        match outcome {
-            Some(outcome) => Ended { client, outcome },
-            None => unreachable!(),
+        self.parked.finish(client);
+        Some(Ended { client, outcome })
+    }
+
+    /// Ends the client's waiting msgsnd as was decided on it: it leaves the list, and its message goes to the queue in
+    /// the place that was reserved for it, or the place is given back.
+    #[tactic(auto, unfolding(ipc_model::specs::Decide::part_plan))]
+    fn end_send(&mut self, client: u32, decided: Result<(), Rule>) -> Ended
+        requires waits { waits self.old client ≡ true }
+        requires sends { IfSome (waiting_of self.old client) (λ w. IsSome (call_sent_to w.call)) }
+        requires decided { IfSome (waiting_of self.old client) (λ w. without_answer (decision_on (without self.old client) client w.call) ≡ Some decided) }
+        ensures ended { IfSome (waiting_of self.old client) (λ w. end_waiting self.old w ≡ record { state = self.new; ended = result ∷ [] }) }
+        ensures shorter { length self.new.parked + 1 ≡ length self.old.parked }
+    {
+        if let Err(rule) = decided {
+            return self.end_refused(client, rule);
+        }
+        let Call::MsgSnd {
+            id,
+            mtype,
+            text,
+            ..
+        } = self.parked.finish(client)
+        else {
+            unreachable!()
+        };
+        let who = caller_of(&self.clients, client, self.clock);
+        self.queues.msgsnd(&who, id, mtype, text);
+        Ended {
+            client,
+            outcome: Ok(Answer::Done),
         }
     }
 

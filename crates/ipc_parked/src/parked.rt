@@ -1,13 +1,15 @@
 // The calls that wait.
 
-ghost use Rattle.std.specs.Prelude.{◌≡◌, true, false, [], ◌∷◌, ◌++◌, length, OnOk, OnErr, Some};
+ghost use Rattle.std.specs.Prelude.{◌≡◌, true, false, [], ◌∷◌, ◌++◌, length, slice_get, OnOk, OnErr, Some};
 ghost use Rattle.std.specs.Option.{option_map};
+ghost use Rattle.ipc_call.specs.declared.replies.Waiting.{Waiting as WaitingCall};
 ghost use Rattle.ipc_model.specs.Cancelled.{waits_on as call_waits_on};
 ghost use Rattle.ipc_model.specs.Decide.{waits_at as call_waits_at};
 ghost use Rattle.ipc_parked.specs.Parked.{
   is_there,
   arrival_of,
   others,
+  waiting,
   on_object as those_on_object,
   MayAsk,
   Answers,
@@ -97,6 +99,14 @@ impl Parked {
         ensures { option_map (λ a. a.call) (arrival_of client self.now) ≡ Some result.now }
     {
         &self.arrivals[&client].call
+    }
+
+    /// The call at an index in order of arrival, from 0, with its client. Takes no memory.
+    pub fn nth(&self, index: usize) -> Option<(u32, &Call)>
+        ensures { option_map {U = WaitingCall} (λ found. record { client = found.0; call = found.1.now }) result ≡ slice_get (waiting self.now) index }
+    {
+        let (client, arrival) = self.arrivals.get_index(index)?;
+        Some((*client, &arrival.call))
     }
 
     /// The client of the earliest waiting call that passes the test, which is asked of those that wait and no

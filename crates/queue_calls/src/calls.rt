@@ -11,14 +11,13 @@ ghost use Rattle.std.specs.Prelude.{
   None,
   Ok,
   IfOk,
-  IfSome,
   OnOk,
   OnErr,
   length,
 };
 ghost use Rattle.ipc_call.specs.declared.limits.Limits.{Limits as LimitsOf};
 ghost use Rattle.ipc_model.specs.State.{Queue as Contents, Queues as Table};
-ghost use Rattle.ipc_model.specs.Decision.{left_by, outcome_of, proceeds};
+ghost use Rattle.ipc_model.specs.Decision.{left_by, outcome_of};
 ghost use Rattle.ipc_model.specs.Gets.{get_found, get_queue, new_object, new_queue as new_contents, object_of_key};
 ghost use Rattle.ipc_model.specs.Messages.{receive_message};
 ghost use Rattle.ipc_model.specs.Plan.{decision};
@@ -30,10 +29,7 @@ ghost use Rattle.queue_calls.specs.Held.{one_if, queue_of, queues_of, room};
 use crate::caller::Caller;
 use crate::queue::Queue;
 use crate::queues::Queues;
-use ipc_call::{
-    Answer, Items, Limits, Memory, Outcome, Rule, creates, is_exclusive, may_wait,
-    takes_other_types,
-};
+use ipc_call::{Answer, Items, Limits, Memory, Outcome, Rule, creates, is_exclusive, may_wait};
 use ipc_objects::Object;
 use ipc_perm::{Mode, Perm, TO_ALTER, TO_READ, Verdict, asked_of_flags, decide};
 use std::alloc::Global;
@@ -106,23 +102,6 @@ impl Queues {
         self.take_chosen(who, id, size, msgtyp, flags)
     }
 
-    /// Whether msgrcv would not wait (msgop(2)).
-    pub fn may_receive(&self, who: &Caller, id: u32, msgtyp: i64, flags: u32) -> bool
-        ensures { (size : ℕ) → result ≡ proceeds (decision who.entry.now.creds (receive_message (queues_of self.now) who.entry.now id size msgtyp flags)) }
-    {
-        let Some(queue) = self.get(id) else {
-            return true;
-        };
-        if let Verdict::Denied(_) = decide(who.creds(), &queue.perm, TO_READ) {
-            return true;
-        }
-        !may_wait(flags)
-            || queue
-                .contents
-                .chosen_len(msgtyp, takes_other_types(flags))
-                .is_some()
-    }
-
     /// Whether a message with a text of `len` bytes may be sent (msgsnd of msgop(2)), or by which rule it is refused.
     /// None where the call waits.
     pub fn decide_send(
@@ -154,35 +133,6 @@ impl Queues {
             None
         } else {
             Some(Err(Rule::QueueFull))
-        }
-    }
-
-    /// msgsnd with a place that was reserved: sends the message in it, or is refused and gives it back. None where the
-    /// call waits. It takes no memory.
-    pub fn send_reserved(
-        &mut self,
-        limits: &Limits,
-        who: &Caller,
-        id: u32,
-        mtype: i64,
-        text: Items<u8>,
-        flags: u32,
-    ) -> Option<Outcome>
-        requires { 0 < room self.old id }
-        ensures outcome { result ≡ outcome_of (sending limits.now (queues_of self.old) who.entry.now id flags (record { mtype = mtype; text = text })) }
-        ensures queues { queues_of self.new ≡ left_by (queues_of self.old) (sending limits.now (queues_of self.old) who.entry.now id flags (record { mtype = mtype; text = text })) }
-        ensures room { IfSome result (λ _. (j : ℕ) → room self.new j + one_if (j == id) ≡ room self.old j) }
-    {
-        match self.decide_send(limits, who, id, mtype, text.len(), flags) {
-            None => None,
-            Some(Err(rule)) => {
-                self.release(id);
-                Some(Err(rule))
-            }
-            Some(Ok(())) => {
-                self.msgsnd(who, id, mtype, text);
-                Some(Ok(Answer::Done))
-            }
         }
     }
 

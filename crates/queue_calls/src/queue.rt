@@ -11,18 +11,15 @@ ghost use Rattle.std.specs.Prelude.{
   Some,
   OnOk,
   OnErr,
-  IfSome,
-  IsSome,
   [],
   length,
   take,
-  option_map,
   unwrap_or,
 };
 ghost use Rattle.ipc_call.specs.Flags.{has_flag, msg_except};
 ghost use Rattle.ipc_model.specs.Controls.{status_of_queue};
 ghost use Rattle.ipc_model.specs.Decision.{left_by, outcome_of};
-ghost use Rattle.ipc_model.specs.Messages.{chosen, take_chosen, with_message, without_message};
+ghost use Rattle.ipc_model.specs.Messages.{chosen, take_chosen, with_message};
 ghost use Rattle.ipc_model.specs.Plan.{decision};
 ghost use Rattle.ipc_model.specs.State.{Queues as Table};
 ghost use Rattle.ipc_objects.specs.Objects.{contents_of, with_contents};
@@ -98,15 +95,6 @@ impl Queue {
         ensures { result ≡ not (is_full self.now.queue.messages self.now.queue.qbytes len) }
     {
         self.messages.fits(len)
-    }
-
-    /// The length in bytes of the text that a receiver takes, None where no message fits (msgrcv of msgop(2)).
-    /// `except` is MSG_EXCEPT.
-    pub(super) fn chosen_len(&self, msgtyp: i64, except: bool) -> Option<usize>
-        ensures { result ≡ option_map (λ found. length found.1.text) (chosen self.now.queue.messages msgtyp except) }
-    {
-        let (_, len) = self.messages.choose(msgtyp, except)?;
-        Some(len)
     }
 
     /// Reserves a place for a message to come. Memory comes where a growth was refused, and then nothing has

@@ -16,7 +16,6 @@ ghost use Rattle.std.specs.Prelude.{
   IfSome,
   IsSome,
   length,
-  take,
   option_copied,
   option_map,
 };
@@ -26,7 +25,7 @@ ghost use Rattle.ipc_model.specs.Controls.{perm_in, with_settings};
 ghost use Rattle.ipc_model.specs.Gets.{object_of_key};
 ghost use Rattle.ipc_model.specs.Decision.{left_by, outcome_of};
 ghost use Rattle.ipc_model.specs.Plan.{decision};
-ghost use Rattle.ipc_model.specs.Messages.{chosen, queue_at, take_chosen, with_message, without_message};
+ghost use Rattle.ipc_model.specs.Messages.{chosen, queue_at, take_chosen, with_message};
 ghost use Rattle.ipc_objects.specs.Objects.{changed, has_key, with_contents};
 ghost use Rattle.ipc_objects.specs.Seen.{seen};
 ghost use Rattle.msg_queue.specs.Messages.{is_full};

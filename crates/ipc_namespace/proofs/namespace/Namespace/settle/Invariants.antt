@@ -3,13 +3,13 @@ use Rattle.ipc_model.specs.Step.{settled}
 use Rattle.ipc_namespace.proofs.namespace.Namespace.settle.Given as goal
 
 -- what is left to end completes what has ended
-abbrev pub invariant-loop-client : goal.invariant-loop-client
-invariant-loop-client l = record {
+abbrev pub invariant-loop-completion : goal.invariant-loop-completion
+invariant-loop-completion l = record {
   state : (settled l.initial.self).state ≡ (settled l.self).state;
   ended : l.initial.ended.items ++ (settled l.initial.self).ended ≡ l.ended.items ++ (settled l.self).ended;
   room : vec_len l.ended + length l.self.parked ≤ vec_capacity l.ended;
   few : vec_len l.ended + length l.self.parked ≤ vec_len l.initial.ended + length l.initial.self.parked;
 }
 
-abbrev pub decreases-loop-client : goal.decreases-loop-client
-decreases-loop-client l = length l.self.parked
+abbrev pub decreases-loop-completion : goal.decreases-loop-completion
+decreases-loop-completion l = length l.self.parked
