@@ -1,0 +1,4 @@
+pub mod Goes
+pub mod Left
+pub mod Running
+pub mod Steps
