@@ -9,4 +9,4 @@ mod message_calls;
 mod namespace;
 mod reserving;
 
-pub use namespace::{Namespace, Served};
+pub use namespace::Namespace;

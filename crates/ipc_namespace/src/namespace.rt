@@ -52,16 +52,7 @@ use ipc_call::{Answer, Call, Ended, Limits, Memory, Outcome, Rule, Settings};
 use ipc_creds::Creds;
 use ipc_parked::Parked;
 use queue_calls::Queues;
-use std::alloc::Global;
 use std::marker::Model;
-
-/// What an event did: the outcome of its own call, None where that waits, and the waiting calls that
-/// ended, in their order.
-#[derive(Debug, Drop)]
-pub struct Served {
-    pub own: Option<Outcome>,
-    pub ended: Vec<Ended>,
-}
 
 /// The state of a namespace: its objects, its clients, its clock in seconds, and the calls that wait
 /// in order of arrival.
@@ -138,11 +129,6 @@ impl Namespace {
         self.clock
     }
 
-    /// The allocator of the namespace.
-    pub(super) fn alloc(&self) -> Global {
-        *self.clients.allocator()
-    }
-
     /// How many waiting calls an event may end: those that wait, at most 64.
     pub fn most_ended(&self) -> usize
         ensures count { result ≡ length self.now.parked }
@@ -153,22 +139,33 @@ impl Namespace {
 
     /// One event: the clock moves on, the call is refused, granted or made to wait, and the waiting
     /// calls that can proceed end. The client has no call that waits, and no waiting call is ready: so only a
-    /// call that is granted ends others. The error comes only where an allocation fails, and then nothing has
-    /// changed.
-    pub fn serve(&mut self, client: u32, place: u64, now: u64, call: Call) -> Result<Served, Memory>
+    /// call that is granted ends others. The answer is the outcome of the event's own call, None where that waits;
+    /// the waiting calls that ended stand in their order in `ended`, an empty list with room for each that waits. The
+    /// error comes only where an allocation fails, and then nothing has changed.
+    pub fn serve(
+        &mut self,
+        client: u32,
+        place: u64,
+        now: u64,
+        call: Call,
+        ended: &mut Vec<Ended>,
+    ) -> Result<Option<Outcome>, Memory>
         requires known { client < length self.old.clients }
         requires free { waits self.old client ≡ false }
         requires quiet { AreNotReady self.old }
-        ensures ok { IfOk result (λ served. step self.old (record { client = client; now = now; call = call })
-            ≡ record { state = self.new; own = served.own; ended = served.ended.items }) }
-        ensures few { IfOk result (λ served. vec_len served.ended ≤ length self.old.parked) }
+        requires empty { ended.old.items ≡ [] }
+        requires space { length self.old.parked ≤ vec_capacity ended.old }
+        ensures ok { IfOk result (λ own. step self.old (record { client = client; now = now; call = call })
+            ≡ record { state = self.new; own = own; ended = ended.new.items }) }
+        ensures few { OnOk result (vec_len ended.new ≤ length self.old.parked) }
         ensures limits { self.new.limits ≡ self.old.limits }
         ensures clients { self.new.clients ≡ self.old.clients }
         ensures err { OnErr result (self.new ≡ self.old) }
+        ensures none { OnErr result (ended.new.items ≡ []) }
     {
         let clock = self.clock;
         self.clock = clock.max(now);
-        let served = self.enter(client, place, call);
+        let served = self.enter(client, place, call, ended);
         if served.is_err() {
             self.clock = clock;
         }
@@ -177,20 +174,28 @@ impl Namespace {
 
     /// Refuses or grants the call, or makes it wait. Where it is granted, the waiting calls end that it cancels,
     /// and then those that can proceed.
-    fn enter(&mut self, client: u32, place: u64, call: Call) -> Result<Served, Memory>
+    fn enter(
+        &mut self,
+        client: u32,
+        place: u64,
+        call: Call,
+        ended: &mut Vec<Ended>,
+    ) -> Result<Option<Outcome>, Memory>
         requires known { client < length self.old.clients }
         requires free { waits self.old client ≡ false }
         requires quiet { first_that_is_ready self.old ≡ None }
-        ensures ok { IfOk result (λ served. enters self.old client call ≡ record { state = self.new; own = served.own; ended = served.ended.items }) }
-        ensures few { IfOk result (λ served. vec_len served.ended ≤ length self.old.parked) }
+        requires empty { ended.old.items ≡ [] }
+        requires space { length self.old.parked ≤ vec_capacity ended.old }
+        ensures ok { IfOk result (λ own. enters self.old client call ≡ record { state = self.new; own = own; ended = ended.new.items }) }
+        ensures few { OnOk result (vec_len ended.new ≤ length self.old.parked) }
         ensures err { OnErr result (self.new ≡ self.old) }
+        ensures none { OnErr result (ended.new.items ≡ []) }
     {
-        let mut ended = Vec::with_capacity(self.alloc(), self.most_ended())?;
-        let own = self.act(client, place, call, &mut ended)?;
+        let own = self.act(client, place, call, ended)?;
         if is_granted(&own) {
-            self.settle(&mut ended);
+            self.settle(ended);
         }
-        Ok(Served { own, ended })
+        Ok(own)
     }
 
     /// Refuses or grants the call, or makes it wait. Where it is granted, the waiting calls end that it cancels; there is
@@ -213,6 +218,7 @@ impl Namespace {
         ensures few { IfOk result (λ own. IfSome own (λ _. vec_len ended.new + length self.new.parked ≡ length self.old.parked)) }
         ensures space { OnOk result (vec_capacity ended.old ≤ vec_capacity ended.new) }
         ensures err { OnErr result (self.new ≡ self.old) }
+        ensures none { OnErr result (ended.new.items ≡ []) }
     {
         match call {
             Call::MsgGet { key, flags } => Ok(Some(self.msgget(client, key, flags)?)),

@@ -30,8 +30,8 @@ use crate::journal::Journal;
 use ipc_call::{Call, Ended, JournalRow, Limits, Memory, Outcome, Reply, Rule};
 use ipc_creds::Creds;
 use ipc_namespace::Namespace;
-use std::alloc::Global;
 use std::marker::Model;
+use std::mem;
 
 /// What an event tells the clients.
 #[derive(Debug, Drop)]
@@ -51,10 +51,13 @@ pub struct Space {
     namespace: Namespace,
     journal: Journal,
     events: u64,
-    alloc: Global,
+    /// The waiting calls that an event ends, and the replies to them. Between events both are empty, and keep their room.
+    ended: Vec<Ended>,
+    others: Vec<(u32, Reply)>,
 }
 
 impl Model for Space {
+    ghost use Rattle.std.specs.Prelude.{◌≡◌, []};
     ghost use Rattle.ipc_model.specs.History.{History};
     ghost use Rattle.ipc_space.specs.Spaces.{history_in, IsOfHistory};
 
@@ -62,7 +65,7 @@ impl Model for Space {
 
     ghost view = { λ s. history_in s.namespace s.journal.rows };
 
-    ghost invariant = { λ s. IsOfHistory s.namespace s.journal.rows s.events };
+    ghost invariant = { λ s. IsOfHistory s.namespace s.journal.rows s.events × (s.ended.items ≡ []) × (s.others.items ≡ []) };
 }
 
 impl Space {
@@ -80,7 +83,8 @@ impl Space {
             namespace: Namespace::new(limits, clients),
             journal: Journal::new(alloc),
             events: 0,
-            alloc,
+            ended: Vec::new(alloc),
+            others: Vec::new(alloc),
         })
     }
 
@@ -107,10 +111,13 @@ impl Space {
     {
         let most = self.namespace.most_ended();
         self.journal.reserve(most + 2)?;
-        let mut others = Vec::with_capacity(self.alloc, most)?;
+        self.ended.reserve(most)?;
+        self.others.reserve(most)?;
         let copied = call.copy()?;
         let place = self.events + 1;
-        let served = self.namespace.serve(client, place, now, call)?;
+        let outcome = self
+            .namespace
+            .serve(client, place, now, call, &mut self.ended)?;
         self.events = place;
         let row = JournalRow::Called {
             client,
@@ -118,8 +125,9 @@ impl Space {
             call: copied,
         };
         self.journal.enter(row);
-        let own = tell_own(&mut self.journal, client, place, served.own);
-        tell_others(&mut self.journal, &mut others, place, served.ended);
+        let own = tell_own(&mut self.journal, client, place, outcome);
+        tell_others(&mut self.journal, &mut self.others, place, &mut self.ended);
+        let others = hand_out(&mut self.others);
         Ok(Effects { place, own, others })
     }
 
@@ -177,18 +185,24 @@ fn tell_own(journal: &mut Journal, client: u32, place: u64, own: Option<Outcome>
     })
 }
 
-/// Enters how the waiting calls ended that an event ended, and adds the replies to them to an empty list
+/// Enters how the waiting calls ended that an event ended, and moves the replies to them to an empty list
 /// that has room.
-fn tell_others(journal: &mut Journal, others: &mut Vec<(u32, Reply)>, place: u64, ended: Vec<Ended>)
-    requires few { vec_len ended ≤ 65 }
-    requires journal_room { vec_len ended ≤ journal.old.room }
+fn tell_others(
+    journal: &mut Journal,
+    others: &mut Vec<(u32, Reply)>,
+    place: u64,
+    ended: &mut Vec<Ended>,
+)
+    requires few { vec_len ended.old ≤ 65 }
+    requires journal_room { vec_len ended.old ≤ journal.old.room }
     requires empty { others.old.items ≡ [] }
-    requires room { vec_len ended ≤ vec_capacity others.old }
-    ensures rows { journal.new.rows ≡ journal.old.rows ++ map answered_row (told_ended place 1 ended.items) }
-    ensures others { others.new.items ≡ other_replies place ended.items }
+    requires room { vec_len ended.old ≤ vec_capacity others.old }
+    ensures rows { journal.new.rows ≡ journal.old.rows ++ map answered_row (told_ended place 1 ended.old.items) }
+    ensures others { others.new.items ≡ other_replies place ended.old.items }
+    ensures told { ended.new.items ≡ [] }
 {
     let mut turn = 1;
-    for completion in ended {
+    for completion in ended.drain(..) {
         let Ended { client, outcome } = completion;
         journal.enter(answered(client, place, turn, &outcome));
         let reply = Reply::Entered {
@@ -198,6 +212,19 @@ fn tell_others(journal: &mut Journal, others: &mut Vec<(u32, Reply)>, place: u64
         };
         others.push((client, reply)).unwrap();
         turn += 1;
+    }
+}
+
+/// Takes what is in a list out, and leaves it empty. Where it is empty, it keeps its room.
+fn hand_out(list: &mut Vec<(u32, Reply)>) -> Vec<(u32, Reply)>
+    ensures handed { result.items ≡ list.old.items }
+    ensures left { list.new.items ≡ [] }
+{
+    let empty = Vec::new(*list.allocator());
+    if list.is_empty() {
+        empty
+    } else {
+        mem::replace(list, empty)
     }
 }
 

@@ -18,21 +18,21 @@ event : (c : After-tell_others) → Event
 event c = record { client = c.args.client; now = c.args.now; call = c.args.call }
 
 stepped : (c : After-tell_others) → Stepped
-stepped c = record { state = c.serve.new.self; own = c.in_ok-served.served.own; ended = c.in_ok-served.served.ended.items }
+stepped c = record { state = c.serve.new.self; own = c.in_ok-outcome.outcome; ended = c.serve.new.ended.items }
 
 legal : (c : After-tell_others) → IsLegalAt c.self.inside.namespace (event c)
 unfolding event
 legal c = record {
   known = subst (λ (h : History). c.args.client < length h.clients) (sym c.self.view_is) c.requires.known;
-  free = ap (λ (s : State). is_waiting s c.args.client) (c.self.invariant.state ∙ ap run c.self.view_is) ∙ c.requires.free;
+  free = ap (λ (s : State). is_waiting s c.args.client) (c.self.invariant.0.state ∙ ap run c.self.view_is) ∙ c.requires.free;
 }
 
 rows : (c : After-tell_others) → c.tell_others.new.journal.rows ≡ c.self.inside.journal.rows ++ rows_by (c.self.inside.events + 1) (event c) (stepped c)
 unfolding event stepped
 rows c =
     let place = c.self.inside.events + 1 in
-    let own = map answered_row (told_own c.args.client place c.in_ok-served.served.own) in
-    let others = map answered_row (told_ended place 1 c.in_ok-served.served.ended.items) in
+    let own = map answered_row (told_own c.args.client place c.in_ok-outcome.outcome) in
+    let others = map answered_row (told_ended place 1 c.serve.new.ended.items) in
     let called : c.enter.new.self.rows ≡ c.self.inside.journal.rows ++ Called c.args.client c.args.now c.args.call ∷ [] =
     c.enter.ensures.rows ∙ (λ i. c.reserve.ensures.rows i ++ Called c.args.client c.args.now (c.in_ok-copied.ensures i) ∷ []) in
     c.tell_others.ensures.rows ∙ ap (λ r. r ++ others) (c.tell_own-own.ensures.rows ∙ ap (λ r. r ++ own) called)
@@ -43,23 +43,25 @@ longer : (c : After-tell_others) → IsOfHistory c.serve.new.self c.tell_others.
 unfolding event stepped
 longer c =
     let s = c.self.inside in
-    let steps = c.in_ok-served.ensures.ok in
-    IsOfHistory-push s.namespace s.journal.rows c.tell_others.new.journal.rows s.events (event c) (stepped c) c.self.invariant (legal c) steps c.serve.ensures.limits c.serve.ensures.clients (rows c)
+    let steps = c.in_ok-outcome.ensures.ok in
+    IsOfHistory-push s.namespace s.journal.rows c.tell_others.new.journal.rows s.events (event c) (stepped c) c.self.invariant.0 (legal c) steps c.serve.ensures.limits c.serve.ensures.clients (rows c)
 
 pub overflow_add-place : goal.overflow_add-place
 overflow_add-place c =
     let s = c.self.inside in
-    omega (arith, c.self.invariant.counted, length-events_in s.journal.rows, c.in_ok-reserve.ensures.fits, ap length c.reserve.ensures.rows)
+    omega (arith, c.self.invariant.0.counted, length-events_in s.journal.rows, c.in_ok-reserve.ensures.fits, ap length c.reserve.ensures.rows)
 
 pub serve-requires-clause-quiet : goal.serve-requires-clause-quiet
-serve-requires-clause-quiet c = subst AreNotReady (sym c.self.invariant.state) (run_not_ready (history_in c.self.inside.namespace c.self.inside.journal.rows))
+serve-requires-clause-quiet c = subst AreNotReady (sym c.self.invariant.0.state) (run_not_ready (history_in c.self.inside.namespace c.self.inside.journal.rows))
 
 pub invariant_of-self-2 : goal.invariant_of-self-2
-invariant_of-self-2 c = (longer c).0
+invariant_of-self-2 c = ((longer (goal.at.invariant_of-self-2 c).After-tell_others).0, c.tell_others.ensures.told, c.hand_out-others.ensures.left)
 
 pub returns-clause-event : goal.returns-clause-event
 unfolding event
-returns-clause-event c = (longer c).1 ∙ ap (λ (h : History). with_event h (event c)) c.self.view_is
+returns-clause-event c =
+    let b = (goal.at.returns-clause-event c).After-tell_others in
+    (longer b).1 ∙ ap (λ (h : History). with_event h (event b)) c.self.view_is
 
 pub returns-clause-not_ready : goal.returns-clause-not_ready
 returns-clause-not_ready c = run_not_ready (history_in c.serve.new.self c.tell_others.new.journal.rows)
@@ -68,10 +70,10 @@ pub returns-clause-permitted : goal.returns-clause-permitted
 returns-clause-permitted c = run_permitted (history_in c.serve.new.self c.tell_others.new.journal.rows)
 
 pub returns-clause-once : goal.returns-clause-once
-returns-clause-once c = waits_once (history_in c.serve.new.self c.tell_others.new.journal.rows) (longer c).0.legal
+returns-clause-once c = waits_once (history_in c.serve.new.self c.tell_others.new.journal.rows) (longer (goal.at.returns-clause-once c).After-tell_others).0.legal
 
 pub returns-clause-legal : goal.returns-clause-legal
-returns-clause-legal c = (longer c).0.legal
+returns-clause-legal c = (longer (goal.at.returns-clause-legal c).After-tell_others).0.legal
 
 no_own : (place : ℕ) (o : Option Outcome) → own_reply place o ≡ None → o ≡ None
 no_own place None is = refl
@@ -80,10 +82,11 @@ no_own place (Some o) is = absurd (none-some _ (sym is))
 pub returns-clause-alone : goal.returns-clause-alone
 unfolding event stepped
 returns-clause-alone c = λ none.
+    let b = (goal.at.returns-clause-alone c).After-tell_others in
     let s = c.self.inside in
     let place = s.events + 1 in
     let h = history_in s.namespace s.journal.rows in
-    let is : next_step h (event c) ≡ stepped c = ap (λ (x : State). step x (event c)) (sym c.self.invariant.state) ∙ c.in_ok-served.ensures.ok in
-    let own : c.in_ok-served.served.own ≡ None = no_own place c.in_ok-served.served.own (sym c.tell_own-own.ensures.reply ∙ none) in
-    let ended = waits_alone h (event c) (ap (λ (m : Stepped). m.own) is ∙ own) in
-    c.tell_others.ensures.others ∙ ap (λ es. other_replies place es) (ap (λ (m : Stepped). m.ended) (sym is) ∙ ended)
+    let is : next_step h (event b) ≡ stepped b = ap (λ (x : State). step x (event b)) (sym c.self.invariant.0.state) ∙ c.in_ok-outcome.ensures.ok in
+    let own : c.in_ok-outcome.outcome ≡ None = no_own place c.in_ok-outcome.outcome (sym c.tell_own-own.ensures.reply ∙ none) in
+    let ended = waits_alone h (event b) (ap (λ (m : Stepped). m.own) is ∙ own) in
+    c.hand_out-others.ensures.handed ∙ c.tell_others.ensures.others ∙ ap (λ es. other_replies place es) (ap (λ (m : Stepped). m.ended) (sym is) ∙ ended)
