@@ -1,0 +1,5 @@
+pub mod Changes
+pub mod Entries
+pub mod Keys
+pub mod Places
+pub mod Values

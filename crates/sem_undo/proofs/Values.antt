@@ -1,0 +1,80 @@
+-- What the value of an `Undo` becomes where one of its rows changes.
+use Rattle.std.proofs.Common.{◌≡◌, ◌∙◌, ℕ, zero, suc, ◌<◌, ◌≤◌, ap, arith, refl, subst, sym, Bool, true, false, List, [], length, replicate, set, ⊎_elim}
+use Rattle.std.specs.Prelude.{ℤ, pos, Option, Some, None, unwrap_or, if◌then◌else◌}
+use Rattle.std.specs.Ordering.{int_eq}
+use Rattle.std.specs.FinMap as finite
+use Rattle.std.specs.Global.{Vec}
+use Rattle.std.proofs.lemmas.Bool.{cases_Bool, cases_lt}
+use Rattle.std.proofs.lemmas.Int.{ints}
+use Rattle.std.proofs.lemmas.List.{length-replicate}
+use Rattle.sem_undo.specs.Entries.{Entries, Place, Undone, adj_of, nothing_undone, place_cmp, row_len, with_adj}
+use Rattle.sem_undo.specs.Rows.{AreOfClients, adj_in, entries_in, is_here, lens_in, row_in, undone_in}
+use Rattle.sem_undo.proofs.Changes.{entries_are, entries_written, lens_are, lens_place, lens_written, size}
+use Rattle.sem_undo.proofs.Entries.{entry_of, get_entries, get_lens, key, place}
+use Rattle.sem_undo.proofs.Keys.{get_put_place, get_put_place_apart}
+
+pub undone_none : undone_in [] ≡ nothing_undone
+unfolding entries_in lens_in
+undone_none = refl
+
+is_zero : (z : ℤ) → int_eq z (pos 0) ≡ true → pos 0 ≡ z
+is_zero z h = grind (arith, ints)
+
+entry_adj : (z : ℤ) → unwrap_or (entry_of z) (pos 0) ≡ z
+entry_adj z =
+    ⊎_elim
+    (λ (h : int_eq z (pos 0) ≡ true). ap (λ (b : Bool). unwrap_or (if b then None else Some z) (pos 0)) h ∙ is_zero z h)
+    (λ (h : int_eq z (pos 0) ≡ false). ap (λ (b : Bool). unwrap_or (if b then None else Some z) (pos 0)) h)
+    (cases_Bool (int_eq z (pos 0)))
+
+zeros : (n k : ℕ) → adj_in (replicate n (pos 0)) k ≡ pos 0
+zeros zero k = refl
+zeros (suc n) zero = refl
+zeros (suc n) (suc k) = zeros n k
+
+made : (o : Option (List ℤ)) (n k : ℕ) → adj_in (unwrap_or o (replicate n (pos 0))) k ≡ adj_in (unwrap_or o []) k
+made None n k = zeros n k
+made (Some r) n k = refl
+
+made_len : (o : Option (List ℤ)) (n : ℕ) → length (unwrap_or o (replicate n (pos 0))) ≡ unwrap_or (size o) n
+made_len None n = length-replicate n (pos 0)
+made_len (Some r) n = refl
+
+pub few_of : (es : List (Place × Vec ℤ)) (client at num : ℕ) → AreOfClients es → num < length (unwrap_or (row_in es client at) []) → client < 64
+few_of es client at num of h =
+    ⊎_elim
+    (λ (l : client < 64). l)
+    (λ (g : 64 ≤ client). absurd (let e : length (unwrap_or (row_in es client at) []) ≡ 0 = ap (λ (o : Option (List ℤ)). length (unwrap_or o [])) (of client at g) in omega arith))
+    (cases_lt client 64)
+
+module _ (es : List (Place × Vec ℤ)) (u : Undone) (e : undone_in es ≡ u) (client at : ℕ) where
+  pub row_lens : length (unwrap_or (row_in es client at) []) ≡ row_len u client at
+  row_lens =
+      sym (lens_place (row_in es client at))
+      ∙ ap (λ (o : Option ℕ). unwrap_or o 0) (sym (get_lens es client at))
+      ∙ ap (λ (v : Undone). row_len v client at) e
+
+  pub row_adjs : (num : ℕ) → adj_in (unwrap_or (row_in es client at) []) num ≡ adj_of u.entries client at num
+  row_adjs num =
+      sym (entry_adj (adj_in (unwrap_or (row_in es client at) []) num))
+      ∙ ap (λ (o : Option ℤ). unwrap_or o (pos 0)) (sym (get_entries es client at num))
+      ∙ ap (λ (v : Undone). adj_of v.entries client at num) e
+
+  pub put_value : (es' : List (Place × Vec ℤ)) (num : ℕ) (adj : ℤ) → num < length (unwrap_or (row_in es client at) []) → ((c s : ℕ) → row_in es' c s ≡ (if is_here client at c s then Some (set (unwrap_or (row_in es client at) []) num adj) else row_in es c s)) → undone_in es' ≡ record u { entries = with_adj u.entries (key client at num) adj }
+  put_value es' num adj within is =
+      λ i. record {
+        entries = (entries_written es es' client at num adj within is ∙ ap (λ (v : Undone). with_adj v.entries (key client at num) adj) e) i;
+        rows = (lens_written es es' client at num adj within is ∙ ap (λ (v : Undone). v.rows) e) i;
+      }
+
+  pub ensured_value : (es' : List (Place × Vec ℤ)) (nsems : ℕ) → ((c s : ℕ) → row_in es' c s ≡ (if is_here client at c s then Some (unwrap_or (row_in es client at) (replicate nsems (pos 0))) else row_in es c s)) → undone_in es' ≡ record u { rows = finite.insert u.rows (place client at) (unwrap_or (finite.get u.rows (place client at)) nsems) }
+  ensured_value es' nsems is =
+      let same : entries_in es' ≡ entries_in es = entries_are es es' client at (Some (unwrap_or (row_in es client at) (replicate nsems (pos 0)))) is (entries_in es) (λ n. ap entry_of (made (row_in es client at) nsems n) ∙ sym (get_entries es client at n)) (λ q ne. refl) in
+      let lens : lens_in es' ≡ finite.insert (lens_in es) (place client at) (unwrap_or (finite.get (lens_in es) (place client at)) nsems) =
+      lens_are es es' client at (Some (unwrap_or (row_in es client at) (replicate nsems (pos 0)))) is (finite.insert (lens_in es) (place client at) (unwrap_or (finite.get (lens_in es) (place client at)) nsems))
+      (ap (λ (n : ℕ). Some n) (made_len (row_in es client at) nsems ∙ ap (λ (o : Option ℕ). unwrap_or o nsems) (sym (get_lens es client at))) ∙ sym (get_put_place (lens_in es) (place client at) (unwrap_or (finite.get (lens_in es) (place client at)) nsems)))
+      (λ p ne. sym (get_put_place_apart (lens_in es) (place client at) (unwrap_or (finite.get (lens_in es) (place client at)) nsems) p (λ q. ne (ap (λ (x : Place). x.client) q) (ap (λ (x : Place). x.set) q)))) in
+      λ i. record {
+        entries = (same ∙ ap (λ (v : Undone). v.entries) e) i;
+        rows = (lens ∙ ap (λ (v : Undone). finite.insert v.rows (place client at) (unwrap_or (finite.get v.rows (place client at)) nsems)) e) i;
+      }

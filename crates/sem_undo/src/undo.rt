@@ -1,0 +1,107 @@
+//! The semadj of all clients.
+
+ghost use Rattle.std.specs.Prelude.{◌≡◌, ◌<◌, ◌≤ℤ◌, ◌-ℤ◌, neg_ℤ, ℕ, length, pos, unwrap_or, OnErr, OnOk};
+ghost use Rattle.std.specs.FinMap as finite;
+ghost use Rattle.sem_undo.specs.Entries.{adj_of, nothing_undone, row_len, with_adj};
+ghost use Rattle.sem_undo.specs.Rows.{adj_in};
+
+use crate::rows::Rows;
+use ipc_call::Memory;
+use std::alloc::Global;
+use std::marker::Model;
+
+/// What exit undoes (semop(2), SEM_UNDO). Contracts see the entries by client, set and semaphore number, each a semadj
+/// that isn't 0; and for which clients at which sets there is a row, memory for the entries to come, with its length.
+/// A client is a number below 64.
+#[derive(Drop)]
+pub struct Undo {
+    rows: Rows,
+}
+
+impl Model for Undo {
+    ghost use Rattle.sem_undo.specs.Entries.{Undone};
+    ghost use Rattle.sem_undo.specs.Codes.{undone_code};
+
+    ghost Value = { Undone };
+
+    ghost coded = { undone_code };
+
+    ghost use Rattle.sem_undo.specs.Rows.{AreOfClients, undone_in};
+
+    ghost view = { λ u. undone_in u.rows.rows.entries };
+
+    ghost invariant = { λ u. AreOfClients u.rows.rows.entries };
+}
+
+impl Undo {
+    /// No entry and no row.
+    pub fn new(alloc: Global) -> Undo
+        ensures { result ≡ nothing_undone }
+    {
+        Undo {
+            rows: Rows::new(alloc),
+        }
+    }
+
+    /// The semadj of a client at a set by semaphore number; those past the end of the row are 0.
+    pub fn row(&self, client: u32, set: u32) -> &[i32]
+        ensures len { length result.now ≡ row_len self.now client set }
+        ensures adjs { (num : ℕ) → adj_in result.now num ≡ adj_of self.now.entries client set num }
+    {
+        self.rows.row(client, set)
+    }
+
+    /// The semadj of a client at a semaphore.
+    pub fn adj(&self, client: u32, set: u32, num: u16) -> i32
+        ensures { result ≡ adj_of self.now.entries client set num }
+    {
+        match self.row(client, set).get(usize::from(num)) {
+            None => 0,
+            Some(adj) => *adj,
+        }
+    }
+
+    /// Makes a row for the semaphores of a set, where the client has none there. The error comes only where an
+    /// allocation fails.
+    pub fn ensure_row(
+        &mut self,
+        alloc: Global,
+        client: u32,
+        set: u32,
+        nsems: usize,
+    ) -> Result<(), Memory>
+        requires { client < 64 }
+        ensures ok { OnOk result (self.new ≡ record self.old {
+          rows = finite.insert self.old.rows (record { client = client; set = set })
+              (unwrap_or (finite.get self.old.rows (record { client = client; set = set })) nsems);
+        }) }
+        ensures err { OnErr result (self.new ≡ self.old) }
+    {
+        self.rows.ensure(alloc, client, set, nsems)?;
+        Ok(())
+    }
+
+    /// Lowers a semadj by what an operation added (semop(2), SEM_UNDO). The client has a row for it.
+    pub fn lower(&mut self, client: u32, set: u32, num: u16, by: i16)
+        requires row { num < row_len self.old client set }
+        requires least { neg_ℤ (pos 32768) ≤ℤ (adj_of self.old.entries client set num -ℤ by) }
+        requires most { (adj_of self.old.entries client set num -ℤ by) ≤ℤ pos 32767 }
+        ensures { self.new ≡ record self.old {
+          entries = with_adj self.old.entries (record { client = client; set = set; num = num })
+              (adj_of self.old.entries client set num -ℤ by);
+        } }
+    {
+        let adj = self.adj(client, set, num) - i32::from(by);
+        self.put(client, set, usize::from(num), adj);
+    }
+
+    /// Sets a semadj for which the client has a row.
+    fn put(&mut self, client: u32, set: u32, num: usize, adj: i32)
+        requires { num < row_len self.old client set }
+        ensures { self.new ≡ record self.old {
+          entries = with_adj self.old.entries (record { client = client; set = set; num = num }) adj;
+        } }
+    {
+        self.rows.write(client, set, num, adj);
+    }
+}
