@@ -39,9 +39,17 @@ moved-state s client call Wait none = refl
 moved-state s client call (Grant answer new) none = uncancelled new call (none new)
 
 -- it moves the state as its decision says
-pub moved-alone : (s : State) (client : ℕ) (call same : Call) → call ≡ same → ((new : State) (w : Waiting) → cancelled new same w ≡ None)
+moved-alone : (s : State) (client : ℕ) (call same : Call) → call ≡ same → ((new : State) (w : Waiting) → cancelled new same w ≡ None)
     → moved_by s client call ≡ record { state = state_by s client same (decide s client same); ended = [] }
 moved-alone s client call same is none = ap (λ (c : Call). moved_by s client c) is ∙ moved-state s client same (decide s client same) none
+
+-- so what its function leaves is where it moves, and no other call ends; a number of the call may have been read back
+module _ (s : State) (client : ℕ) (call same : Call) (is : call ≡ same) (none : (new : State) (w : Waiting) → cancelled new same w ≡ None) where
+  pub moved-to : (new : State) (read : Call) → read ≡ same → new ≡ state_by s client read (decide s client read) → new ≡ (moved_by s client call).state
+  moved-to new read back left = left ∙ ap (λ (c : Call). state_by s client c (decide s client c)) back ∙ sym (ap (λ (m : Moved). m.state) (moved-alone s client call same is none))
+
+  pub none-ended : [] ≡ (moved_by s client call).ended
+  none-ended = sym (ap (λ (m : Moved). m.ended) (moved-alone s client call same is none))
 
 -- which is what is left, where it doesn't wait
 pub state-left : (s : State) (client : ℕ) (call : Call) (d : Decision State) (outcome : Outcome) → outcome_of d ≡ Some outcome → state_by s client call d ≡ left_by s d
