@@ -135,30 +135,3 @@ impl Call {
         })
     }
 }
-
-#[cfg(test)]
-mod tests {
-    use super::*;
-    use crate::flags::{IPC_CREAT, IPC_NOWAIT};
-    use std::test::Fail;
-
-    #[test]
-    fn a_copy_equals_its_source(rt: HostRuntime) -> Result<(), Fail> {
-        let call = Call::MsgGet {
-            key: 5,
-            flags: IPC_CREAT | 0o600,
-        };
-        assert!(rt; call.copy()? == call);
-        let call = Call::MsgSnd {
-            id: 7,
-            mtype: -3,
-            text: Items::new(vec![in rt.alloc(); 104u8, 0]?),
-            flags: IPC_NOWAIT,
-        };
-        assert!(rt; call.copy()? == call);
-        let (kind, id) = (Kind::Segment, 32768);
-        let call = Call::IpcRmid { kind, id };
-        assert!(rt; call.copy()? == call);
-        Ok(())
-    }
-}

@@ -81,23 +81,3 @@ impl<T: PartialEq> PartialEq for Items<T> {
         self.items == other.items
     }
 }
-
-#[cfg(test)]
-mod tests {
-    use super::*;
-    use std::test::Fail;
-
-    #[test]
-    fn a_copy_equals_its_source_alone(rt: HostRuntime) -> Result<(), Fail> {
-        let text = Items::new(vec![in rt.alloc(); 104u8, 0, 255]?);
-        let copied = text.copy()?;
-        assert!(rt; copied == text);
-        assert_eq!(rt; copied.len(), 3);
-        assert_eq!(rt; copied.as_slice(), [104, 0, 255].as_slice());
-        assert!(rt; copied != Items::new(vec![in rt.alloc(); 104u8, 0]?));
-        assert!(rt; copied != Items::new(vec![in rt.alloc(); 104u8, 0, 254]?));
-        let bytes = copied.into_vec();
-        assert_eq!(rt; bytes.as_slice(), [104, 0, 255].as_slice());
-        Ok(())
-    }
-}

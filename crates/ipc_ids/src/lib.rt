@@ -5,8 +5,6 @@
 
 mod keys;
 mod slots;
-#[cfg(test)]
-mod tests;
 
 pub use keys::Keys;
 pub use slots::{InsertFault, Slots, id_of};

@@ -5,8 +5,6 @@
 
 mod object;
 mod objects;
-#[cfg(test)]
-mod tests;
 
 pub use object::{Object, Owner};
 pub use objects::Objects;

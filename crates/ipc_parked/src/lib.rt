@@ -3,7 +3,5 @@
 #![tactic(auto)]
 
 mod parked;
-#[cfg(test)]
-mod tests;
 
 pub use parked::{Arrival, Parked, waits_at, waits_on};

@@ -14,6 +14,3 @@ pub use ipc_call::{
 };
 pub use ipc_creds::{Caps, Creds, GROUPS_MAX};
 pub use spaces::{Effects, Space};
-
-#[cfg(test)]
-mod tests;

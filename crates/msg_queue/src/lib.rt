@@ -5,8 +5,6 @@
 
 mod messages;
 mod queues;
-#[cfg(test)]
-mod tests;
 
 pub use messages::Message;
 pub use queues::Queue;

@@ -6,8 +6,6 @@ mod caller;
 mod calls;
 mod queue;
 mod queues;
-#[cfg(test)]
-mod tests;
 
 pub use caller::Caller;
 pub use queue::{Queue, status};

@@ -1,7 +1,7 @@
 //! Worked queues, with the messages that msgop(2) has a receiver take.
 
-use super::Queue;
 use ipc_call::Items;
+use msg_queue::Queue;
 use std::alloc::Global;
 use std::process::Abort;
 use std::test::Fail;

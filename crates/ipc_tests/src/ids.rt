@@ -4,7 +4,7 @@ ghost use Rattle.std.specs.Prelude.{◌≡◌, IfSome, IfNone};
 ghost use Rattle.std.specs.FinMap as map;
 ghost use Rattle.ipc_ids.specs.Table.{with_object};
 
-use super::{InsertFault, Keys, Slots, id_of};
+use ipc_ids::{InsertFault, Keys, Slots, id_of};
 use std::alloc::Global;
 use std::process::Abort;
 use std::test::Fail;

@@ -1,9 +1,9 @@
 // Worked calls, with the replies that they must have.
 
-use super::{Effects, JournalRow, Space};
 use bitflags::Flags;
-use ipc_call::{Answer, Call, Kind, Limits, Outcome, Reply, Rule};
+use ipc_call::{Answer, Call, JournalRow, Kind, Limits, Outcome, Reply, Rule};
 use ipc_creds::{Caps, Creds};
+use ipc_space::{Effects, Space};
 use std::process::Abort;
 use std::test::Fail;
 

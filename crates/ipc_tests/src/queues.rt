@@ -1,0 +1,112 @@
+//! Worked queues, whose calls come out as msgget(2) and msgop(2) say.
+
+use bitflags::Flags;
+use ipc_call::{
+    Answer, IPC_CREAT, IPC_EXCL, IPC_NOWAIT, Items, Limits, MSG_EXCEPT, MSG_NOERROR, Outcome, Rule,
+    Status,
+};
+use ipc_creds::{Caps, Creds};
+use queue_calls::{Caller, Queues, status};
+use std::process::Abort;
+use std::test::Fail;
+
+/// What msgget answers, for which there is memory.
+fn get(queues: &mut Queues, who: &Caller, key: u32, flags: u32) -> Option<Outcome> {
+    queues.msgget(&Limits::default(), who, key, flags).ok()
+}
+
+/// The owner and the key of a queue.
+fn owner_and_key(queues: &Queues, id: u32) -> Option<(u32, u32)> {
+    let perm = queues.perm(id)?;
+    Some((perm.uid, perm.key))
+}
+
+/// Sends a message where that is granted.
+fn send(
+    queues: &mut Queues,
+    who: &Caller,
+    id: u32,
+    mtype: i64,
+    text: Items<u8>,
+) -> Result<(), Fail> {
+    if queues.get(id).is_none() {
+        return Err(Fail::from("no queue"));
+    }
+    queues.reserve(id)?;
+    match queues.decide_send(&Limits::default(), who, id, mtype, text.len(), 0) {
+        Some(Ok(())) => queues.msgsnd(who, id, mtype, text),
+        Some(Err(_)) => return Err(Fail::from("refused")),
+        None => return Err(Fail::from("waits")),
+    }
+    Ok(())
+}
+
+/// Receives a message of which one byte is wanted, of another type than this.
+fn receive_but(queues: &mut Queues, who: &Caller, msgtyp: i64) -> Result<(i64, Items<u8>), Fail> {
+    let flags = MSG_EXCEPT | MSG_NOERROR;
+    match queues.msgrcv(who, 0, 1, msgtyp, flags) {
+        Some(Ok(Answer::Message { mtype, text })) => Ok((mtype, text)),
+        _ => Err(Fail::from("no message")),
+    }
+}
+
+#[test]
+fn a_key_has_one_queue(rt: HostRuntime) {
+    let alloc = rt.alloc();
+    let alice = Creds::new(100, 10, Vec::new(alloc), Caps::empty());
+    let bob = Creds::new(200, 20, Vec::new(alloc), Caps::empty());
+    let alice = Caller::new(0, &alice, 5);
+    let bob = Caller::new(1, &bob, 6);
+    let mut queues = Queues::new(alloc, 2, 0);
+    assert!(rt; get(&mut queues, &alice, 9, 0) == Some(Err(Rule::NoKey)));
+    assert!(rt; get(&mut queues, &alice, 9, IPC_CREAT | 0o600) == Some(Ok(Answer::Id(0))));
+    assert!(rt; get(&mut queues, &alice, 9, 0o600) == Some(Ok(Answer::Id(0))));
+    assert!(rt; get(&mut queues, &bob, 9, 0o400) == Some(Err(Rule::OtherBits)));
+    assert!(rt; get(&mut queues, &bob, 9, IPC_CREAT | IPC_EXCL) == Some(Err(Rule::KeyExists)));
+    assert!(rt; get(&mut queues, &bob, 0, 0o600) == Some(Ok(Answer::Id(1))));
+    assert!(rt; get(&mut queues, &bob, 0, 0o600) == Some(Err(Rule::NoSlot)));
+    assert_eq!(rt; owner_and_key(&queues, 0), Some((100, 9)));
+    assert_eq!(rt; owner_and_key(&queues, 1), Some((200, 0)));
+}
+
+/// Sends that are refused.
+fn check_refusals(rt: &impl Abort, queues: &Queues, who: &Caller) {
+    let limits = Limits::default();
+    assert!(rt; queues.decide_send(&limits, who, 1, 3, 2, 0) == Some(Err(Rule::BadId)));
+    assert!(rt; queues.decide_send(&limits, who, 0, 0, 2, 0) == Some(Err(Rule::BadType)));
+    assert!(rt; queues.decide_send(&limits, who, 0, 3, 8193, 0) == Some(Err(Rule::TextTooLong)));
+}
+
+/// Receives that leave the only message, two bytes of type 3, in its queue.
+fn check_receives(rt: &impl Abort, queues: &mut Queues, who: &Caller) {
+    assert!(rt; queues.msgrcv(who, 0, 9, 4, IPC_NOWAIT) == Some(Err(Rule::NoMessage)));
+    assert!(rt; queues.msgrcv(who, 0, 9, 4, 0).is_none());
+    assert!(rt; queues.msgrcv(who, 0, 1, 0, 0) == Some(Err(Rule::MessageTooLong)));
+}
+
+/// The queue had one message, which client 4 sent and received at time 7.
+fn check_status(rt: &impl Abort, queues: &Queues) {
+    let Some(queue) = queues.get(0) else {
+        panic!(rt; "no queue");
+    };
+    let Status::Queue(told) = status(queue);
+    assert!(rt; told.qnum == 0 && told.lspid == 5 && told.lrpid == 5);
+    assert!(rt; told.stime == 7 && told.rtime == 7 && told.ctime == 7);
+}
+
+#[test]
+fn a_message_goes_through_a_queue(rt: HostRuntime) -> Result<(), Fail> {
+    let alloc = rt.alloc();
+    let creds = Creds::new(100, 10, Vec::new(alloc), Caps::empty());
+    let who = Caller::new(4, &creds, 7);
+    let mut queues = Queues::new(alloc, 1, 0);
+    assert!(rt; get(&mut queues, &who, 9, IPC_CREAT | 0o600) == Some(Ok(Answer::Id(0))));
+    check_refusals(&rt, &queues, &who);
+    let text = Items::new(vec![in alloc; 104u8, 105]?);
+    send(&mut queues, &who, 0, 3, text)?;
+    check_receives(&rt, &mut queues, &who);
+    let (mtype, text) = receive_but(&mut queues, &who, 4)?;
+    assert!(rt; mtype == 3 && text.as_slice() == [104].as_slice());
+    check_status(&rt, &queues);
+    Ok(())
+}
