@@ -17,4 +17,6 @@ mod parked;
 #[cfg(test)]
 mod queues;
 #[cfg(test)]
+mod semaphores;
+#[cfg(test)]
 mod spaces;

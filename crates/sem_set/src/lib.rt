@@ -4,8 +4,6 @@
 #![tactic(auto)]
 
 mod sets;
-#[cfg(test)]
-mod tests;
 mod trials;
 
 pub use sets::{SemSet, Semaphore};

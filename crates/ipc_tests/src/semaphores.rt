@@ -1,7 +1,7 @@
 //! Worked sets, with what semop(2) has their operations tell and leave.
 
-use super::{SemSet, Trial};
 use ipc_call::{IPC_NOWAIT, Memory, Rule, SEM_UNDO, SemOper};
+use sem_set::{SemSet, Trial};
 use std::alloc::Global;
 use std::test::Fail;
 
