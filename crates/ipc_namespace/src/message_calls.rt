@@ -95,8 +95,7 @@ impl Namespace {
             }
             Some(Err(rule)) => Ok(Some(Err(rule))),
             Some(Ok(())) => {
-                self.queues.reserve(id)?;
-                self.queues.msgsnd(&who, id, mtype, text);
+                self.queues.msgsnd(&who, id, mtype, text)?;
                 Ok(Some(Ok(Answer::Done)))
             }
         }

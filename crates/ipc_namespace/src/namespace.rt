@@ -359,7 +359,7 @@ impl Namespace {
             unreachable!()
         };
         let who = caller_of(&self.clients, client, self.clock);
-        self.queues.msgsnd(&who, id, mtype, text);
+        self.queues.send_reserved(&who, id, mtype, text);
         Ended {
             client,
             outcome: Ok(Answer::Done),

@@ -34,7 +34,7 @@ fn send(
     }
     queues.reserve(id)?;
     match queues.decide_send(&Limits::default(), who, id, mtype, text.len(), 0) {
-        Some(Ok(())) => queues.msgsnd(who, id, mtype, text),
+        Some(Ok(())) => queues.send_reserved(who, id, mtype, text),
         Some(Err(_)) => return Err(Fail::from("refused")),
         None => return Err(Fail::from("waits")),
     }

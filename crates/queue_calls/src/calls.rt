@@ -136,15 +136,33 @@ impl Queues {
         }
     }
 
+    /// Sends a message, which was decided (msgsnd of msgop(2)). Memory comes where a growth was refused, and then nothing
+    /// has changed.
+    pub fn msgsnd(
+        &mut self,
+        who: &Caller,
+        id: u32,
+        mtype: i64,
+        text: Items<u8>,
+    ) -> Result<(), Memory>
+        requires { MaySend (queues_of self.old) who.now id (record { mtype = mtype; text = text }) }
+        ensures queues { OnOk result ((limits : LimitsOf) (flags : ℕ) → without_answer (sending limits (queues_of self.old) who.entry.now id flags (record { mtype = mtype; text = text })) ≡ Some (Ok tt)
+            → queues_of self.new ≡ left_by (queues_of self.old) (sending limits (queues_of self.old) who.entry.now id flags (record { mtype = mtype; text = text }))) }
+        ensures room { (j : ℕ) → room self.new j ≡ room self.old j }
+        ensures err { OnErr result (self.new ≡ self.old) }
+    {
+        self.send(id, who.client(), mtype, text, who.now())
+    }
+
     /// Sends a message, which was decided, in a place that was reserved (msgsnd of msgop(2)). It takes no memory.
-    pub fn msgsnd(&mut self, who: &Caller, id: u32, mtype: i64, text: Items<u8>)
+    pub fn send_reserved(&mut self, who: &Caller, id: u32, mtype: i64, text: Items<u8>)
         requires granted { MaySend (queues_of self.old) who.now id (record { mtype = mtype; text = text }) }
         requires reserved { 0 < room self.old id }
         ensures queues { (limits : LimitsOf) (flags : ℕ) → without_answer (sending limits (queues_of self.old) who.entry.now id flags (record { mtype = mtype; text = text })) ≡ Some (Ok tt)
             → queues_of self.new ≡ left_by (queues_of self.old) (sending limits (queues_of self.old) who.entry.now id flags (record { mtype = mtype; text = text })) }
         ensures room { (j : ℕ) → room self.new j + one_if (j == id) ≡ room self.old j }
     {
-        self.send(id, who.client(), mtype, text, who.now());
+        self.put(id, who.client(), mtype, text, who.now());
     }
 }
 

@@ -165,9 +165,34 @@ impl Queues {
         queue.release();
     }
 
+    /// Adds a message at the end of the queue of an identifier, which there is, from this client at a time in seconds
+    /// (msgsnd of msgop(2)). Memory comes where a growth was refused, and then nothing has changed.
+    pub(super) fn send(
+        &mut self,
+        id: u32,
+        client: u32,
+        mtype: i64,
+        text: Items<u8>,
+        now: u64,
+    ) -> Result<(), Memory>
+        requires client { client < 64 }
+        requires there { IsSome (queue_at (queues_of self.old) id) }
+        requires room { IfSome (queue_at (queues_of self.old) id) (λ queue. is_full queue.contents.messages queue.contents.qbytes (length text) ≡ false) }
+        ensures queues { OnOk result (IfSome (queue_at (queues_of self.old) id) (λ queue. queues_of self.new ≡ with_contents (queues_of self.old) id (with_message client now (record { mtype = mtype; text = text }) queue.contents))) }
+        ensures room { (j : ℕ) → room self.new j ≡ room self.old j }
+        ensures err { OnErr result (self.new ≡ self.old) }
+    {
+        let Some(queue) = self.objects.contents_mut(id) else {
+            unreachable!()
+        };
+        queue.reserve()?;
+        queue.send(client, mtype, text, now);
+        Ok(())
+    }
+
     /// Adds a message at the end of the queue of an identifier, in a place that was reserved, from this client at a
     /// time in seconds (msgsnd of msgop(2)). It takes no memory.
-    pub(super) fn send(&mut self, id: u32, client: u32, mtype: i64, text: Items<u8>, now: u64)
+    pub(super) fn put(&mut self, id: u32, client: u32, mtype: i64, text: Items<u8>, now: u64)
         requires client { client < 64 }
         requires reserved { 0 < room self.old id }
         requires room { IfSome (queue_at (queues_of self.old) id) (λ queue. is_full queue.contents.messages queue.contents.qbytes (length text) ≡ false) }

@@ -85,22 +85,22 @@ granted c =
     ∙ IfSome-at (waiting_of c.args.self.now client) _ (λ (w : Waiting). without_answer (decide t client w.call) ≡ Some c.args.decided) (own b) c.requires.decided
     ∙ ap (λ (r : Result ⊤ Rule). Some r) c.in_default.is
 
-pub msgsnd-requires-clause-granted : goal.msgsnd-requires-clause-granted
-msgsnd-requires-clause-granted c =
-    let b = (goal.at.msgsnd-requires-clause-granted c).After-caller_of-who in
+pub send_reserved-requires-clause-granted : goal.send_reserved-requires-clause-granted
+send_reserved-requires-clause-granted c =
+    let b = (goal.at.send_reserved-requires-clause-granted c).After-caller_of-who in
     (c.self.inside.limits, c.in-MsgSnd.flags, granted b)
 
-pub msgsnd-requires-clause-reserved : goal.msgsnd-requires-clause-reserved
-msgsnd-requires-clause-reserved c =
+pub send_reserved-requires-clause-reserved : goal.send_reserved-requires-clause-reserved
+send_reserved-requires-clause-reserved c =
     let id = c.in-MsgSnd.id in
-    (left (goal.at.msgsnd-requires-clause-reserved c).After-finish).roomy id _ (ap (λ (call : Call). is_send_to id call) c.in-MsgSnd.is ∙ eq-eqb id id refl) (c.self.invariant.2 id)
+    (left (goal.at.send_reserved-requires-clause-reserved c).After-finish).roomy id _ (ap (λ (call : Call). is_send_to id call) c.in-MsgSnd.is ∙ eq-eqb id id refl) (c.self.invariant.2 id)
 
 pub invariant_of-self : goal.invariant_of-self
 invariant_of-self c =
     let b = (goal.at.invariant_of-self c).After-finish in (
       c.self.invariant.0,
       (left b).parked,
-      λ id. (left b).room id _ _ (ap (λ (call : Call). room c.msgsnd.new.self id + one_if (is_send_to id call)) c.in-MsgSnd.is ∙ c.msgsnd.ensures.room id) (c.self.invariant.2 id),
+      λ id. (left b).room id _ _ (ap (λ (call : Call). room c.send_reserved.new.self id + one_if (is_send_to id call)) c.in-MsgSnd.is ∙ c.send_reserved.ensures.room id) (c.self.invariant.2 id),
     )
 
 pub returns-clause-ended : goal.returns-clause-ended
@@ -112,11 +112,11 @@ returns-clause-ended c =
     let s = c.args.self.now in
     let client = c.args.client in
     let t = without s client in
-    let new = put_in (rest k) (queues_of c.msgsnd.new.self) in
+    let new = put_in (rest k) (queues_of c.send_reserved.new.self) in
     subst (λ o. IfSome o (λ (w : Waiting). end_waiting s w ≡ record { state = new; ended = record { client = client; outcome = Ok Done } ∷ [] })) (sym (own b))
     (ends-so s new client c.finish.result (Ok Done)
     (ap (λ (call : Call). outcome_of (decide t client call)) n.is ∙ sym (send-outcome (rest k) t client _ (rest_is k) (called k) n.id n.flags _ n.mtype n.text (back k)) ∙ sent-done c.self.inside.limits (queues_of c.self.inside.queues) c.caller_of-who.result n.id n.flags (record { mtype = to_z w64 (of_z w64 n.mtype); text = n.text }) (granted k))
-    (send-left (rest k) t client _ (rest_is k) (called k) n.id n.flags _ n.mtype n.text (back k) (queues_of c.msgsnd.new.self) (c.msgsnd.ensures.queues c.self.inside.limits n.flags (granted k))
+    (send-left (rest k) t client _ (rest_is k) (called k) n.id n.flags _ n.mtype n.text (back k) (queues_of c.send_reserved.new.self) (c.send_reserved.ensures.queues c.self.inside.limits n.flags (granted k))
     ∙ ap (λ (call : Call). left_by t (decide t client call)) (sym n.is)))
 
 pub returns-clause-shorter : goal.returns-clause-shorter
