@@ -1,14 +1,13 @@
 -- What entries and lengths become where one row changes.
-use Rattle.std.proofs.Common.{◌≡◌, ◌∙◌, ℕ, zero, suc, ◌<◌, ◌≤◌, ap, arith, refl, subst, sym, Bool, true, false, cond, List, [], ◌∷◌, length, length-set, replicate, set, ⊎_elim}
+use Rattle.std.proofs.Common.{◌≡◌, ◌∙◌, ℕ, ◌<◌, ap, arith, refl, sym, Bool, true, false, List, [], length, length-set, set, ⊎_elim}
 use Rattle.std.specs.Prelude.{ℤ, pos, Option, Some, None, option_map, unwrap_or, if◌then◌else◌}
-use Rattle.std.specs.Ordering.{eq_by_cmp, is_eq}
 use Rattle.std.specs.FinMap as finite
 use Rattle.std.specs.Global.{Vec}
 use Rattle.std.proofs.lemmas.Bool.{cases_eq, false_from_ne_true}
 use Rattle.std.proofs.lemmas.List.{get_or-set_same, get_or-set_other}
-use Rattle.sem_undo.specs.Entries.{Adjusted, Entries, Place, place_cmp, with_adj, without_row}
+use Rattle.sem_undo.specs.Entries.{Adjusted, Entries, Place, place_cmp, with_adj}
 use Rattle.sem_undo.specs.Rows.{AreOfClients, adj_in, entries_in, is_here, lens_in, row_in}
-use Rattle.sem_undo.proofs.Entries.{entry_of, get_entries, get_lens, get_with_apart, get_with_here, get_without, get_without_apart, key, place, same_entries}
+use Rattle.sem_undo.proofs.Entries.{entry_of, get_entries, get_lens, get_with_apart, get_with_here, key, place, same_entries}
 use Rattle.sem_undo.proofs.Keys.{place_itself, place_same, place_total, places_equal}
 
 abbrev pub Lens : Type 0
@@ -17,10 +16,10 @@ Lens = finite.FinMap place_cmp ℕ
 abbrev pub size : Option (List ℤ) → Option ℕ
 size o = option_map (λ (r : List ℤ). length r) o
 
-same_lens : (m n : Lens) → ((p : Place) → finite.get m p ≡ finite.get n p) → m ≡ n
+pub same_lens : (m n : Lens) → ((p : Place) → finite.get m p ≡ finite.get n p) → m ≡ n
 same_lens m n is = finite.same_map place_total place_same m n is
 
-by_place : {P : Type 0} (client set c s : ℕ) → (c ≡ client → s ≡ set → P) → ((c ≡ client → s ≡ set → ⊥) → P) → P
+pub by_place : {P : Type 0} (client set c s : ℕ) → (c ≡ client → s ≡ set → P) → ((c ≡ client → s ≡ set → ⊥) → P) → P
 by_place client set c s here apart =
     ⊎_elim (λ (e : c ≡ client). ⊎_elim (λ (f : s ≡ set). here e f) (λ (f : s ≡ set → ⊥). apart (λ _ g. f g)) (cases_eq s set)) (λ (e : c ≡ client → ⊥). apart (λ g _. e g)) (cases_eq c client)
 
@@ -32,10 +31,10 @@ pub there_is : (o : Option (List ℤ)) (num : ℕ) → num < length (unwrap_or o
 there_is None num h = absurd (omega arith)
 there_is (Some r) num h = refl
 
-is_here_here : (client set : ℕ) → is_here client set client set ≡ true
+pub is_here_here : (client set : ℕ) → is_here client set client set ≡ true
 is_here_here client set = place_itself (place client set)
 
-is_here_apart : (client set c s : ℕ) → (c ≡ client → s ≡ set → ⊥) → is_here client set c s ≡ false
+pub is_here_apart : (client set c s : ℕ) → (c ≡ client → s ≡ set → ⊥) → is_here client set c s ≡ false
 is_here_apart client set c s ne =
     false_from_ne_true _ (λ is. let same = places_equal (place client set) (place c s) is in ne (sym (ap (λ (p : Place). p.client) same)) (sym (ap (λ (p : Place). p.set) same)))
 

@@ -1,5 +1,5 @@
 -- The entries that rows stand for.
-use Rattle.std.proofs.Common.{◌≡◌, ◌∙◌, ℕ, zero, suc, ◌+◌, ap, arith, refl, subst, sym, Bool, true, false, cond, List, [], ◌∷◌, length}
+use Rattle.std.proofs.Common.{◌≡◌, ◌∙◌, ℕ, zero, suc, ◌+◌, ap, arith, refl, sym, Bool, true, false, cond, List, [], ◌∷◌, length}
 use Rattle.std.specs.Prelude.{ℤ, pos, not, ◌&&◌, ◌==◌, Option, Some, None, option_map, unwrap_or, if◌then◌else◌}
 use Rattle.std.specs.Ordering.{eq_by_cmp, int_eq, is_eq}
 use Rattle.std.proofs.lemmas.Bool.{true≢false}

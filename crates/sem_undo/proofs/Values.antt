@@ -1,5 +1,5 @@
 -- What the value of an `Undo` becomes where one of its rows changes.
-use Rattle.std.proofs.Common.{◌≡◌, ◌∙◌, ℕ, zero, suc, ◌<◌, ◌≤◌, ap, arith, refl, subst, sym, Bool, true, false, List, [], length, replicate, set, ⊎_elim}
+use Rattle.std.proofs.Common.{◌≡◌, ◌∙◌, ℕ, zero, suc, ◌<◌, ◌≤◌, ap, arith, refl, sym, Bool, true, false, List, [], length, replicate, set, ⊎_elim}
 use Rattle.std.specs.Prelude.{ℤ, pos, Option, Some, None, unwrap_or, if◌then◌else◌}
 use Rattle.std.specs.Ordering.{int_eq}
 use Rattle.std.specs.FinMap as finite
@@ -7,7 +7,7 @@ use Rattle.std.specs.Global.{Vec}
 use Rattle.std.proofs.lemmas.Bool.{cases_Bool, cases_lt}
 use Rattle.std.proofs.lemmas.Int.{ints}
 use Rattle.std.proofs.lemmas.List.{length-replicate}
-use Rattle.sem_undo.specs.Entries.{Entries, Place, Undone, adj_of, nothing_undone, place_cmp, row_len, with_adj}
+use Rattle.sem_undo.specs.Entries.{Place, Undone, adj_of, nothing_undone, row_len, with_adj}
 use Rattle.sem_undo.specs.Rows.{AreOfClients, adj_in, entries_in, is_here, lens_in, row_in, undone_in}
 use Rattle.sem_undo.proofs.Changes.{entries_are, entries_written, lens_are, lens_place, lens_written, size}
 use Rattle.sem_undo.proofs.Entries.{entry_of, get_entries, get_lens, key, place}
@@ -27,7 +27,7 @@ entry_adj z =
     (λ (h : int_eq z (pos 0) ≡ false). ap (λ (b : Bool). unwrap_or (if b then None else Some z) (pos 0)) h)
     (cases_Bool (int_eq z (pos 0)))
 
-zeros : (n k : ℕ) → adj_in (replicate n (pos 0)) k ≡ pos 0
+pub zeros : (n k : ℕ) → adj_in (replicate n (pos 0)) k ≡ pos 0
 zeros zero k = refl
 zeros (suc n) zero = refl
 zeros (suc n) (suc k) = zeros n k

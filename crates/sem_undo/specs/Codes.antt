@@ -2,7 +2,7 @@
 use Rattle.std.specs.Prelude.{ℕ, ℤ, refl}
 use Rattle.std.specs.Coded.{Coded, code_by, coded×, coded_ℕ, coded_ℤ}
 use Rattle.std.specs.FinMap as finite
-use Rattle.sem_undo.specs.Entries.{Adjusted, Entries, Place, Undone, adjusted_cmp, place_cmp}
+use Rattle.sem_undo.specs.Entries.{Adjusted, Place, Undone, adjusted_cmp, place_cmp}
 
 abbrev pub place_code : Coded Place
 place_code =

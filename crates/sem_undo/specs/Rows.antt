@@ -1,5 +1,5 @@
 -- The rows that entries are kept in.
-use Rattle.std.specs.Prelude.{◌≡◌, ◌≤◌, ℕ, ◌+◌, ℤ, pos, Bool, List, [], ◌∷◌, length, None, Option, option_map, slice_index_or, unwrap_or}
+use Rattle.std.specs.Prelude.{◌≡◌, ◌≤◌, ◌==◌, ◌&&◌, nat_lt, replicate, slice_set, if◌then◌else◌, ℕ, ◌+◌, ℤ, pos, Bool, List, [], ◌∷◌, length, None, Option, option_map, slice_index_or, unwrap_or}
 use Rattle.std.specs.BTreeMap as tree
 use Rattle.std.specs.FinMap as finite
 use Rattle.std.specs.Map.{lookup}
@@ -49,3 +49,16 @@ undone_in es = record { entries = entries_in es; rows = lens_in es }
 -- there are at most 64 clients
 abbrev pub AreOfClients : List (Place × Vec ℤ) → Type 0
 AreOfClients es = (c s : ℕ) → 64 ≤ c → row_in es c s ≡ None
+
+-- what the rows at a set become, those of the clients below a number; where no row is there, there is none afterwards
+abbrev pub with_each : ℕ → ℕ → (Option (List ℤ) → Option (List ℤ)) → (ℕ → ℕ → Option (List ℤ)) → ℕ → ℕ → Option (List ℤ)
+with_each clients set change rows c s = if nat_lt c clients && s == set then change (rows c s) else rows c s
+
+abbrev pub zeroed_at : ℕ → Option (List ℤ) → Option (List ℤ)
+zeroed_at num row = option_map (λ r. slice_set r num (pos 0)) row
+
+abbrev pub zeroed : Option (List ℤ) → Option (List ℤ)
+zeroed row = option_map (λ r. replicate (length r) (pos 0)) row
+
+abbrev pub removed : Option (List ℤ) → Option (List ℤ)
+removed row = None

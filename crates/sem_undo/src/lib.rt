@@ -4,6 +4,8 @@
 #![tactic(auto)]
 
 mod rows;
+#[cfg(test)]
+mod tests;
 mod undo;
 
 pub use undo::Undo;

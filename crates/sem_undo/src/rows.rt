@@ -1,12 +1,15 @@
 //! Rows of semadj by client and set.
 
 ghost use Rattle.std.specs.Prelude.{◌≡◌, ◌<◌, ℕ, [], length, pos, replicate, unwrap_or};
-ghost use Rattle.std.specs.Prelude.{if◌then◌else◌, slice_set, OnErr, OnOk};
-ghost use Rattle.sem_undo.specs.Rows.{is_here, row_at, row_of};
+ghost use Rattle.std.specs.Prelude.{if◌then◌else◌, slice_set, IfNone, IfSome, IsSome, OnErr, OnOk};
+ghost use Rattle.sem_undo.specs.Rows.{is_here, removed, row_at, row_of, with_each, zeroed, zeroed_at};
 
 use ipc_call::Memory;
 use std::alloc::Global;
 use std::collections::BTreeMap;
+
+/// The most clients.
+const CLIENTS: u32 = 64;
 
 /// Where a row stands: a client at a set.
 #[derive(Clone, Copy, Debug, PartialEq, Eq, PartialOrd, Ord)]
@@ -74,6 +77,84 @@ impl Rows {
         row[num] = adj;
     }
 
+    /// Sets a semadj of each client at a set to 0.
+    pub(crate) fn clear(&mut self, set: u32, num: usize)
+        ensures { (c s : ℕ) → row_of self.new c s
+            ≡ with_each 64 set (zeroed_at num) (row_of self.old) c s }
+    {
+        for client in 0..CLIENTS {
+            if num < self.row(client, set).len() {
+                self.write(client, set, num, 0);
+            }
+        }
+    }
+
+    /// Sets each semadj at a set to 0.
+    pub(crate) fn clear_set(&mut self, set: u32)
+        ensures { (c s : ℕ) → row_of self.new c s ≡ with_each 64 set zeroed (row_of self.old) c s }
+    {
+        for client in 0..CLIENTS {
+            self.zero(client, set);
+        }
+    }
+
+    /// Takes out each row at a set.
+    pub(crate) fn remove_set(&mut self, set: u32)
+        ensures { (c s : ℕ) → row_of self.new c s ≡ with_each 64 set removed (row_of self.old) c s }
+    {
+        for client in 0..CLIENTS {
+            self.remove(client, set);
+        }
+    }
+
+    /// Sets each semadj of a row to 0, where there is one.
+    fn zero(&mut self, client: u32, set: u32)
+        ensures { (c s : ℕ) → row_of self.new c s
+            ≡ (if is_here client set c s
+            then zeroed (row_of self.old client set)
+            else row_of self.old c s) }
+    {
+        if let Some(row) = self.rows.get_mut(&Place { client, set }) {
+            zero_all(row);
+        }
+    }
+
+    /// Takes out the row of a client at the least set where it has one.
+    pub(crate) fn take_first(&mut self, client: u32) -> Option<(u32, Vec<i32>)>
+        ensures none { IfNone result ((s : ℕ) → row_of self.old client s ≡ None) }
+        ensures same { IfNone result (self.new ≡ self.old) }
+        ensures row { IfSome result (λ r. row_of self.old client r.0 ≡ Some r.1.items) }
+        ensures least { IfSome result (λ r. (s : ℕ) → s < r.0 → row_of self.old client s ≡ None) }
+        ensures rest { IfSome result (λ r. (c s : ℕ) → row_of self.new c s
+            ≡ (if is_here client r.0 c s then None else row_of self.old c s)) }
+    {
+        match self.first(client) {
+            None => None,
+            Some(set) => {
+                let row = self.rows.remove(&Place { client, set }).unwrap();
+                Some((set, row))
+            }
+        }
+    }
+
+    /// The least set where a client has a row.
+    fn first(&self, client: u32) -> Option<u32>
+        ensures none { IfNone result ((s : ℕ) → row_of self.now client s ≡ None) }
+        ensures there { IfSome result (λ set. IsSome (row_of self.now client set)) }
+        ensures least { IfSome result (λ set. (s : ℕ) → s < set → row_of self.now client s ≡ None) }
+    {
+        match self.rows.range(Place { client, set: 0 }..).next() {
+            None => None,
+            Some((place, _)) => {
+                if place.client == client {
+                    Some(place.set)
+                } else {
+                    None
+                }
+            }
+        }
+    }
+
     /// Takes out the row of a client at a set.
     pub(crate) fn remove(&mut self, client: u32, set: u32)
         ensures { (c s : ℕ) → row_of self.new c s
@@ -81,4 +162,11 @@ impl Rows {
     {
         self.rows.remove(&Place { client, set });
     }
+}
+
+/// Sets each semadj to 0.
+fn zero_all(row: &mut Vec<i32>)
+    ensures { row.new.items ≡ replicate (length row.old.items) (pos 0) }
+{
+    row.fill(0);
 }

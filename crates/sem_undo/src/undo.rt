@@ -1,8 +1,9 @@
 //! The semadj of all clients.
 
-ghost use Rattle.std.specs.Prelude.{◌≡◌, ◌<◌, ◌≤ℤ◌, ◌-ℤ◌, neg_ℤ, ℕ, length, pos, unwrap_or, OnErr, OnOk};
+ghost use Rattle.std.specs.Prelude.{◌≡◌, ◌==◌, ◌<◌, ◌≤ℤ◌, ◌-ℤ◌, neg_ℤ, ℕ, length, not, pos, true, unwrap_or};
+ghost use Rattle.std.specs.Prelude.{IfNone, IfSome, OnErr, OnOk};
 ghost use Rattle.std.specs.FinMap as finite;
-ghost use Rattle.sem_undo.specs.Entries.{adj_of, nothing_undone, row_len, with_adj};
+ghost use Rattle.sem_undo.specs.Entries.{adj_of, cleared, nothing_undone, row_len, with_adj, without_client, without_row};
 ghost use Rattle.sem_undo.specs.Rows.{adj_in};
 
 use crate::rows::Rows;
@@ -93,6 +94,55 @@ impl Undo {
     {
         let adj = self.adj(client, set, num) - i32::from(by);
         self.put(client, set, usize::from(num), adj);
+    }
+
+    /// Clears the entries of a semaphore, those of every client (semctl(2), SETVAL). The rows stay.
+    pub fn clear(&mut self, set: u32, num: u16)
+        ensures { self.new ≡ record self.old {
+          entries = cleared self.old.entries set (λ n. n == num);
+        } }
+    {
+        self.rows.clear(set, usize::from(num));
+    }
+
+    /// Clears the entries of all semaphores of a set, those of every client (semctl(2), SETALL). The rows stay.
+    pub fn clear_set(&mut self, set: u32)
+        ensures { self.new ≡ record self.old { entries = cleared self.old.entries set (λ _. true) } }
+    {
+        self.rows.clear_set(set);
+    }
+
+    /// Clears the entries of all semaphores of a set, those of every client, and lets the rows go (semctl(2),
+    /// IPC_RMID).
+    pub fn remove_set(&mut self, set: u32)
+        ensures { self.new ≡ record {
+          entries = cleared self.old.entries set (λ _. true);
+          rows = finite.retain_keys self.old.rows (λ place. not (place.set == set));
+        } }
+    {
+        self.rows.remove_set(set);
+    }
+
+    /// Takes out a row of a client: the least set where it has one, and its semadj there by semaphore number; None
+    /// once it has none (_exit(2)).
+    pub fn take_all(&mut self, client: u32) -> Option<(u32, Vec<i32>)>
+        ensures none { IfNone result (without_client self.old.entries client ≡ self.old.entries) }
+        ensures no_row { IfNone result ((set : ℕ)
+            → finite.get self.old.rows (record { client = client; set = set }) ≡ None) }
+        ensures same { IfNone result (self.new ≡ self.old) }
+        ensures len { IfSome result (λ row.
+            finite.get self.old.rows (record { client = client; set = row.0 })
+            ≡ Some (length row.1.items)) }
+        ensures adjs { IfSome result (λ row. (num : ℕ)
+            → adj_in row.1.items num ≡ adj_of self.old.entries client row.0 num) }
+        ensures least { IfSome result (λ row. (set : ℕ) → set < row.0
+            → finite.get self.old.rows (record { client = client; set = set }) ≡ None) }
+        ensures rest { IfSome result (λ row. self.new ≡ record {
+          entries = without_row self.old.entries client row.0;
+          rows = finite.remove self.old.rows (record { client = client; set = row.0 });
+        }) }
+    {
+        self.rows.take_first(client)
     }
 
     /// Sets a semadj for which the client has a row.

@@ -1,4 +1,4 @@
-use Rattle.std.proofs.Common.{◌≡◌, ◌∙◌, sym, rules, ap, w32, set, to_z, of_z, List, ℤ}
+use Rattle.std.proofs.Common.{◌∙◌, sym, rules, ap, w32, set, to_z, of_z, List, ℤ}
 use Rattle.std.specs.BTreeMap as tree
 use Rattle.std.specs.Option.{option_copied_mut}
 use Rattle.std.specs.Prelude.{[], unwrap_or}

@@ -1,4 +1,4 @@
-use Rattle.std.proofs.Common.{◌<◌, ◌∙◌, ap, arith, length, w32}
+use Rattle.std.proofs.Common.{◌<◌, ◌∙◌, arith, length, w32}
 use Rattle.std.proofs.lemmas.Int.{to_z-of_z}
 use Rattle.sem_undo.specs.Entries.{with_adj}
 use Rattle.sem_undo.specs.Rows.{row_at}
