@@ -20,3 +20,5 @@ mod queues;
 mod semaphores;
 #[cfg(test)]
 mod spaces;
+#[cfg(test)]
+mod undo;

@@ -4,8 +4,6 @@
 #![tactic(auto)]
 
 mod rows;
-#[cfg(test)]
-mod tests;
 mod undo;
 
 pub use undo::Undo;

@@ -1,6 +1,6 @@
 //! Worked rows of semadj, with what semop(2), semctl(2) and _exit(2) have them become.
 
-use super::Undo;
+use sem_undo::Undo;
 use std::test::Fail;
 
 #[test]
