@@ -10,8 +10,6 @@ mod serving;
 mod shared;
 mod states;
 mod telling;
-#[cfg(test)]
-mod tests;
 mod waiting;
 
 pub use calls::{Pass, Polled, Seen};

@@ -1,16 +1,10 @@
-//! A counter that a publication list can serve, and the tests of the list with it.
+//! Two states that a publication list can serve, to test and to measure it: a counter, and one whose calls wait.
 #![tactic(auto)]
 
-#[cfg(test)]
-mod combining_tests;
 mod counter;
 pub mod service;
 mod swap;
 pub mod swapping;
-#[cfg(test)]
-mod swapping_tests;
-#[cfg(test)]
-mod tests;
 
 pub use counter::{Counter, Turn};
 pub use swap::Swap;

@@ -1,23 +1,11 @@
 -- A walk over a list of distinct clients.
-use Rattle.std.proofs.Common.{◌≡◌, ℕ, zero, suc, ◌+◌, ◌<◌, ◌≤◌, List, [], ◌∷◌, ◌++◌, length, take, drop, set, sym, refl, ap, ◌∙◌, subst, inl, inr, arith, All, Option, Some, None, length-set, length-drop, drop-drop}
+use Rattle.std.proofs.Common.{◌≡◌, ℕ, zero, suc, ◌+◌, ◌<◌, ◌≤◌, List, [], ◌∷◌, ◌++◌, length, take, drop, sym, refl, ap, ◌∙◌, subst, inl, inr, arith, Option, Some, None, length-drop}
 use Rattle.std.specs.Option.{unwrap_or}
 use Rattle.std.proofs.lemmas.Option.{none-some}
-use Rattle.std.proofs.lemmas.List.{take_more_set, drop-set-lt, take_all}
-use Rattle.std.proofs.lemmas.List.Elements.{All-nil, All-cons}
+use Rattle.std.proofs.lemmas.List.{take_all}
 use Rattle.pub_rule.specs.Lists.{IsOn, Distinct, IsListOf, head_of, after}
 use Rattle.pub_rule.proofs.Clients.{by_equal, at_most}
 use mathlib.Core.Bool.{cond}
-
--- the first `count` records of the list stand in `met`, and `at` is the next
-pub record Walked (list : List ℕ) (count : ℕ) (at : Option ℕ) (met before : List ℕ) : Type 0 where
-  pub few : count ≤ length list
-  pub here : at ≡ head_of (drop count list)
-  pub written : take count met ≡ take count list
-  pub rest : drop count met ≡ drop count before
-  pub long : length met ≡ length before
-
-pub starts : (list : List ℕ) (at : Option ℕ) (met : List ℕ) → at ≡ head_of list → Walked list 0 at met met
-starts list at met e = record { few = omega arith; here = e; written = refl; rest = refl; long = refl }
 
 after_suc : (list : List ℕ) (count c : ℕ) → Distinct list → Some c ≡ head_of (drop count list) → IsOn c list × (count < length list) × (after c list ≡ drop (suc count) list) × (take (suc count) list ≡ take count list ++ c ∷ [])
 after_suc [] zero c d e = absurd (none-some c (sym e))
@@ -36,35 +24,12 @@ after_suc (x ∷ xs) (suc count) c d e = let t = after_suc xs count c d.1 e in l
 )
 
 -- the next record of a list that isn't walked whole
-pub after_drop : (list : List ℕ) (count c : ℕ) → Distinct list → Some c ≡ head_of (drop count list) → IsOn c list × (count < length list) × (after c list ≡ drop (count + 1) list) × (take (count + 1) list ≡ take count list ++ c ∷ [])
+after_drop : (list : List ℕ) (count c : ℕ) → Distinct list → Some c ≡ head_of (drop count list) → IsOn c list × (count < length list) × (after c list ≡ drop (count + 1) list) × (take (count + 1) list ≡ take count list ++ c ∷ [])
 after_drop list count c d e = let next : suc count ≡ count + 1 = omega arith in subst (λ (k : ℕ). IsOn c list × (count < length list) × (after c list ≡ drop k list) × (take k list ≡ take count list ++ c ∷ [])) next (after_suc list count c d e)
-
-pub goes_on : (list again : List ℕ) (count c : ℕ) (at : Option ℕ) (met before : List ℕ) → Distinct list → length list ≤ length before → Walked list count (Some c) met before → again ≡ list → at ≡ head_of (after c again)
-    → Walked again (count + 1) at (set met count c) before
-goes_on list again count c at met before d room w same e = let t = after_drop list count c d w.here in let below = t.1 in let long = w.long in subst (λ (l : List ℕ). Walked l (count + 1) at (set met count c) before) (sym same) record {
-  few = omega arith;
-  here = e ∙ (ap (λ (l : List ℕ). head_of (after c l)) same ∙ ap head_of t.2);
-  written = take_more_set met count c (omega arith) ∙ (ap (λ (l : List ℕ). l ++ c ∷ []) w.written ∙ sym t.3);
-  rest = drop-set-lt (count + 1) met count c (omega arith) ∙ (sym (drop-drop 1 count met) ∙ (ap (drop 1) w.rest ∙ drop-drop 1 count before));
-  long = length-set met count c ∙ w.long;
-}
-
-pub all_below : (n : ℕ) (list : List ℕ) → ((c : ℕ) → IsOn c list → c < n) → All (λ c. c < n) list
-all_below n [] h = All-nil (λ c. c < n)
-all_below n (x ∷ xs) h = All-cons (λ c. c < n) x xs (h x (inl refl)) (all_below n xs (λ c on. h c (inr on)))
 
 none_left : (list : List ℕ) → None ≡ head_of list → length list ≡ 0
 none_left [] e = refl
 none_left (x ∷ xs) e = absurd (none-some x e)
-
-pub ends : (list : List ℕ) (count : ℕ) (at : Option ℕ) (met before : List ℕ) → Walked list count at met before → at ≡ None → (take count met ≡ list) × (drop count met ≡ drop count before) × (count ≡ length list)
-ends list count at met before w is = let few = w.few in let size = length-drop count list in let left = none_left (drop count list) (sym is ∙ w.here) in (w.written ∙ take_all count list (omega arith), w.rest, omega arith)
-
--- what is known where the walk is at client c of a list of n clients
-pub at_client : (n : ℕ) (list : List ℕ) (count c : ℕ) (at : Option ℕ) (met before : List ℕ) → IsListOf n list → n ≤ length before → Walked list count at met before → at ≡ Some c
-    → IsOn c list × (count < length list) × (count < length met) × Walked list count (Some c) met before
-at_client n list count c at met before l room w is = let w' = subst (λ (o : Option ℕ). Walked list count o met before) is w in let t = after_drop list count c l.0 w'.here in
-    let below = t.1 in let all = at_most n list l in let long = w.long in (t.0, t.1, omega arith, w')
 
 -- a list of n clients of which `count` were visited, and `at` is the next
 pub record IsAt (n : ℕ) (list : List ℕ) (count : ℕ) (at : Option ℕ) : Type 0 where

@@ -1,5 +1,5 @@
-//! A client walks the list.
-ghost use Rattle.std.specs.Prelude.{◌≡◌, ℕ, ◌+◌, ◌<◌, ◌≤◌, [], ◌∷◌, length, take, drop, All};
+//! A client walks the list, a record at a time.
+ghost use Rattle.std.specs.Prelude.{◌≡◌, ◌≤◌};
 ghost use Rattle.pub_rule.specs.Lists.{IsListOf, head_of, after};
 ghost use Rattle.pub_rule.specs.Steps.{IsKnown};
 ghost use Rattle.pub_list.specs.Clients.{view, seen, BelongsTo, IsStill, SeesAll, SeesFrom};
@@ -41,30 +41,6 @@ impl<S: Served> Joined<S> {
             .shared
             .load::<LoadNext>(&mut self.seat, next_word(client));
         client_of(link)
-    }
-
-    /// Walks the list from its head (flat combining: Hendler, Incze, Shavit, Tzafrir 2010) and writes the
-    /// client of each record to `met`, in the list's order; returns how many they are, at most as many as the
-    /// list has clients. The rest of `met` stays as it was.
-    pub fn walk(&mut self, list: &List<S>, met: &mut [u32]) -> usize
-        requires list { BelongsTo list.now self.old }
-        requires room { list.now.clients ≤ length met.old }
-        ensures client { IsStill self.old self.new }
-        ensures seen { SeesAll self.old self.new }
-        ensures listed { IsListOf list.now.clients (seen self.new) }
-        ensures met { take result met.new ≡ seen self.new }
-        ensures below { All (λ c. c < list.now.clients) (take result met.new) }
-        ensures rest { drop result met.new ≡ drop result met.old }
-        ensures count { (result ≡ length (seen self.new)) × (result ≤ list.now.clients) }
-    {
-        let mut count = 0;
-        let mut at = self.first(list);
-        while let Some(client) = at {
-            met[count] = client;
-            count += 1;
-            at = self.next(list, client);
-        }
-        count
     }
 }
 

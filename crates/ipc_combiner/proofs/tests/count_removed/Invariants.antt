@@ -1,6 +1,0 @@
-use Rattle.std.proofs.Common.{All}
-use Rattle.ipc_combiner.specs.States.{IsOf}
-use Rattle.ipc_combiner.proofs.tests.count_removed.Given as goal
-
-abbrev pub invariant-loop-flight : goal.invariant-loop-flight
-invariant-loop-flight g l = All (λ f. IsOf l.service.list f.joined) l.flight-iterator.rest.items

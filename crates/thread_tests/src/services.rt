@@ -1,0 +1,590 @@
+// Clients of one service, alone and in threads.
+ghost use Rattle.std.specs.Prelude.{◌≡◌, ◌≤◌, vec_len, All, IfOk};
+ghost use Rattle.ipc_combiner.specs.Closing.{IsClientOf};
+ghost use Rattle.ipc_combiner.specs.States.{IsOf, IsUnjoinedOf};
+
+use bitflags::Flags;
+use crossbeam_utils::Backoff;
+use ipc_call::{
+    Answer, Call, IPC_CREAT, IPC_NOWAIT, Items, JournalRow, Kind, Limits, Outcome, Reply, Rule,
+};
+use ipc_combiner::{Client, Idle, InFlight, Pass, PassGate, Polled, Seen, Service, Unjoined};
+use ipc_creds::{Caps, Creds};
+use ipc_space::Space;
+use std::alloc::{AllocError, Global};
+use std::process::Abort;
+use std::sync::Wait;
+use std::sync::atomic::{AtomicU64, Ordering};
+use std::test::Fail;
+use std::thread;
+use std::thread::Threads;
+
+const ROUNDS: u64 = 1000;
+
+/// How often a thread looks for another before it gives up.
+const TURNS: u64 = 10_000_000;
+
+/// A service for so many clients of one user.
+fn service_for(
+    rt: &(impl Abort + AllocGlobal),
+    count: u32,
+) -> Result<(Service, Vec<Unjoined>), Fail>
+    requires { (1 ≤ count) × (count ≤ 64) }
+    ensures service { IfOk result (λ m. All (λ u. IsUnjoinedOf m.0.list u.fresh) m.1.items) }
+    ensures count { IfOk result (λ m. (vec_len m.1 ≡ count) × (m.0.list.clients ≡ count)) }
+{
+    let alloc = rt.alloc();
+    let limits = Limits::default();
+    assert!(rt; limits.in_range());
+    let mut creds = Vec::new(alloc);
+    for _ in 0..count {
+        creds.push(Creds::new(100, 10, Vec::new(alloc), Caps::empty()))?;
+    }
+    assert_eq!(rt; creds.len(), count as usize);
+    Ok(Service::start(alloc, limits, creds)?)
+}
+
+fn has_passed(pass: Pass) -> bool {
+    matches!(pass, Pass::Passed)
+}
+
+/// Each client joins, and passes once.
+fn joined(
+    rt: &(impl Abort + AllocGlobal),
+    service: &Service,
+    clients: Vec<Unjoined>,
+) -> Result<Vec<Idle>, Fail>
+    requires { All (λ u. IsUnjoinedOf service.now.list u.fresh) clients.items }
+    ensures { IfOk result (λ m. All (λ i. IsOf service.now.list i.joined) m.items) }
+{
+    let mut idles = Vec::new(rt.alloc());
+    for client in clients {
+        let mut idle = client.join(service);
+        assert!(rt; has_passed(idle.combine(service)));
+        idles.push(idle)?;
+    }
+    Ok(idles)
+}
+
+/// One of the clients, the last first.
+fn one_of(rt: &impl Abort, service: &Service, idles: &mut Vec<Idle>) -> Idle
+    requires { All (λ i. IsOf service.now.list i.joined) idles.old.items }
+    ensures one { IsOf service.now.list result.joined }
+    ensures rest { All (λ i. IsOf service.now.list i.joined) idles.new.items }
+{
+    match idles.pop() {
+        Some(idle) => idle,
+        None => panic!(rt; "no client is left"),
+    }
+}
+
+/// The reply to a call, which has ended.
+fn ended(rt: &impl Abort, service: &Service, flight: InFlight) -> (Idle, Reply)
+    requires { IsOf service.now.list flight.joined }
+    ensures { IsOf service.now.list result.0.joined }
+{
+    match flight.poll(service) {
+        Polled::Done(idle, reply) => (idle, reply),
+        Polled::Still(_, _) => panic!(rt; "a call is in flight"),
+    }
+}
+
+/// A call, which waits.
+fn parked(rt: &impl Abort, service: &Service, flight: InFlight) -> InFlight
+    requires { IsOf service.now.list flight.joined }
+    ensures { IsOf service.now.list result.joined }
+{
+    match flight.poll(service) {
+        Polled::Still(still, Seen::Parked) => still,
+        _ => panic!(rt; "no call waits"),
+    }
+}
+
+/// A client calls, passes, and has the reply.
+fn served(rt: &impl Abort, service: &Service, idle: Idle, call: Call) -> (Idle, Reply)
+    requires { IsOf service.now.list idle.joined }
+    ensures { IsOf service.now.list result.0.joined }
+{
+    let mut flight = idle.post(service, 0, call);
+    assert!(rt; has_passed(flight.combine(service)));
+    ended(rt, service, flight)
+}
+
+/// A client calls, passes, and waits.
+fn waiting(rt: &impl Abort, service: &Service, idle: Idle, call: Call) -> InFlight
+    requires { IsOf service.now.list idle.joined }
+    ensures { IsOf service.now.list result.joined }
+{
+    let mut flight = idle.post(service, 0, call);
+    assert!(rt; has_passed(flight.combine(service)));
+    parked(rt, service, flight)
+}
+
+/// How a call ended, for which there was memory.
+fn outcome_in(reply: Reply) -> Result<Outcome, Fail> {
+    match reply {
+        Reply::Entered { outcome, .. } => Ok(outcome),
+        Reply::Memory => Err(Fail::from("memory was refused")),
+    }
+}
+
+fn id_in(reply: Reply) -> Result<u32, Fail> {
+    match outcome_in(reply)? {
+        Ok(Answer::Id(id)) => Ok(id),
+        _ => Err(Fail::from("no identifier")),
+    }
+}
+
+fn get(key: u32) -> Call {
+    let flags = IPC_CREAT | 0o600;
+    Call::MsgGet { key, flags }
+}
+
+fn text(alloc: Global) -> Result<Items<u8>, AllocError> {
+    Ok(Items::new(vec![in alloc; b'h', b'i']?))
+}
+
+fn send(alloc: Global, id: u32) -> Result<Call, AllocError> {
+    Ok(Call::MsgSnd {
+        id,
+        mtype: 3,
+        text: text(alloc)?,
+        flags: 0,
+    })
+}
+
+fn receive(id: u32, flags: u32) -> Call {
+    Call::MsgRcv {
+        id,
+        size: 10,
+        msgtyp: 0,
+        flags,
+    }
+}
+
+fn message(alloc: Global) -> Result<Outcome, AllocError> {
+    Ok(Ok(Answer::Message {
+        mtype: 3,
+        text: text(alloc)?,
+    }))
+}
+
+/// How many of so many tries to combine passed.
+fn passes(service: &Service, idle: &mut Idle, tries: u32) -> u32
+    requires { IsOf service.now.list idle.old.joined }
+{
+    let mut passed: u32 = 0;
+    for _ in 0..tries {
+        if has_passed(idle.combine(service)) {
+            passed = passed.wrapping_add(1);
+        }
+    }
+    passed
+}
+
+#[test]
+fn one_of_four_acts_alone_and_passes_each_time(rt: HostRuntime) -> Result<(), Fail> {
+    let (service, clients) = service_for(&rt, 4)?;
+    let mut idles = joined(&rt, &service, clients)?;
+    assert_eq!(rt; idles.len(), 4);
+    let mut idle = one_of(&rt, &service, &mut idles);
+    assert_eq!(rt; passes(&service, &mut idle, 100), 100);
+    Ok(())
+}
+
+#[test]
+fn with_memory_no_call_is_refused_for_it(rt: HostRuntime) -> Result<(), Fail> {
+    let (service, clients) = service_for(&rt, 1)?;
+    let mut idles = joined(&rt, &service, clients)?;
+    let alice = one_of(&rt, &service, &mut idles);
+    let (alice, got) = served(&rt, &service, alice, get(5));
+    let id = id_in(got)?;
+    let (alice, sent) = served(&rt, &service, alice, send(rt.alloc(), id)?);
+    assert_eq!(rt; outcome_in(sent)?, Ok(Answer::Done));
+    let (alice, received) = served(&rt, &service, alice, receive(id, 0));
+    assert_eq!(rt; outcome_in(received)?, message(rt.alloc())?);
+    let (alice, refused) = served(&rt, &service, alice, receive(id, IPC_NOWAIT));
+    assert_eq!(rt; outcome_in(refused)?, Err(Rule::NoMessage));
+    drop(alice);
+    Ok(())
+}
+
+#[test]
+fn a_receive_waits_until_another_sends(rt: HostRuntime) -> Result<(), Fail> {
+    let (service, clients) = service_for(&rt, 2)?;
+    let mut idles = joined(&rt, &service, clients)?;
+    let carol = one_of(&rt, &service, &mut idles);
+    let alice = one_of(&rt, &service, &mut idles);
+    let (alice, got) = served(&rt, &service, alice, get(5));
+    let id = id_in(got)?;
+    let carol = waiting(&rt, &service, carol, receive(id, 0));
+    let (_, sent) = served(&rt, &service, alice, send(rt.alloc(), id)?);
+    assert_eq!(rt; outcome_in(sent)?, Ok(Answer::Done));
+    let (_, received) = ended(&rt, &service, carol);
+    assert_eq!(rt; outcome_in(received)?, message(rt.alloc())?);
+    Ok(())
+}
+
+#[test]
+fn a_pass_serves_who_was_heard_of_and_who_was_not(rt: HostRuntime) -> Result<(), Fail> {
+    let (service, clients) = service_for(&rt, 3)?;
+    let mut idles = joined(&rt, &service, clients)?;
+    let mut alice = one_of(&rt, &service, &mut idles);
+    let bob = one_of(&rt, &service, &mut idles);
+    let carol = one_of(&rt, &service, &mut idles);
+    let mut bob = bob.post(&service, 0, get(6));
+    let carol = carol.post(&service, 0, get(7));
+    alice.hear(&service, &mut bob);
+    assert!(rt; has_passed(alice.combine(&service)));
+    bob.told(&service, &mut alice);
+    let (_, bobs) = ended(&rt, &service, bob);
+    let (_, carols) = ended(&rt, &service, carol);
+    assert!(rt; id_in(bobs)? != id_in(carols)?);
+    Ok(())
+}
+
+#[test]
+fn who_learns_of_a_sender_receives_its_message(rt: HostRuntime) -> Result<(), Fail> {
+    let (service, clients) = service_for(&rt, 2)?;
+    let mut idles = joined(&rt, &service, clients)?;
+    let mut bob = one_of(&rt, &service, &mut idles);
+    let alice = one_of(&rt, &service, &mut idles);
+    let (alice, got) = served(&rt, &service, alice, get(5));
+    let id = id_in(got)?;
+    let (mut alice, sent) = served(&rt, &service, alice, send(rt.alloc(), id)?);
+    assert_eq!(rt; outcome_in(sent)?, Ok(Answer::Done));
+    bob.learn(&service, &mut alice);
+    let (_, received) = served(&rt, &service, bob, receive(id, IPC_NOWAIT));
+    assert_eq!(rt; outcome_in(received)?, message(rt.alloc())?);
+    Ok(())
+}
+
+/// Each client receives, and waits.
+fn all_waiting(
+    rt: &(impl Abort + AllocGlobal),
+    service: &Service,
+    idles: Vec<Idle>,
+    id: u32,
+) -> Result<Vec<InFlight>, Fail>
+    requires { All (λ i. IsOf service.now.list i.joined) idles.items }
+    ensures { IfOk result (λ m. All (λ f. IsOf service.now.list f.joined) m.items) }
+{
+    let mut flights = Vec::new(rt.alloc());
+    for idle in idles {
+        flights.push(waiting(rt, service, idle, receive(id, 0)))?;
+    }
+    Ok(flights)
+}
+
+/// How many of the calls have ended, as the queue is gone.
+fn count_removed(rt: &impl Abort, service: &Service, flights: Vec<InFlight>) -> Result<usize, Fail>
+    requires { All (λ f. IsOf service.now.list f.joined) flights.items }
+{
+    let mut count: usize = 0;
+    for flight in flights {
+        let (_, reply) = ended(rt, service, flight);
+        assert_eq!(rt; outcome_in(reply)?, Err(Rule::Removed));
+        count = count.wrapping_add(1);
+    }
+    Ok(count)
+}
+
+#[test]
+fn one_event_ends_sixty_three_waiting_calls(rt: HostRuntime) -> Result<(), Fail> {
+    let (service, clients) = service_for(&rt, 64)?;
+    let mut idles = joined(&rt, &service, clients)?;
+    let alice = one_of(&rt, &service, &mut idles);
+    let (alice, got) = served(&rt, &service, alice, get(5));
+    let id = id_in(got)?;
+    let flights = all_waiting(&rt, &service, idles, id)?;
+    let kind = Kind::Queue;
+    let (_, removed) = served(&rt, &service, alice, Call::IpcRmid { kind, id });
+    assert_eq!(rt; outcome_in(removed)?, Ok(Answer::Done));
+    assert_eq!(rt; count_removed(&rt, &service, flights)?, 63);
+    Ok(())
+}
+
+/// One of the clients that haven't joined, the last first.
+fn one_unjoined(rt: &impl Abort, service: &Service, clients: &mut Vec<Unjoined>) -> Unjoined
+    requires { All (λ u. IsUnjoinedOf service.now.list u.fresh) clients.old.items }
+    ensures one { IsUnjoinedOf service.now.list result.fresh }
+    ensures rest { All (λ u. IsUnjoinedOf service.now.list u.fresh) clients.new.items }
+{
+    match clients.pop() {
+        Some(client) => client,
+        None => panic!(rt; "no client is left"),
+    }
+}
+
+/// Three clients, one of each kind, to be handed in.
+fn one_of_each(
+    alloc: Global,
+    service: &Service,
+    first: Unjoined,
+    second: Idle,
+    third: InFlight,
+) -> Result<Vec<Client>, AllocError>
+    requires first { IsUnjoinedOf service.now.list first.fresh }
+    requires second { IsOf service.now.list second.joined }
+    requires third { IsOf service.now.list third.joined }
+    ensures count { IfOk result (λ m. vec_len m ≡ 3) }
+    ensures service { IfOk result (λ m. All (λ c. IsClientOf service.now.list c) m.items) }
+{
+    let mut clients = Vec::new(alloc);
+    clients.push(Client::Unjoined(first))?;
+    clients.push(Client::Idle(second))?;
+    clients.push(Client::InFlight(third))?;
+    Ok(clients)
+}
+
+#[test]
+fn a_service_closes_while_a_call_waits(rt: HostRuntime) -> Result<(), Fail> {
+    let (service, mut clients) = service_for(&rt, 3)?;
+    let carol = one_unjoined(&rt, &service, &mut clients);
+    let mut idles = joined(&rt, &service, clients)?;
+    let bob = one_of(&rt, &service, &mut idles);
+    let alice = one_of(&rt, &service, &mut idles);
+    let (alice, got) = served(&rt, &service, alice, get(5));
+    let bob = waiting(&rt, &service, bob, receive(id_in(got)?, 0));
+    let clients = one_of_each(rt.alloc(), &service, carol, alice, bob)?;
+    let space = service.close(clients);
+    assert_eq!(rt; space.events(), 2);
+    assert_eq!(rt; space.journal().len(), 3);
+    assert!(rt; space.is_waiting(1), "bob is client 1");
+    Ok(())
+}
+
+/// A client, and how many of its calls were entered and granted.
+#[derive(Drop)]
+struct Asked {
+    idle: Idle,
+    granted: u64,
+}
+
+fn is_granted(reply: Reply) -> bool {
+    matches!(
+        reply,
+        Reply::Entered {
+            outcome: Ok(Answer::Id(_)),
+            ..
+        }
+    )
+}
+
+/// A thousand calls of one client.
+fn ask_all<R: Wait>(rt: &R, service: &Service, client: Unjoined) -> Asked
+    requires { IsUnjoinedOf service.now.list client.fresh }
+    ensures { IsOf service.now.list result.idle.joined }
+{
+    let mut idle = client.join(service);
+    let mut granted: u64 = 0;
+    for round in 0..ROUNDS {
+        let (next, reply) = idle.call(rt, service, round, get(5));
+        idle = next;
+        if is_granted(reply) {
+            granted = granted.wrapping_add(1);
+        }
+    }
+    Asked { idle, granted }
+}
+
+/// Each client makes its thousand calls in a thread of its own.
+fn in_threads<R: Threads + Sync + Wait>(
+    rt: &R,
+    service: &Service,
+    clients: Vec<Unjoined>,
+) -> Result<Vec<Asked>, AllocError>
+    requires { All (λ u. IsUnjoinedOf service.now.list u.fresh) clients.items }
+    ensures count { IfOk result (λ m. vec_len m ≡ vec_len clients) }
+    ensures service { IfOk result (λ m. All (λ a. IsOf service.now.list a.idle.joined) m.items) }
+{
+    thread::map_vec(
+        rt,
+        clients,
+        &|client: Unjoined| -> Asked
+            requires { IsUnjoinedOf service.now.list client.fresh }
+            ensures { IsOf service.entry.now.list result.idle.joined }
+        { ask_all(rt, service, client) },
+    )
+}
+
+/// All clients are handed in.
+fn closed(
+    rt: &(impl Abort + AllocGlobal),
+    service: Service,
+    asked: Vec<Asked>,
+) -> Result<Space, Fail>
+    requires count { vec_len asked ≡ service.list.clients }
+    requires service { All (λ a. IsOf service.list a.idle.joined) asked.items }
+{
+    let mut clients = Vec::new(rt.alloc());
+    for each in asked {
+        assert_eq!(rt; each.granted, ROUNDS);
+        clients.push(Client::Idle(each.idle))?;
+    }
+    Ok(service.close(clients))
+}
+
+/// The journal has each client's thousand calls in their order, and as many replies to it.
+fn check_journal(rt: &impl Abort, space: &Space, clients: u32) {
+    let mut calls = [0u64; 64];
+    let mut answers = [0u64; 64];
+    assert!(rt; clients <= 64);
+    for row in space.journal() {
+        match *row {
+            JournalRow::Called { client, now, .. } => {
+                assert!(rt; client < clients);
+                assert_eq!(rt; now, calls[client as usize]);
+                calls[client as usize] = now.wrapping_add(1);
+            }
+            JournalRow::Answered { client, rule, .. } => {
+                assert!(rt; client < clients && rule.is_none());
+                let before = answers[client as usize];
+                answers[client as usize] = before.wrapping_add(1);
+            }
+        }
+    }
+    for client in 0..clients {
+        assert_eq!(rt; calls[client as usize], ROUNDS);
+        assert_eq!(rt; answers[client as usize], ROUNDS);
+    }
+}
+
+/// So many clients each call a thousand times.
+fn run<R: Threads + Sync + Wait + Abort + AllocGlobal>(rt: &R, count: u32) -> Result<(), Fail>
+    requires { (1 ≤ count) × (count ≤ 64) }
+{
+    let (service, clients) = service_for(rt, count)?;
+    let asked = in_threads(rt, &service, clients)?;
+    let space = closed(rt, service, asked)?;
+    assert_eq!(rt; space.events(), u64::from(count) * ROUNDS);
+    check_journal(rt, &space, count);
+    Ok(())
+}
+
+#[test]
+fn a_thousand_calls_each_by_two_threads(rt: HostRuntime) -> Result<(), Fail> {
+    run(&rt, 2)
+}
+
+#[test]
+fn a_thousand_calls_each_by_eight_threads(rt: HostRuntime) -> Result<(), Fail> {
+    run(&rt, 8)
+}
+
+#[test]
+fn a_thousand_calls_each_by_sixty_four_threads(rt: HostRuntime) -> Result<(), Fail> {
+    run(&rt, 64)
+}
+
+/// A gate at which a combiner stands still until it is let through, or for so many turns.
+#[derive(Drop)]
+struct Gate {
+    inside: AtomicU64,
+    open: AtomicU64,
+}
+
+/// Waits for a word to be set, for so many turns at most. Whether it was.
+fn wait_for(word: &AtomicU64) -> bool {
+    let backoff = Backoff::new();
+    for _ in 0..TURNS {
+        if word.load(Ordering::SeqCst) == 1 {
+            return true;
+        }
+        backoff.snooze();
+    }
+    false
+}
+
+impl PassGate for Gate {
+    fn between(&self, _visited: u32) {
+        self.inside.store(1, Ordering::SeqCst);
+        wait_for(&self.open);
+    }
+}
+
+/// A client that tried to combine, and the client that combined where it was another.
+#[derive(Drop)]
+struct Tried {
+    idle: Idle,
+    busy: Option<u32>,
+}
+
+fn tried_by(idle: Idle, pass: Pass) -> Tried
+    ensures { result.idle ≡ idle }
+{
+    let busy = match pass {
+        Pass::Passed => None,
+        Pass::Busy(client) => Some(client),
+    };
+    Tried { idle, busy }
+}
+
+/// A client combines, and stands still at the gate.
+fn stand_still(service: &Service, mut idle: Idle, gate: &Gate) -> Tried
+    requires { IsOf service.now.list idle.joined }
+    ensures { IsOf service.now.list result.idle.joined }
+{
+    let pass = idle.combine_with(service, gate);
+    tried_by(idle, pass)
+}
+
+/// While another stands still, a client tries to combine; then it lets the other through.
+fn try_meanwhile(service: &Service, mut idle: Idle, gate: &Gate) -> Tried
+    requires { IsOf service.now.list idle.joined }
+    ensures { IsOf service.now.list result.idle.joined }
+{
+    wait_for(&gate.inside);
+    let pass = idle.combine(service);
+    gate.open.store(1, Ordering::SeqCst);
+    tried_by(idle, pass)
+}
+
+/// Both at once.
+fn at_the_gate<R: Threads>(
+    rt: &R,
+    service: &Service,
+    still: Idle,
+    other: Idle,
+    gate: &Gate,
+) -> (Tried, Tried)
+    requires still { IsOf service.now.list still.joined }
+    requires other { IsOf service.now.list other.joined }
+    ensures { IsOf service.now.list result.0.idle.joined × IsOf service.now.list result.1.idle.joined }
+{
+    thread::join(
+        rt,
+        move || -> Tried
+            requires { IsOf service.now.list still.joined }
+            ensures { IsOf service.entry.now.list result.idle.joined }
+        { stand_still(service, still, gate) },
+        move || -> Tried
+            requires { IsOf service.now.list other.joined }
+            ensures { IsOf service.entry.now.list result.idle.joined }
+        { try_meanwhile(service, other, gate) },
+    )
+}
+
+#[test]
+fn who_stands_still_in_a_pass_leaves_the_others_busy(rt: HostRuntime) -> Result<(), Fail> {
+    let (service, clients) = service_for(&rt, 3)?;
+    let mut idles = joined(&rt, &service, clients)?;
+    let alice = one_of(&rt, &service, &mut idles);
+    let bob = one_of(&rt, &service, &mut idles);
+    let carol = one_of(&rt, &service, &mut idles);
+    let carol = carol.post(&service, 0, get(5));
+    let gate = Gate {
+        inside: AtomicU64::new(0),
+        open: AtomicU64::new(0),
+    };
+    let (alice, bob) = at_the_gate(&rt, &service, alice, bob, &gate);
+    assert_eq!(rt; alice.busy, None);
+    assert_eq!(rt; bob.busy, Some(2));
+    let (_, got) = ended(&rt, &service, carol);
+    let id = id_in(got)?;
+    let (_, sent) = served(&rt, &service, bob.idle, send(rt.alloc(), id)?);
+    assert_eq!(rt; outcome_in(sent)?, Ok(Answer::Done));
+    let (_, received) = served(&rt, &service, alice.idle, receive(id, IPC_NOWAIT));
+    assert_eq!(rt; outcome_in(received)?, message(rt.alloc())?);
+    Ok(())
+}
