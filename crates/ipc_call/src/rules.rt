@@ -5,7 +5,8 @@ ghost use Rattle.ipc_call.specs.Rules.{error_of, name_of_rule, number_of};
 
 use crate::error::Errno;
 
-/// Why a call was refused. Each error is that of POSIX.1-2017 XSH msgget, msgsnd, msgrcv, msgctl or semop, and of Linux.
+/// Why a call was refused. Each error is that of POSIX.1-2017 XSH msgget, msgsnd, msgrcv, msgctl or semop, and of
+/// Linux.
 #[derive(Clone, Copy, Debug, PartialEq, Eq)]
 pub enum Rule {
     /// The caller neither owns nor created the object, and lacks CAP_SYS_ADMIN.

@@ -1,6 +1,7 @@
 -- Whether the operations of a semop can be done on a set, and what they leave (semop(2); POSIX.1-2017 XSH semop).
 use Rattle.std.specs.Prelude.{ℕ, ◌+◌, ◌==◌, ℤ, pos, neg_ℤ, ◌+ℤ◌, ◌-ℤ◌, int_le, int_lt, nat_lt, Bool, not, ◌&&◌, ◌||◌}
-use Rattle.std.specs.Prelude.{List, [], ◌∷◌, ◌++◌, length, Option, Some, None, unwrap_or, slice_index_or, if◌then◌else◌, ◌≡◌}
+use Rattle.std.specs.Prelude.{◌≡◌, List, [], ◌∷◌, ◌++◌, length, slice_index_or}
+use Rattle.std.specs.Prelude.{Option, Some, None, unwrap_or, if◌then◌else◌}
 use Rattle.std.specs.List.{list_any, list_all}
 use Rattle.std.specs.Ordering.{int_eq}
 use Rattle.ipc_call.specs.declared.calls.SemOper.{SemOper}
@@ -48,8 +49,8 @@ stopped_by place value adj o =
     else (if must_wait value o then Some (if has_flag o.flags ipc_nowait then Refuse WouldWait else Wait place)
     else (if undoes o && not (is_semadj (adj -ℤ o.op)) then Some (Refuse UndoRange) else None))
 
--- an operation meets the value of its semaphore with the earlier operations on it, and the caller's semadj there without
--- those of them that exit undoes
+-- an operation meets the value of its semaphore with the earlier operations on it, and the caller's semadj there
+-- without those of them that exit undoes
 abbrev pub stopped_at : ℕ → List Semaphore → (ℕ → ℤ) → List SemOper → SemOper → Option Trial
 stopped_at place sems adj earlier o =
     stopped_by place (pos (value_of sems o.num) +ℤ sum_of (is_on o.num) earlier)

@@ -36,7 +36,8 @@ abbrev pub row_len : Undone → ℕ → ℕ → ℕ
 row_len u client set = unwrap_or (finite.get u.rows (record { client = client; set = set })) 0
 
 abbrev pub adj_of : Entries → ℕ → ℕ → ℕ → ℤ
-adj_of entries client set num = unwrap_or (finite.get entries (record { client = client; set = set; num = num })) (pos 0)
+adj_of entries client set num =
+    unwrap_or (finite.get entries (record { client = client; set = set; num = num })) (pos 0)
 
 -- 0 is as good as no entry
 abbrev pub with_adj : Entries → Adjusted → ℤ → Entries

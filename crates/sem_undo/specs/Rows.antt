@@ -1,5 +1,7 @@
 -- The rows that entries are kept in.
-use Rattle.std.specs.Prelude.{◌≡◌, ◌≤◌, ◌==◌, ◌&&◌, nat_lt, replicate, slice_set, if◌then◌else◌, ℕ, ◌+◌, ℤ, pos, Bool, List, [], ◌∷◌, length, None, Option, option_map, slice_index_or, unwrap_or}
+use Rattle.std.specs.Prelude.{◌≡◌, ◌≤◌, ◌==◌, ◌&&◌, nat_lt, ℕ, ◌+◌, ℤ, pos, Bool, if◌then◌else◌}
+use Rattle.std.specs.Prelude.{List, [], ◌∷◌, length, replicate, slice_set, slice_index_or}
+use Rattle.std.specs.Prelude.{Option, None, option_map, unwrap_or}
 use Rattle.std.specs.BTreeMap as tree
 use Rattle.std.specs.FinMap as finite
 use Rattle.std.specs.Map.{lookup}
@@ -51,7 +53,8 @@ abbrev pub AreOfClients : List (Place × Vec ℤ) → Type 0
 AreOfClients es = (c s : ℕ) → 64 ≤ c → row_in es c s ≡ None
 
 -- what the rows at a set become, those of the clients below a number; where no row is there, there is none afterwards
-abbrev pub with_each : ℕ → ℕ → (Option (List ℤ) → Option (List ℤ)) → (ℕ → ℕ → Option (List ℤ)) → ℕ → ℕ → Option (List ℤ)
+abbrev pub with_each : ℕ → ℕ → (Option (List ℤ) → Option (List ℤ)) → (ℕ → ℕ → Option (List ℤ)) → ℕ → ℕ
+    → Option (List ℤ)
 with_each clients set change rows c s = if nat_lt c clients && s == set then change (rows c s) else rows c s
 
 abbrev pub zeroed_at : ℕ → Option (List ℤ) → Option (List ℤ)

@@ -1,9 +1,10 @@
 //! The semadj of all clients.
 
-ghost use Rattle.std.specs.Prelude.{◌≡◌, ◌==◌, ◌<◌, ◌≤ℤ◌, ◌-ℤ◌, neg_ℤ, ℕ, length, not, pos, true, unwrap_or};
-ghost use Rattle.std.specs.Prelude.{IfNone, IfSome, OnErr, OnOk};
+ghost use Rattle.std.specs.Prelude.{◌≡◌, ◌==◌, ◌<◌, ◌≤ℤ◌, ◌-ℤ◌, neg_ℤ, ℕ, length, not};
+ghost use Rattle.std.specs.Prelude.{pos, true, unwrap_or, IfNone, IfSome, OnErr, OnOk};
 ghost use Rattle.std.specs.FinMap as finite;
-ghost use Rattle.sem_undo.specs.Entries.{adj_of, cleared, nothing_undone, row_len, with_adj, without_client, without_row};
+ghost use Rattle.sem_undo.specs.Entries.{adj_of, cleared, nothing_undone, row_len};
+ghost use Rattle.sem_undo.specs.Entries.{with_adj, without_client, without_row};
 ghost use Rattle.sem_undo.specs.Rows.{adj_in};
 
 use crate::rows::Rows;
