@@ -1,7 +1,18 @@
 //! Worked rows of semadj, with what semop(2), semctl(2) and _exit(2) have them become.
 
 use sem_undo::Undo;
+use std::process::Abort;
 use std::test::Fail;
+
+/// Lowers a semadj for which there is a row, and which stays in its range.
+fn lower(rt: &impl Abort, undo: &mut Undo, client: u32, set: u32, num: u16, by: i16) {
+    assert!(rt; usize::from(num) < undo.row(client, set).len());
+    let adj = undo.adj(client, set, num);
+    assert!(rt;
+        i64::from(adj) - i64::from(by) >= -32768 && i64::from(adj) - i64::from(by) <= 32767
+    );
+    undo.lower(client, set, num, by);
+}
 
 #[test]
 fn operations_lower_the_semadj_of_their_client(rt: HostRuntime) -> Result<(), Fail> {
@@ -11,17 +22,17 @@ fn operations_lower_the_semadj_of_their_client(rt: HostRuntime) -> Result<(), Fa
     undo.ensure_row(alloc, 0, 7, 2)?;
     undo.ensure_row(alloc, 63, 7, 2)?;
     assert_eq!(rt; undo.row(0, 7), [0, 0].as_slice());
-    undo.lower(0, 7, 1, 3);
-    undo.lower(63, 7, 1, -5);
+    lower(&rt, &mut undo, 0, 7, 1, 3);
+    lower(&rt, &mut undo, 63, 7, 1, -5);
     undo.ensure_row(alloc, 0, 7, 2)?;
     assert_eq!(rt; undo.row(0, 7), [0, -3].as_slice());
     assert_eq!(rt;
         (undo.adj(63, 7, 1), undo.adj(63, 7, 0), undo.adj(0, 7, 2)),
         (5, 0, 0)
     );
-    undo.lower(0, 7, 1, 32765);
+    lower(&rt, &mut undo, 0, 7, 1, 32765);
     assert_eq!(rt; undo.adj(0, 7, 1), -32768);
-    undo.lower(0, 7, 1, -32768);
+    lower(&rt, &mut undo, 0, 7, 1, -32768);
     assert_eq!(rt; undo.row(0, 7), [0, 0].as_slice());
     Ok(())
 }
@@ -30,11 +41,12 @@ fn operations_lower_the_semadj_of_their_client(rt: HostRuntime) -> Result<(), Fa
 fn values_that_are_set_clear_the_semadj_of_all(rt: HostRuntime) -> Result<(), Fail> {
     let alloc = rt.alloc();
     let mut undo = Undo::new(alloc);
-    for client in [0, 9, 63] {
+    for client in [0u32, 9, 63] {
+        assert!(rt; client < 64);
         for set in [3, 4] {
             undo.ensure_row(alloc, client, set, 2)?;
-            undo.lower(client, set, 0, 1);
-            undo.lower(client, set, 1, 2);
+            lower(&rt, &mut undo, client, set, 0, 1);
+            lower(&rt, &mut undo, client, set, 1, 2);
         }
     }
     undo.clear(3, 0);
@@ -56,7 +68,7 @@ fn exit_takes_each_row_once(rt: HostRuntime) -> Result<(), Fail> {
     for set in [32768, 5, u32::MAX] {
         undo.ensure_row(alloc, 1, set, 1)?;
         undo.ensure_row(alloc, 2, set, 1)?;
-        undo.lower(1, set, 0, -4);
+        lower(&rt, &mut undo, 1, set, 0, -4);
     }
     for want in [5, 32768, u32::MAX] {
         match undo.take_all(1) {
