@@ -1,8 +1,9 @@
 // A run of a script from its first byte to its end or a fault.
 
-ghost use Rattle.std.specs.Prelude.{◌≡◌, ◌+◌, ◌<◌, ◌≤◌, IfOk, IfErr, OnErr, length, take};
+ghost use Rattle.std.specs.Prelude.{◌≡◌, ◌+◌, ◌<◌, ◌≤◌, [], IfOk, IfErr, OnErr, length, string_bytes, take};
 ghost use Rattle.std.specs.Io.KnownBytes.{Consumes, IsAtEnd, Keeps};
 ghost use Rattle.ipcsh.specs.Runs.{WritesWhole, StopsBy};
+ghost use Rattle.ipcsh.specs.Session.{fresh_session};
 ghost use Rattle.ipcsh.specs.declared.runs.Fault.TheVariants.{Memory as out_of_memory};
 
 use crate::input::ScriptInput;
@@ -77,9 +78,37 @@ pub fn run<R: Read, W: Write>(
 {
     let mut piece = vec![in alloc; 0u8; PIECE]?;
     let mut input = ScriptInput::new(alloc);
+    answer_all(alloc, reader, writer, &mut piece, &mut input)
+}
+
+/// Answers a script from its first byte to its end or a fault, with a piece to read into.
+fn answer_all<R: Read, W: Write>(
+    alloc: Global,
+    reader: &mut R,
+    writer: &mut W,
+    piece: &mut [u8],
+    input: &mut ScriptInput,
+) -> Result<Summary, Fault>
+    requires piece { length piece.old ≡ 65536 }
+    requires session { input.old.session ≡ fresh_session }
+    requires pending { input.old.pending ≡ [] }
+    requires rows { string_bytes input.old.rows ≡ [] }
+    ensures ok { IfOk result (WritesWhole (record {
+      read_before = R.remaining reader.old;
+      read_after = R.remaining reader.new;
+      written_before = W.contents writer.old;
+      written_after = W.contents writer.new;
+    })) }
+    ensures fault { IfErr result (StopsBy (record {
+      read_before = R.remaining reader.old;
+      read_after = R.remaining reader.new;
+      written_before = W.contents writer.old;
+      written_after = W.contents writer.new;
+    })) }
+{
     let mut count = 0;
     'pieces: loop {
-        let taken = read_piece(reader, &mut piece, room_after(count))?;
+        let taken = read_piece(reader, piece, room_after(count))?;
         if taken == 0 {
             input.finish(alloc)?;
             input.flush(writer)?;
