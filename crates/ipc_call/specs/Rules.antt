@@ -5,20 +5,23 @@ use Rattle.ipc_call.specs.declared.rules.Rule.TheVariants.{NotOwner, NeedsResour
 use Rattle.ipc_call.specs.declared.rules.Rule.TheVariants.{Interrupted, MessageTooLong, QueueFull, WouldWait, OwnerBits}
 use Rattle.ipc_call.specs.declared.rules.Rule.TheVariants.{GroupBits, OtherBits, KeyExists, BadId, BadType}
 use Rattle.ipc_call.specs.declared.rules.Rule.TheVariants.{TextTooLong, BadArgument, NoSlot, ValueRange, UndoRange}
-use Rattle.ipc_call.specs.declared.rules.Rule.TheVariants.{NoMessage, Removed}
+use Rattle.ipc_call.specs.declared.rules.Rule.TheVariants.{NoMessage, Removed, Ended, TooManyOperations, BadSize}
+use Rattle.ipc_call.specs.declared.rules.Rule.TheVariants.{BadSem, NoOperations, SemOutOfSet}
 use Rattle.ipc_call.specs.Errors as errors
 use Rattle.ipc_call.specs.declared.error.Errno.{Errno}
 use Rattle.ipc_call.specs.declared.error.Errno.TheVariants.{EPERM, ENOENT, ESRCH, EINTR, E2BIG, EAGAIN}
-use Rattle.ipc_call.specs.declared.error.Errno.TheVariants.{EACCES, EEXIST, EINVAL, ENOSPC, ERANGE, ENOMSG, EIDRM}
+use Rattle.ipc_call.specs.declared.error.Errno.TheVariants.{EACCES, EEXIST, EINVAL, EFBIG, ENOSPC, ERANGE, ENOMSG, EIDRM}
 
 unfoldable pub row_of : Rule → Errno × List ℕ
 row_of NotOwner = (EPERM, codes "not-owner")
 row_of NeedsResource = (EPERM, codes "needs-resource")
 row_of NotSameUser = (EPERM, codes "not-same-user")
 row_of NoKey = (ENOENT, codes "no-key")
+row_of Ended = (ESRCH, codes "ended")
 row_of NoProcess = (ESRCH, codes "no-process")
 row_of Interrupted = (EINTR, codes "interrupted")
 row_of MessageTooLong = (E2BIG, codes "message-too-long")
+row_of TooManyOperations = (E2BIG, codes "too-many-operations")
 row_of QueueFull = (EAGAIN, codes "queue-full")
 row_of WouldWait = (EAGAIN, codes "would-wait")
 row_of OwnerBits = (EACCES, codes "owner-bits")
@@ -28,7 +31,11 @@ row_of KeyExists = (EEXIST, codes "key-exists")
 row_of BadId = (EINVAL, codes "bad-id")
 row_of BadType = (EINVAL, codes "bad-type")
 row_of TextTooLong = (EINVAL, codes "text-too-long")
+row_of BadSize = (EINVAL, codes "bad-size")
+row_of BadSem = (EINVAL, codes "bad-sem")
 row_of BadArgument = (EINVAL, codes "bad-argument")
+row_of NoOperations = (EINVAL, codes "no-operations")
+row_of SemOutOfSet = (EFBIG, codes "sem-out-of-set")
 row_of NoSlot = (ENOSPC, codes "no-slot")
 row_of ValueRange = (ERANGE, codes "value-range")
 row_of UndoRange = (ERANGE, codes "undo-range")

@@ -55,6 +55,54 @@ pub enum Call {
         msgtyp: i64,
         flags: u32,
     },
+    /// The set of a key (semget(2)), with at least `nsems` semaphores. Key 0 is IPC_PRIVATE and creates a set of
+    /// `nsems` semaphores each time. The flags are those of `MsgGet`.
+    SemGet {
+        key: u32,
+        nsems: u32,
+        flags: u32,
+    },
+    /// Carries out operations on the semaphores of a set, all or none (semop(2)): at least 1, at most SEMOPM.
+    /// Each has flags of its own.
+    SemOp {
+        id: u32,
+        ops: Items<SemOper>,
+    },
+    /// Reports the value of a semaphore (GETVAL of semctl(2)).
+    GetVal {
+        id: u32,
+        num: u32,
+    },
+    /// Reports the process that set a semaphore last (GETPID of semctl(2)).
+    GetPid {
+        id: u32,
+        num: u32,
+    },
+    /// Reports how many calls wait for a semaphore to rise (GETNCNT of semctl(2)).
+    GetNcnt {
+        id: u32,
+        num: u32,
+    },
+    /// Reports how many calls wait for a semaphore to become 0 (GETZCNT of semctl(2)).
+    GetZcnt {
+        id: u32,
+        num: u32,
+    },
+    /// Reports the values of all semaphores of a set (GETALL of semctl(2)).
+    GetAll {
+        id: u32,
+    },
+    /// Sets a semaphore to a value of 0 to SEMVMX, 32767 (SETVAL of semctl(2)).
+    SetVal {
+        id: u32,
+        num: u32,
+        value: i32,
+    },
+    /// Sets the semaphores of a set to as many values of 0 to SEMVMX (SETALL of semctl(2)).
+    SetAll {
+        id: u32,
+        values: Items<i32>,
+    },
     /// Reports the state of an object (IPC_STAT of msgctl(2)).
     IpcStat {
         kind: Kind,
@@ -80,6 +128,9 @@ pub enum Call {
     Interrupt {
         pid: u32,
     },
+    /// Ends the process of the client (_exit(2)). What its semops with `SEM_UNDO` left to undo is added to the
+    /// values (semadj of semop(2)).
+    Exit,
 }
 
 impl Call {
@@ -114,6 +165,21 @@ impl Call {
                 msgtyp,
                 flags,
             },
+            Call::SemGet { key, nsems, flags } => Call::SemGet { key, nsems, flags },
+            Call::SemOp { id, ref ops } => {
+                let ops = ops.copy()?;
+                Call::SemOp { id, ops }
+            }
+            Call::GetVal { id, num } => Call::GetVal { id, num },
+            Call::GetPid { id, num } => Call::GetPid { id, num },
+            Call::GetNcnt { id, num } => Call::GetNcnt { id, num },
+            Call::GetZcnt { id, num } => Call::GetZcnt { id, num },
+            Call::GetAll { id } => Call::GetAll { id },
+            Call::SetVal { id, num, value } => Call::SetVal { id, num, value },
+            Call::SetAll { id, ref values } => {
+                let values = values.copy()?;
+                Call::SetAll { id, values }
+            }
             Call::IpcStat { kind, id } => Call::IpcStat { kind, id },
             Call::IpcSet {
                 kind,
@@ -132,6 +198,7 @@ impl Call {
             },
             Call::IpcRmid { kind, id } => Call::IpcRmid { kind, id },
             Call::Interrupt { pid } => Call::Interrupt { pid },
+            Call::Exit => Call::Exit,
         })
     }
 }

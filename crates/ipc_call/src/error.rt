@@ -26,6 +26,8 @@ pub enum Errno {
     EEXIST = 17,
     /// Invalid argument.
     EINVAL = 22,
+    /// File too large: a set has no such semaphore.
+    EFBIG = 27,
     /// No space left on device: no slot is usable.
     ENOSPC = 28,
     /// Result too large.
@@ -61,6 +63,7 @@ impl Errno {
             Errno::EACCES => "EACCES",
             Errno::EEXIST => "EEXIST",
             Errno::EINVAL => "EINVAL",
+            Errno::EFBIG => "EFBIG",
             Errno::ENOSPC => "ENOSPC",
             Errno::ERANGE => "ERANGE",
             Errno::ENOMSG => "ENOMSG",

@@ -21,7 +21,7 @@ pub use flags::{
 pub use items::Items;
 pub use limits::{Limit, Limits};
 pub use replies::{
-    Answer, Ended, JournalRow, Memory, Outcome, QueueStatus, Reply, Status, Waiting,
+    Answer, Ended, JournalRow, Memory, Outcome, QueueStatus, Reply, SetStatus, Status, Waiting,
 };
 pub use rules::{Rule, errno};
 pub use settings::Settings;

@@ -36,14 +36,34 @@ pub struct QueueStatus {
     pub ctime: u64,
 }
 
-/// The state of an object, by its kind (msgctl(2)).
+/// The state of a semaphore set (semid_ds of semctl(2)).
+#[derive(Clone, Copy, Debug, PartialEq, Eq)]
+pub struct SetStatus {
+    pub key: u32,
+    pub uid: u32,
+    pub gid: u32,
+    pub cuid: u32,
+    pub cgid: u32,
+    /// The nine bits.
+    pub mode: u16,
+    /// How many semaphores it has.
+    pub nsems: u64,
+    /// When a semop was granted last, in seconds, 0 where none was.
+    pub otime: u64,
+    /// When the set was created, its owner set or a value set by SETVAL or SETALL last.
+    pub ctime: u64,
+}
+
+/// The state of an object, by its kind (msgctl(2), semctl(2)).
 #[derive(Clone, Copy, Debug, PartialEq, Eq)]
 pub enum Status {
     /// Of a message queue.
     Queue(QueueStatus),
+    /// Of a semaphore set.
+    Set(SetStatus),
 }
 
-/// What a granted call returns (msgget(2), msgop(2), msgctl(2)).
+/// What a granted call returns (msgget(2), msgop(2), msgctl(2), semget(2), semctl(2)).
 #[derive(Debug, Drop, PartialEq)]
 pub enum Answer {
     /// The identifier of an object, at most 2147483647.
@@ -54,6 +74,10 @@ pub enum Answer {
     Message { mtype: i64, text: Items<u8> },
     /// The state of an object.
     Status(Status),
+    /// What a semaphore of a set has.
+    Value(u32),
+    /// The values of all semaphores of a set.
+    Values(Items<u16>),
 }
 
 /// How a call ended: granted with an answer, or refused by a rule.

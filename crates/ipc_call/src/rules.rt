@@ -5,7 +5,7 @@ ghost use Rattle.ipc_call.specs.Rules.{error_of, name_of_rule, number_of};
 
 use crate::error::Errno;
 
-/// Why a call was refused. Each error is that of POSIX.1-2017 XSH msgget, msgsnd, msgrcv, msgctl or semop, and of
+/// Why a call was refused. Each error is that of POSIX.1-2017 XSH msgget, msgsnd, msgrcv, msgctl, semget, semop or semctl, and of
 /// Linux.
 #[derive(Clone, Copy, Debug, PartialEq, Eq)]
 pub enum Rule {
@@ -17,12 +17,16 @@ pub enum Rule {
     NotSameUser,
     /// The key has no object, and `IPC_CREAT` isn't given.
     NoKey,
-    /// No client has this process.
+    /// The client has ended.
+    Ended,
+    /// No client has this process, or the one that has it has ended.
     NoProcess,
     /// The waiting call was interrupted.
     Interrupted,
     /// The text of the message that is chosen is longer than asked for, and `MSG_NOERROR` isn't given.
     MessageTooLong,
+    /// More operations are given than SEMOPM.
+    TooManyOperations,
     /// The queue is full for the message.
     QueueFull,
     /// An operation of semop with `IPC_NOWAIT` can't go on now.
@@ -41,11 +45,20 @@ pub enum Rule {
     BadType,
     /// The text of a message is longer than MSGMAX.
     TextTooLong,
+    /// The number of semaphores is none for a new set, above SEMMSL, or above that of the set; or as many values as the
+    /// set has semaphores aren't given.
+    BadSize,
+    /// The set has no semaphore of this number.
+    BadSem,
     /// `msg_qbytes` is given for an object that is no queue.
     BadArgument,
+    /// No operation is given.
+    NoOperations,
+    /// An operation names a semaphore that the set doesn't have.
+    SemOutOfSet,
     /// Each slot of the kind holds an object or is retired.
     NoSlot,
-    /// The value of a semaphore would rise above SEMVMX, 32767.
+    /// The value of a semaphore would rise above SEMVMX, 32767, or one that isn't 0 to SEMVMX is given.
     ValueRange,
     /// An operation with `SEM_UNDO` would take the caller's semadj of a semaphore out of -32768 to 32767.
     UndoRange,
@@ -80,9 +93,11 @@ impl Rule {
             Rule::NeedsResource => (Errno::EPERM, "needs-resource"),
             Rule::NotSameUser => (Errno::EPERM, "not-same-user"),
             Rule::NoKey => (Errno::ENOENT, "no-key"),
+            Rule::Ended => (Errno::ESRCH, "ended"),
             Rule::NoProcess => (Errno::ESRCH, "no-process"),
             Rule::Interrupted => (Errno::EINTR, "interrupted"),
             Rule::MessageTooLong => (Errno::E2BIG, "message-too-long"),
+            Rule::TooManyOperations => (Errno::E2BIG, "too-many-operations"),
             Rule::QueueFull => (Errno::EAGAIN, "queue-full"),
             Rule::WouldWait => (Errno::EAGAIN, "would-wait"),
             Rule::OwnerBits => (Errno::EACCES, "owner-bits"),
@@ -92,7 +107,11 @@ impl Rule {
             Rule::BadId => (Errno::EINVAL, "bad-id"),
             Rule::BadType => (Errno::EINVAL, "bad-type"),
             Rule::TextTooLong => (Errno::EINVAL, "text-too-long"),
+            Rule::BadSize => (Errno::EINVAL, "bad-size"),
+            Rule::BadSem => (Errno::EINVAL, "bad-sem"),
             Rule::BadArgument => (Errno::EINVAL, "bad-argument"),
+            Rule::NoOperations => (Errno::EINVAL, "no-operations"),
+            Rule::SemOutOfSet => (Errno::EFBIG, "sem-out-of-set"),
             Rule::NoSlot => (Errno::ENOSPC, "no-slot"),
             Rule::ValueRange => (Errno::ERANGE, "value-range"),
             Rule::UndoRange => (Errno::ERANGE, "undo-range"),
