@@ -1,17 +1,16 @@
 -- A table and its image: look-ups, changes, and the next identifier.
-use Rattle.std.proofs.Common.{◌≡◌, ℕ, Bool, true, false, cond, List, [], ◌∷◌, map, refl, sym, ap, ◌∙◌, subst, Option, Some, None}
+use Rattle.std.proofs.Common.{◌≡◌, ℕ, Bool, true, false, cond, List, [], ◌∷◌, map, refl, sym, ap, arith, ◌∙◌, subst, Option, Some, None}
 use Rattle.std.specs.Prelude.{◌&&◌, not, T, is_none, nat_eq, option_map}
 use Rattle.std.specs.Ordering.{nat_cmp, is_lt, eq_by_cmp}
 use Rattle.std.specs.FinMap as finite
-use Rattle.std.proofs.lemmas.Cmp.{nat_cmp_total}
-use Rattle.ipc_ids.specs.Images.{image, map_values}
+use Rattle.ipc_ids.specs.Images.{image, map_entries, map_values}
 use Rattle.ipc_ids.specs.Table.{Table, empty_table, id_at, is_retired, is_usable, least_from, next_id, object_at, with_object, without_object}
-use Rattle.ipc_ids.proofs.Ids.{get-inserted, get-removed, same_maps}
+use Rattle.ipc_ids.proofs.Ids.{get-inserted, get-removed, same_maps, tied_eq}
 
--- a list of entries whose values are replaced
-module _ {X Y : Type 0} (f : X → Y) where
+-- a list of entries whose values are replaced, each by its key
+module _ {X Y : Type 0} (f : ℕ → X → Y) where
   abbrev replaced : List (ℕ × X) → List (ℕ × Y)
-  replaced es = map (λ (e : ℕ × X). (e.0, f e.1)) es
+  replaced es = map (λ (e : ℕ × X). (e.0, f e.0 e.1)) es
 
   below-replaced : (x : ℕ) (es : List (ℕ × X)) → finite.Entries.below_all nat_cmp x (replaced es) ≡ finite.Entries.below_all nat_cmp x es
   below-replaced x [] = refl
@@ -21,18 +20,25 @@ module _ {X Y : Type 0} (f : X → Y) where
   sorted-replaced [] = refl
   sorted-replaced (e ∷ es) = λ i. below-replaced e.0 es i && sorted-replaced es i
 
-  find-replaced : (q : ℕ) (es : List (ℕ × X)) → finite.find nat_cmp q (replaced es) ≡ option_map f (finite.find nat_cmp q es)
+  find-replaced : (q : ℕ) (es : List (ℕ × X)) → finite.find nat_cmp q (replaced es) ≡ option_map (f q) (finite.find nat_cmp q es)
   find-replaced q [] = refl
-  find-replaced q (e ∷ es) = ap (λ o. cond (eq_by_cmp nat_cmp q e.0) (Some (f e.1)) o) (find-replaced q es) ∙ by_test (eq_by_cmp nat_cmp q e.0) e.1 (finite.find nat_cmp q es)
+  find-replaced q (e ∷ es) = ap (λ o. cond (eq_by_cmp nat_cmp q e.0) (Some (f e.0 e.1)) o) (find-replaced q es) ∙ by_test (eq_by_cmp nat_cmp q e.0) refl e.1 (finite.find nat_cmp q es)
     where
-      by_test : (b : Bool) (x : X) (o : Option X) → cond b (Some (f x)) (option_map f o) ≡ option_map f (cond b (Some x) o)
-      by_test true x o = refl
-      by_test false x o = refl
+      by_test : (b : Bool) → eq_by_cmp nat_cmp q e.0 ≡ b → (x : X) (o : Option X) → cond b (Some (f e.0 x)) (option_map (f q) o) ≡ option_map (f q) (cond b (Some x) o)
+      by_test true is x o = let same : e.0 ≡ q = let tied : nat_eq q e.0 ≡ true = sym (tied_eq q e.0) ∙ is in grind arith in ap (λ k. Some (f k x)) same
+      by_test false is x o = refl
 
-  pub get-image : (m : finite.FinMap nat_cmp X) (q : ℕ) → finite.get (map_values f m) q ≡ option_map f (finite.get m q)
-  get-image m q =
+  get-replaced : (m : finite.FinMap nat_cmp X) (q : ℕ) → finite.get {R = nat_cmp} (finite.from_sorted (replaced (finite.entries m))) q ≡ option_map (f q) (finite.get m q)
+  get-replaced m q =
       finite.get-from_sorted nat_cmp (replaced (finite.entries m)) q (subst T (sym (sorted-replaced (finite.entries m))) (finite.entries_sorted m))
-      ∙ find-replaced q (finite.entries m) ∙ ap (option_map f) (sym (finite.get-entries m q))
+      ∙ find-replaced q (finite.entries m) ∙ ap (option_map (f q)) (sym (finite.get-entries m q))
+
+  pub get-entries : (t : Table X) (q : ℕ) → finite.get (map_entries f t).objects q ≡ option_map (f q) (finite.get t.objects q)
+  get-entries t q = get-replaced t.objects q
+
+module _ {X Y : Type 0} (f : X → Y) where
+  pub get-image : (m : finite.FinMap nat_cmp X) (q : ℕ) → finite.get (map_values f m) q ≡ option_map f (finite.get m q)
+  get-image m q = get-replaced (λ _. f) m q
 
   map-cond-some : (b : Bool) (x : X) (o : Option X) → option_map f (cond b (Some x) o) ≡ cond b (Some (f x)) (option_map f o)
   map-cond-some true x o = refl

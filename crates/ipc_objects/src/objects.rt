@@ -142,7 +142,7 @@ impl<T: Drop> Objects<T> {
     }
 
     /// The contents of the object of the identifier, to be changed. Permissions and times aren't lent: only
-    /// `set_owner` and `free_key` change them.
+    /// `set_owner`, `set_time` and `free_key` change them.
     pub fn contents_mut(&mut self, id: u32) -> Option<&mut T>
         ensures* writes_back { sem 𝓛 (lends_contents T.row self.entry id result) }
         ensures value { option_copied_mut result ≡ contents_of self.old id }
@@ -163,6 +163,17 @@ impl<T: Drop> Objects<T> {
         object.perm.gid = owner.gid;
         object.perm.mode = owner.mode;
         object.change_time = now;
+    }
+
+    /// Sets the time of change of the object of the identifier, in seconds (SETVAL and SETALL of semctl(2)).
+    pub fn set_time(&mut self, id: u32, now: u64)
+        requires { IsSome (map.get self.old.objects id) }
+        ensures { self.new ≡ changed self.old id (λ object. record object { change_time = now }) }
+    {
+        match self.slots.get_mut(id) {
+            None => unreachable!(),
+            Some(object) => object.change_time = now,
+        }
     }
 
     /// Takes the key from the object of the identifier: its key is 0 from then on, and a new object may have

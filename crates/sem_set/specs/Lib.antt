@@ -1,3 +1,4 @@
+pub mod Exits
 pub mod Met
 pub mod Sets
 pub mod Trials

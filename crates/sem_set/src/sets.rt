@@ -2,9 +2,11 @@
 
 ghost use Rattle.std.specs.Prelude.{◌≡◌, ◌<◌, true, length, map, replicate, slice_set, IfOk};
 ghost use Rattle.std.specs.List.{list_all};
+ghost use Rattle.sem_set.specs.Exits.{any_from, undone_from};
 ghost use Rattle.sem_set.specs.Sets.{is_value, pid_of, set_to, value_of, zeroed};
 ghost use Rattle.sem_set.specs.Trials.{adj_in, are_in, trial_on, GoAtSome, committed};
 
+use crate::exits::undo;
 use crate::trials::{Met, Trial, apply, run};
 use ipc_call::{Memory, SemOper};
 use std::alloc::Global;
@@ -124,5 +126,15 @@ impl SemSet {
         ensures { self.new ≡ committed ops.now pid self.old }
     {
         apply(&mut self.semaphores, ops, pid);
+    }
+
+    /// Adds to each value the semadj of its number in a row, past whose end each is 0, as the exit of this process does,
+    /// and brings it into 0 to SEMVMX, 32767 (semop(2), SEM_UNDO). Whether one wasn't 0. The time is linear in the
+    /// semaphores.
+    pub fn undo(&mut self, adjs: &[i32], pid: u32) -> bool
+        ensures left { self.new ≡ undone_from (adj_in adjs.now) pid 0 self.old }
+        ensures any { result ≡ any_from (adj_in adjs.now) 0 self.old }
+    {
+        undo(&mut self.semaphores, adjs, pid)
     }
 }

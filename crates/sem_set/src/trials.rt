@@ -21,7 +21,7 @@ use crate::sets::Semaphore;
 use ipc_call::{Rule, SemOper, may_wait, undoes};
 
 /// The greatest value of a semaphore.
-const SEMVMX: i64 = 32767;
+pub(crate) const SEMVMX: i64 = 32767;
 
 /// What a trial of operations tells (semop(2)).
 #[derive(Clone, Copy, Debug, PartialEq, Eq)]
@@ -135,7 +135,7 @@ fn met_first(semaphores: &[Semaphore], adjs: &[i32], num: usize) -> Met
 }
 
 /// The semadj of a semaphore number in a row; past its end 0.
-fn adj_at(adjs: &[i32], num: usize) -> i32
+pub(crate) fn adj_at(adjs: &[i32], num: usize) -> i32
     ensures { result ≡ adj_in adjs.now num }
 {
     match adjs.get(num) {

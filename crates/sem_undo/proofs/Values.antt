@@ -1,5 +1,5 @@
 -- What the value of an `Undo` becomes where one of its rows changes.
-use Rattle.std.proofs.Common.{◌≡◌, ◌∙◌, ℕ, zero, suc, ◌<◌, ◌≤◌, ap, arith, refl, sym, Bool, true, false, List, [], length, replicate, set, ⊎_elim}
+use Rattle.std.proofs.Common.{◌≡◌, ◌∙◌, ℕ, zero, suc, ◌<◌, ◌≤◌, ap, arith, refl, sym, Bool, true, false, List, [], ◌∷◌, ◌++◌, ◌+◌, ◌-◌, length, length-append, replicate, set, ⊎_elim}
 use Rattle.std.specs.Prelude.{ℤ, pos, Option, Some, None, unwrap_or, if◌then◌else◌}
 use Rattle.std.specs.Ordering.{int_eq}
 use Rattle.std.specs.FinMap as finite
@@ -8,8 +8,8 @@ use Rattle.std.proofs.lemmas.Bool.{cases_Bool, cases_lt}
 use Rattle.std.proofs.lemmas.Int.{ints}
 use Rattle.std.proofs.lemmas.List.{length-replicate}
 use Rattle.sem_undo.specs.Entries.{Place, Undone, adj_of, nothing_undone, row_len, with_adj}
-use Rattle.sem_undo.specs.Rows.{AreOfClients, adj_in, entries_in, is_here, lens_in, row_in, undone_in}
-use Rattle.sem_undo.proofs.Changes.{entries_are, entries_written, lens_are, lens_place, lens_written, size}
+use Rattle.sem_undo.specs.Rows.{AreOfClients, adj_in, entries_in, grown, is_here, lens_in, row_in, undone_in}
+use Rattle.sem_undo.proofs.Changes.{entries_are, entries_written, lens_are, lens_place, lens_written}
 use Rattle.sem_undo.proofs.Entries.{entry_of, get_entries, get_lens, key, place}
 use Rattle.sem_undo.proofs.Keys.{get_put_place, get_put_place_apart}
 
@@ -20,7 +20,7 @@ undone_none = refl
 is_zero : (z : ℤ) → int_eq z (pos 0) ≡ true → pos 0 ≡ z
 is_zero z h = grind (arith, ints)
 
-entry_adj : (z : ℤ) → unwrap_or (entry_of z) (pos 0) ≡ z
+pub entry_adj : (z : ℤ) → unwrap_or (entry_of z) (pos 0) ≡ z
 entry_adj z =
     ⊎_elim
     (λ (h : int_eq z (pos 0) ≡ true). ap (λ (b : Bool). unwrap_or (if b then None else Some z) (pos 0)) h ∙ is_zero z h)
@@ -32,13 +32,18 @@ zeros zero k = refl
 zeros (suc n) zero = refl
 zeros (suc n) (suc k) = zeros n k
 
-made : (o : Option (List ℤ)) (n k : ℕ) → adj_in (unwrap_or o (replicate n (pos 0))) k ≡ adj_in (unwrap_or o []) k
-made None n k = zeros n k
-made (Some r) n k = refl
+-- past the row, zeros are as good as nothing
+grown_adj_by : (row : List ℤ) (n k : ℕ) → adj_in (row ++ replicate n (pos 0)) k ≡ adj_in row k
+grown_adj_by [] n k = zeros n k
+grown_adj_by (adj ∷ row) n zero = refl
+grown_adj_by (adj ∷ row) n (suc k) = grown_adj_by row n k
 
-made_len : (o : Option (List ℤ)) (n : ℕ) → length (unwrap_or o (replicate n (pos 0))) ≡ unwrap_or (size o) n
-made_len None n = length-replicate n (pos 0)
-made_len (Some r) n = refl
+grown_adj : (row : List ℤ) (nsems k : ℕ) → adj_in (grown nsems row) k ≡ adj_in row k
+grown_adj row nsems k = grown_adj_by row (nsems - length row) k
+
+grown_len : (row : List ℤ) (nsems : ℕ) → length row ≤ nsems → length (grown nsems row) ≡ nsems
+grown_len row nsems within =
+    length-append row (replicate (nsems - length row) (pos 0)) ∙ ap (λ n. length row + n) (length-replicate (nsems - length row) (pos 0)) ∙ (let e : length row + (nsems - length row) ≡ nsems = omega arith in e)
 
 pub few_of : (es : List (Place × Vec ℤ)) (client at num : ℕ) → AreOfClients es → num < length (unwrap_or (row_in es client at) []) → client < 64
 few_of es client at num of h =
@@ -67,14 +72,15 @@ module _ (es : List (Place × Vec ℤ)) (u : Undone) (e : undone_in es ≡ u) (c
         rows = (lens_written es es' client at num adj within is ∙ ap (λ (v : Undone). v.rows) e) i;
       }
 
-  pub ensured_value : (es' : List (Place × Vec ℤ)) (nsems : ℕ) → ((c s : ℕ) → row_in es' c s ≡ (if is_here client at c s then Some (unwrap_or (row_in es client at) (replicate nsems (pos 0))) else row_in es c s)) → undone_in es' ≡ record u { rows = finite.insert u.rows (place client at) (unwrap_or (finite.get u.rows (place client at)) nsems) }
-  ensured_value es' nsems is =
-      let same : entries_in es' ≡ entries_in es = entries_are es es' client at (Some (unwrap_or (row_in es client at) (replicate nsems (pos 0)))) is (entries_in es) (λ n. ap entry_of (made (row_in es client at) nsems n) ∙ sym (get_entries es client at n)) (λ q ne. refl) in
-      let lens : lens_in es' ≡ finite.insert (lens_in es) (place client at) (unwrap_or (finite.get (lens_in es) (place client at)) nsems) =
-      lens_are es es' client at (Some (unwrap_or (row_in es client at) (replicate nsems (pos 0)))) is (finite.insert (lens_in es) (place client at) (unwrap_or (finite.get (lens_in es) (place client at)) nsems))
-      (ap (λ (n : ℕ). Some n) (made_len (row_in es client at) nsems ∙ ap (λ (o : Option ℕ). unwrap_or o nsems) (sym (get_lens es client at))) ∙ sym (get_put_place (lens_in es) (place client at) (unwrap_or (finite.get (lens_in es) (place client at)) nsems)))
-      (λ p ne. sym (get_put_place_apart (lens_in es) (place client at) (unwrap_or (finite.get (lens_in es) (place client at)) nsems) p (λ q. ne (ap (λ (x : Place). x.client) q) (ap (λ (x : Place). x.set) q)))) in
+  pub grown_value : (es' : List (Place × Vec ℤ)) (nsems : ℕ) → length (unwrap_or (row_in es client at) []) ≤ nsems → ((c s : ℕ) → row_in es' c s ≡ (if is_here client at c s then Some (grown nsems (unwrap_or (row_in es client at) [])) else row_in es c s)) → undone_in es' ≡ record u { rows = finite.insert u.rows (place client at) nsems }
+  grown_value es' nsems within is =
+      let row = unwrap_or (row_in es client at) [] in
+      let same : entries_in es' ≡ entries_in es = entries_are es es' client at (Some (grown nsems row)) is (entries_in es) (λ n. ap entry_of (grown_adj row nsems n) ∙ sym (get_entries es client at n)) (λ q ne. refl) in
+      let lens : lens_in es' ≡ finite.insert (lens_in es) (place client at) nsems =
+      lens_are es es' client at (Some (grown nsems row)) is (finite.insert (lens_in es) (place client at) nsems)
+      (ap (λ (n : ℕ). Some n) (grown_len row nsems within) ∙ sym (get_put_place (lens_in es) (place client at) nsems))
+      (λ p ne. sym (get_put_place_apart (lens_in es) (place client at) nsems p (λ q. ne (ap (λ (x : Place). x.client) q) (ap (λ (x : Place). x.set) q)))) in
       λ i. record {
         entries = (same ∙ ap (λ (v : Undone). v.entries) e) i;
-        rows = (lens ∙ ap (λ (v : Undone). finite.insert v.rows (place client at) (unwrap_or (finite.get v.rows (place client at)) nsems)) e) i;
+        rows = (lens ∙ ap (λ (v : Undone). finite.insert v.rows (place client at) nsems) e) i;
       }

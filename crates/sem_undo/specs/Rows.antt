@@ -1,6 +1,6 @@
 -- The rows that entries are kept in.
-use Rattle.std.specs.Prelude.{◌≡◌, ◌≤◌, ◌==◌, ◌&&◌, nat_lt, ℕ, ◌+◌, ℤ, pos, Bool, if◌then◌else◌}
-use Rattle.std.specs.Prelude.{List, [], ◌∷◌, length, replicate, slice_set, slice_index_or}
+use Rattle.std.specs.Prelude.{◌≡◌, ◌≤◌, ◌==◌, ◌&&◌, nat_lt, ℕ, ◌+◌, ◌-◌, ℤ, pos, Bool, if◌then◌else◌}
+use Rattle.std.specs.Prelude.{List, [], ◌∷◌, ◌++◌, length, replicate, slice_set, slice_index_or}
 use Rattle.std.specs.Prelude.{Option, None, option_map, unwrap_or}
 use Rattle.std.specs.BTreeMap as tree
 use Rattle.std.specs.FinMap as finite
@@ -28,6 +28,10 @@ row_at u client set = unwrap_or (row_of u client set) []
 
 abbrev pub is_here : ℕ → ℕ → ℕ → ℕ → Bool
 is_here client set c s = tree.is_at (place_cmp (record { client = client; set = set })) (record { client = c; set = s })
+
+-- a row with zeros at its end, as long as this or longer
+abbrev pub grown : ℕ → List ℤ → List ℤ
+grown nsems row = row ++ replicate (nsems - length row) (pos 0)
 
 -- the entries of a row from this number on, over others
 unfoldable pub over_row : ℕ → ℕ → ℕ → List ℤ → Entries → Entries

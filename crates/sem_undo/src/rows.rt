@@ -1,8 +1,8 @@
 //! Rows of semadj by client and set.
 
-ghost use Rattle.std.specs.Prelude.{◌≡◌, ◌<◌, ℕ, [], length, pos, replicate, unwrap_or};
-ghost use Rattle.std.specs.Prelude.{if◌then◌else◌, slice_set, IfNone, IfSome, IsSome, OnErr, OnOk};
-ghost use Rattle.sem_undo.specs.Rows.{is_here, removed, row_at, row_of, with_each, zeroed, zeroed_at};
+ghost use Rattle.std.specs.Prelude.{◌≡◌, ◌<◌, ◌≤◌, ℕ, [], length, pos, replicate};
+ghost use Rattle.std.specs.Prelude.{if◌then◌else◌, slice_set, IfNone, IfOk, IfSome, IsSome, OnErr, OnOk};
+ghost use Rattle.sem_undo.specs.Rows.{grown, is_here, removed, row_at, row_of, with_each, zeroed, zeroed_at};
 
 use ipc_call::Memory;
 use std::alloc::Global;
@@ -19,7 +19,7 @@ pub(crate) struct Place {
 }
 
 /// The rows, each of the semadj of a client by semaphore number.
-#[derive(Drop)]
+#[derive(Debug, Drop)]
 pub(crate) struct Rows {
     rows: BTreeMap<Place, Vec<i32>>,
 }
@@ -43,25 +43,23 @@ impl Rows {
         }
     }
 
-    /// Makes a row of zeros where there is none.
-    pub(crate) fn ensure(
+    /// Makes the row of a client at a set as long as this, where it is no longer; the semadj that are new are 0.
+    pub(crate) fn grow(
         &mut self,
         alloc: Global,
         client: u32,
         set: u32,
         nsems: usize,
     ) -> Result<(), Memory>
+        requires { length (row_at self.old client set) ≤ nsems }
         ensures ok { OnOk result ((c s : ℕ) → row_of self.new c s
             ≡ (if is_here client set c s
-            then Some (unwrap_or (row_of self.old client set) (replicate nsems (pos 0)))
+            then Some (grown nsems (row_at self.old client set))
             else row_of self.old c s)) }
         ensures err { OnErr result (self.new.rows.entries ≡ self.old.rows.entries) }
     {
-        let place = Place { client, set };
-        if !self.rows.contains_key(&place) {
-            let row = vec![in alloc; 0i32; nsems]?;
-            self.rows.insert(place, row)?;
-        }
+        let row = grown_row(alloc, self.row(client, set), nsems)?;
+        self.rows.insert(Place { client, set }, row)?;
         Ok(())
     }
 
@@ -162,6 +160,17 @@ impl Rows {
     {
         self.rows.remove(&Place { client, set });
     }
+}
+
+/// A row that begins as this one, with zeros up to its length.
+fn grown_row(alloc: Global, row: &[i32], nsems: usize) -> Result<Vec<i32>, Memory>
+    requires { length row.now ≤ nsems }
+    ensures { IfOk result (λ longer. longer.items ≡ grown nsems row.now) }
+{
+    let mut longer = Vec::with_capacity(alloc, nsems)?;
+    longer.extend_from_slice(row)?;
+    longer.resize(nsems, 0)?;
+    Ok(longer)
 }
 
 /// Sets each semadj to 0.

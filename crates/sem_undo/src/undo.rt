@@ -1,7 +1,7 @@
 //! The semadj of all clients.
 
-ghost use Rattle.std.specs.Prelude.{◌≡◌, ◌==◌, ◌<◌, ◌≤ℤ◌, ◌-ℤ◌, neg_ℤ, ℕ, length, not};
-ghost use Rattle.std.specs.Prelude.{pos, true, unwrap_or, IfNone, IfSome, OnErr, OnOk};
+ghost use Rattle.std.specs.Prelude.{◌≡◌, ◌==◌, ◌<◌, ◌≤ℤ◌, ◌-ℤ◌, neg_ℤ, nat_lt, ℕ, length, not};
+ghost use Rattle.std.specs.Prelude.{if◌then◌else◌, pos, true, IfNone, IfSome, OnErr, OnOk};
 ghost use Rattle.std.specs.FinMap as finite;
 ghost use Rattle.sem_undo.specs.Entries.{adj_of, cleared, nothing_undone, row_len};
 ghost use Rattle.sem_undo.specs.Entries.{with_adj, without_client, without_row};
@@ -15,7 +15,7 @@ use std::marker::Model;
 /// What exit undoes (semop(2), SEM_UNDO). Contracts see the entries by client, set and semaphore number, each a semadj
 /// that isn't 0; and for which clients at which sets there is a row, memory for the entries to come, with its length.
 /// A client is a number below 64.
-#[derive(Drop)]
+#[derive(Debug, Drop)]
 pub struct Undo {
     rows: Rows,
 }
@@ -63,8 +63,8 @@ impl Undo {
         }
     }
 
-    /// Makes a row for the semaphores of a set, where the client has none there. The error comes only where an
-    /// allocation fails.
+    /// Makes a row for the semaphores of a set, where the client has none that is as long there. The error comes only
+    /// where an allocation fails.
     pub fn ensure_row(
         &mut self,
         alloc: Global,
@@ -73,13 +73,16 @@ impl Undo {
         nsems: usize,
     ) -> Result<(), Memory>
         requires { client < 64 }
-        ensures ok { OnOk result (self.new ≡ record self.old {
-          rows = finite.insert self.old.rows (record { client = client; set = set })
-              (unwrap_or (finite.get self.old.rows (record { client = client; set = set })) nsems);
-        }) }
+        ensures ok { OnOk result (self.new ≡ (if nat_lt (row_len self.old client set) nsems
+            then record self.old {
+              rows = finite.insert self.old.rows (record { client = client; set = set }) nsems;
+            }
+            else self.old)) }
         ensures err { OnErr result (self.new ≡ self.old) }
     {
-        self.rows.ensure(alloc, client, set, nsems)?;
+        if self.row(client, set).len() < nsems {
+            self.rows.grow(alloc, client, set, nsems)?;
+        }
         Ok(())
     }
 
@@ -98,12 +101,12 @@ impl Undo {
     }
 
     /// Clears the entries of a semaphore, those of every client (semctl(2), SETVAL). The rows stay.
-    pub fn clear(&mut self, set: u32, num: u16)
+    pub fn clear(&mut self, set: u32, num: u32)
         ensures { self.new ≡ record self.old {
           entries = cleared self.old.entries set (λ n. n == num);
         } }
     {
-        self.rows.clear(set, usize::from(num));
+        self.rows.clear(set, num as usize);
     }
 
     /// Clears the entries of all semaphores of a set, those of every client (semctl(2), SETALL). The rows stay.
