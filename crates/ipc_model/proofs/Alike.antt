@@ -1,10 +1,10 @@
 -- Plans that are the same but for what they change: they decide alike, and need the same.
-use Rattle.std.proofs.Common.{◌≡◌, refl, sym, ap, ◌∙◌, Option, Some, None}
+use Rattle.std.proofs.Common.{◌≡◌, List, [], ◌∷◌, refl, sym, ap, ◌∙◌, Option, Some, None}
 use Rattle.ipc_call.specs.declared.rules.Rule.{Rule}
 use Rattle.ipc_creds.specs.Credentials.{Credentials}
 use Rattle.ipc_model.specs.Decision.{Decision, proceeds}
 use Rattle.ipc_model.specs.Decision as decisions
-use Rattle.ipc_model.specs.Plan.{IsPlain, Plan, checks_in, decision, found, needs_among, needs_in, on_part, ◌⨾◌}
+use Rattle.ipc_model.specs.Plan.{Check, IsPlain, Plan, checks_in, decision, found, in_order, needs_among, needs_in, on_part, ◌⨾◌}
 use Rattle.ipc_model.specs.Plan as plans
 use Rattle.ipc_model.proofs.Plans.{checks-on, decision-on, on_whole}
 
@@ -24,6 +24,10 @@ blank-on put (plans.Grant answer new) = refl
 pub blank-found : {X Y Z : Type 0} (o : Option X) (rule : Rule) (plain : IsPlain rule) (f : X → Plan Y) (g : X → Plan Z) → ((x : X) → blank (f x) ≡ blank (g x)) → blank (found o rule plain f) ≡ blank (found o rule plain g)
 blank-found None rule plain f g same = refl
 blank-found (Some x) rule plain f g same = same x
+
+pub blank-order : {X Y : Type 0} (checks : List Check) (p : Plan X) (q : Plan Y) → blank p ≡ blank q → blank (in_order checks p) ≡ blank (in_order checks q)
+blank-order [] p q same = same
+blank-order (check ∷ checks) p q same = ap (λ r. check ⨾ r) (blank-order checks p q same)
 
 -- plans that are the same but for what they change decide alike but for what they grant
 pub whole-alike : {X Y : Type 0} (c : Credentials) (p : Plan X) (q : Plan Y) → blank p ≡ blank q → on_whole nothing (decision c p) ≡ on_whole nothing (decision c q)

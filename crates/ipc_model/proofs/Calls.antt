@@ -1,47 +1,48 @@
 -- The calls, a line for each in three tables: on what a plan doesn't depend, which plans wait, and what a grant keeps.
 use Rattle.std.proofs.Common.{◌≡◌, ℕ, Bool, true, false, List, [], ◌∷◌, length, refl, sym, ap, ◌∙◌, Option, Some, None, ℤ}
-use Rattle.std.specs.Prelude.{if◌then◌else◌, ◌==◌, ◌||◌, pos, int_le, nat_le, option_map}
+use Rattle.std.specs.Prelude.{if◌then◌else◌, not, ◌==◌, ◌||◌, pos, int_le, nat_le, nat_lt, option_map}
 use Rattle.std.proofs.lemmas.Bool.{true≢false}
 use Rattle.ipc_call.specs.Flags.{has_flag, ipc_creat, msg_except}
 use Rattle.ipc_call.specs.declared.calls.Call.{Call}
-use Rattle.ipc_call.specs.declared.calls.Call.TheVariants.{MsgGet, MsgSnd, MsgRcv, IpcStat, IpcSet, IpcRmid, Interrupt}
+use Rattle.ipc_call.specs.declared.calls.Call.TheVariants.{MsgGet, MsgSnd, MsgRcv, SemGet, SemOp, GetVal, GetPid, GetNcnt, GetZcnt, GetAll, SetVal, SetAll, Exit, IpcStat, IpcSet, IpcRmid, Interrupt}
 use Rattle.ipc_call.specs.declared.calls.Kind.{Kind}
 use Rattle.ipc_call.specs.declared.calls.Kind.TheVariants as kinds
 use Rattle.ipc_call.specs.declared.settings.Settings.{Settings}
 use Rattle.ipc_call.specs.declared.replies.Answer.{Answer}
-use Rattle.ipc_call.specs.declared.replies.Answer.TheVariants.{Done, Status as StatusAnswer}
+use Rattle.ipc_call.specs.declared.replies.Answer.TheVariants.{Done, Id, Status as StatusAnswer}
 use Rattle.ipc_call.specs.declared.replies.Waiting.{Waiting}
-use Rattle.ipc_call.specs.declared.rules.Rule.TheVariants.{BadArgument, BadId, BadType, NoKey, NoProcess, NoSlot, TextTooLong}
+use Rattle.ipc_call.specs.declared.rules.Rule.TheVariants.{BadArgument, BadId, BadType, Ended, NoKey, NoOperations, NoProcess, NoSlot, SemOutOfSet, TextTooLong, TooManyOperations}
 use Rattle.ipc_perm.specs.Access.{Control, Need, Permission, Resource, to_read}
-use Rattle.ipc_ids.specs.Table.{Table, next_id}
+use Rattle.ipc_ids.specs.Table.{Table, next_id, without_object}
 use Rattle.ipc_objects.specs.declared.object.Object.{Object}
 use Rattle.msg_queue.specs.declared.messages.Message.{Message}
-use Rattle.ipc_model.specs.State.{Caller, Queue, Queues, State, caller, creds_at}
+use Rattle.ipc_model.specs.State.{Caller, Queue, Queues, SemSet, Sems, State, caller, creds_at, has_ended}
 use Rattle.ipc_model.specs.Decision.{proceeds}
-use Rattle.ipc_model.specs.Plan.{Needs, Passes, Plan, found, in_order, ◌⨾◌}
+use Rattle.ipc_model.specs.Plan.{Needs, Passes, Plan, decision, found, in_order, ◌⨾◌}
 use Rattle.ipc_model.specs.Plan as plans
-use Rattle.ipc_model.specs.Gets.{get_found, get_queue, new_queue, object_of_key, new_object}
+use Rattle.ipc_model.specs.Gets.{Getting, get, get_found, get_queue, get_set, getting_queue, getting_set, new_object, object_of_key}
 use Rattle.ipc_model.specs.Messages.{chosen, queue_at, receive_message, send_found, send_message, take_chosen, receive_found}
-use Rattle.ipc_model.specs.Interrupts.{process}
-use Rattle.ipc_model.specs.Controls.{is_within, perm_of, removed, status_of, takes_qbytes, with_set}
-use Rattle.ipc_model.specs.Decide.{OnQueues, can_wait, decide, part_plan, plan, whole}
+use Rattle.ipc_model.specs.Semaphores.{exited, get_all, get_pid, get_value, operate, operated, set_all, set_at, set_value, trial_checks, wanted_by}
+use Rattle.sem_set.specs.Trials.{are_in}
+use Rattle.sem_undo.specs.Entries.{adj_of}
+use Rattle.ipc_objects.specs.Objects.{changed}
+use Rattle.ipc_model.specs.Processes.{process}
+use Rattle.ipc_model.specs.Controls.{is_within, perm_of, removed, status_of, with_new_owner, with_set, with_settings, without_set}
+use Rattle.ipc_model.specs.Decide.{OnQueues, OnSems, can_wait, get_waiting, is_negative, is_zero, decide, decide_alive, part_plan, plan, plan_alive, whole}
 use Rattle.ipc_model.specs.Step.{at_time}
-use Rattle.ipc_model.proofs.Alike.{blank, blank-found, blank-on, proceeds-alike}
-use Rattle.ipc_model.proofs.Growing.{Grows, Grows-changed, Grows-gone, Grows-new, Grows-same, Keeps, Succeeds, Succeeds-same}
-use Rattle.ipc_model.proofs.Plans.{never-found, never-on, never_waits, proceeds-never, Ends, Ends-decision, Ends-found, Ends-on}
+use Rattle.ipc_model.proofs.Alike.{blank, blank-found, blank-on, blank-order, proceeds-alike}
+use Rattle.ipc_model.proofs.Growing.{Follows-queues, Follows-sems, Grows, Grows-changed, Grows-gone, Grows-mapped, Grows-new, Grows-same, Keeps, Succeeds, Succeeds-same}
+use Rattle.ipc_model.proofs.Plans.{never-found, never-on, never_waits, proceeds-never, Ends, Ends-decision, Ends-found, Ends-on, Ends-order}
 use Rattle.std.specs.FinMap as finite
 use Rattle.std.proofs.lemmas.Option.{none-some}
 use Rattle.ipc_perm.specs.declared.perms.Perm.{Perm}
 
--- a get: nothing in it waits, and of its caller only what it makes depends
-module _ {X : Type 0} (t : Table (Object X)) where
-  get-alike : (who other : Caller) (key flags : ℕ) (new : X) (there : Option (ℕ × Object X)) → blank (get_found t who key flags new there) ≡ blank (get_found t other key flags new there)
-  get-alike who other key flags new None = ap (λ p. Passes (key == 0 || has_flag flags ipc_creat) NoKey tt ⨾ p) (blank-found (next_id t) NoSlot tt _ _ (λ id. refl))
-  get-alike who other key flags new (Some there) = refl
-
-  never-get : (who : Caller) (key flags : ℕ) (new : X) (there : Option (ℕ × Object X)) → never_waits (get_found t who key flags new there) ≡ true
-  never-get who key flags new None = never-found (next_id t) NoSlot tt _ (λ id. refl)
-  never-get who key flags new (Some there) = refl
+-- a get: nothing in it waits, where nothing waits in the checks of its kind
+module _ {X : Type 0} (t : Table (Object X)) (getting : Getting X) (make : (p : Plan (Table (Object X))) → never_waits p ≡ true → never_waits (in_order getting.to_make p) ≡ true)
+    (find : (x : X) (p : Plan (Table (Object X))) → never_waits p ≡ true → never_waits (in_order (getting.to_find x) p) ≡ true) where
+  never-get : (who : Caller) (key flags : ℕ) (there : Option (ℕ × Object X)) → never_waits (get_found t who key flags getting there) ≡ true
+  never-get who key flags None = make _ (never-found (next_id t) NoSlot tt _ (λ id. refl))
+  never-get who key flags (Some there) = find there.1.contents (plans.Grant (Id there.0) t) refl
 
 module _ (queues : Queues) (who other : Caller) where
   send-alike : (id flags : ℕ) (message : Message) (queue : Option (Object Queue)) → blank (send_found queues who id flags message queue) ≡ blank (send_found queues other id flags message queue)
@@ -59,75 +60,64 @@ module _ (s : State) (parked : List Waiting) (clock : ℕ) where
   abbrev later : State
   later = record s { parked = parked; clock = clock }
 
-  perm-alike : (kind : Kind) (id : ℕ) → perm_of later kind id ≡ perm_of s kind id
-  perm-alike kinds.Queue id = refl
-  perm-alike kinds.Sems id = refl
-  perm-alike kinds.Segment id = refl
-
-  status-alike : (kind : Kind) (id : ℕ) → status_of later kind id ≡ status_of s kind id
-  status-alike kinds.Queue id = refl
-  status-alike kinds.Sems id = refl
-  status-alike kinds.Segment id = refl
-
-  resource-alike : (within : Bool) (new old : State) → blank (in_order (if within then [] else Needs Resource ∷ []) (plans.Grant Done new)) ≡ blank (in_order (if within then [] else Needs Resource ∷ []) (plans.Grant Done old))
-  resource-alike true new old = refl
-  resource-alike false new old = refl
-
-  -- a plan that asks something of the permissions of an object
-  named-alike : (kind : Kind) (id : ℕ) (need : Perm → Need) (answer : Answer) (new old : State)
-      → blank (found (perm_of later kind id) BadId tt (λ perm. Needs (need perm) ⨾ plans.Grant answer new)) ≡ blank (found (perm_of s kind id) BadId tt (λ perm. Needs (need perm) ⨾ plans.Grant answer old))
-  named-alike kind id need answer new old =
-      ap (λ o. blank (found o BadId tt (λ perm. Needs (need perm) ⨾ plans.Grant answer new))) (perm-alike kind id)
-      ∙ blank-found (perm_of s kind id) BadId tt _ _ (λ perm. refl)
-
   -- a plan of the queues, from two states with the same queues
   queues-alike : (p q : Plan Queues) → blank p ≡ blank q → blank (whole later (OnQueues p)) ≡ blank (whole s (OnQueues q))
   queues-alike p q same = blank-on (λ queues. record later { queues = queues }) p ∙ same ∙ sym (blank-on (λ queues. record s { queues = queues }) q)
 
-  pub plan-alike : (client : ℕ) (call : Call) → blank (plan later client call) ≡ blank (plan s client call)
+  sems-alike : (p q : Plan Sems) → blank p ≡ blank q → blank (whole later (OnSems p)) ≡ blank (whole s (OnSems q))
+  sems-alike p q same = blank-on (λ sems. record later { sems = sems }) p ∙ same ∙ sym (blank-on (λ sems. record s { sems = sems }) q)
+
+  -- of a call that may wait
+  alive-alike : (client : ℕ) (call : Call) → can_wait call ≡ true → blank (plan_alive later client call) ≡ blank (plan_alive s client call)
   unfolding part_plan
-  plan-alike client (MsgGet key flags) =
-      queues-alike (get_queue s.limits s.queues (caller later client) key flags) (get_queue s.limits s.queues (caller s client) key flags)
-      (get-alike s.queues (caller later client) (caller s client) key flags (new_queue s.limits) (object_of_key s.queues key))
-  plan-alike client (MsgSnd id mtype text flags) =
+  alive-alike client (MsgSnd id mtype text flags) can =
       let message : Message = record { mtype = mtype; text = text } in
       queues-alike (send_message s.limits s.queues (caller later client) id flags message) (send_message s.limits s.queues (caller s client) id flags message)
       (ap (λ p. Passes (int_le (pos 1) mtype) BadType tt ⨾ Passes (nat_le (length text) s.limits.msg_max) TextTooLong tt ⨾ p)
       (send-alike s.queues (caller later client) (caller s client) id flags message (queue_at s.queues id)))
-  plan-alike client (MsgRcv id size msgtyp flags) =
+  alive-alike client (MsgRcv id size msgtyp flags) can =
       queues-alike (receive_message s.queues (caller later client) id size msgtyp flags) (receive_message s.queues (caller s client) id size msgtyp flags)
       (blank-found (queue_at s.queues id) BadId tt _ _ (λ (queue : Object Queue).
       ap (λ p. Needs (Permission queue.perm to_read) ⨾ p)
       (take-alike s.queues (caller later client) (caller s client) id size flags queue.contents (chosen queue.contents.messages msgtyp (has_flag flags msg_except)))))
-  plan-alike client (IpcStat kind id) =
-      ap (λ o. blank (found o BadId tt (λ told. Needs (Permission told.0 to_read) ⨾ plans.Grant (StatusAnswer told.1) later))) (status-alike kind id)
-      ∙ blank-found (status_of s kind id) BadId tt _ _ (λ told. refl)
-  plan-alike client (IpcSet kind id uid gid mode qbytes) =
-      let set : Settings = record { uid = uid; gid = gid; mode = mode; qbytes = qbytes } in
-      let new = with_set later kind id set in
-      ap (λ p. Passes (takes_qbytes kind qbytes) BadArgument tt ⨾ p)
-      (ap (λ o. blank (found o BadId tt (λ perm. Needs (Control perm) ⨾ in_order (if is_within s qbytes then [] else Needs Resource ∷ []) (plans.Grant Done new)))) (perm-alike kind id)
-      ∙ blank-found (perm_of s kind id) BadId tt _ _ (λ perm. ap (λ p. Needs (Control perm) ⨾ p) (resource-alike (is_within s qbytes) new (with_set s kind id set))))
-  plan-alike client (IpcRmid kind id) = named-alike kind id (λ perm. Control perm) Done (removed later kind id) (removed s kind id)
-  plan-alike client (Interrupt pid) = blank-found (process s pid) NoProcess tt _ _ (λ target. refl)
+  alive-alike client (SemOp id ops) can =
+      sems-alike (operate s.limits s.sems (caller later client) id ops) (operate s.limits s.sems (caller s client) id ops)
+      (ap (λ p. Passes (nat_lt 0 (length ops)) NoOperations tt ⨾ Passes (nat_le (length ops) s.limits.sem_opm) TooManyOperations tt ⨾ p)
+      (blank-found (set_at s.sems id) BadId tt _ _ (λ (set : Object SemSet).
+      ap (λ p. Needs (Permission set.perm (wanted_by ops)) ⨾ Passes (are_in set.contents.semaphores ops) SemOutOfSet tt ⨾ p)
+      (blank-order (trial_checks set.contents.semaphores (adj_of s.sems.undo client id) [] ops) _ _ refl))))
+  alive-alike client call can = absurd (true≢false (sym can))
 
--- a call goes on or waits alike on any list of waiting calls, and at each time
-pub parked_alike : (s : State) (parked : List Waiting) (client : ℕ) (call : Call) → proceeds (decide (record s { parked = parked }) client call) ≡ proceeds (decide s client call)
-parked_alike s parked client call =
-    proceeds-alike (creds_at s client) (plan (record s { parked = parked }) client call) (plan s client call) (plan-alike s parked s.clock client call)
-
-pub clock_alike : (s : State) (now client : ℕ) (call : Call) → proceeds (decide (at_time s now) client call) ≡ proceeds (decide s client call)
-clock_alike s now client call =
-    proceeds-alike (creds_at s client) (plan (at_time s now) client call) (plan s client call) (plan-alike s s.parked (at_time s now).clock client call)
+  pub plan-alike : (client : ℕ) (call : Call) → can_wait call ≡ true → blank (plan later client call) ≡ blank (plan s client call)
+  plan-alike client call can = ap (λ p. Passes (not (has_ended s client)) Ended tt ⨾ p) (alive-alike client call can)
 
 -- only a call of a kind that may wait is made to wait
+never-sems : (s : State) (p : Plan Sems) → never_waits p ≡ true → never_waits (whole s (OnSems p)) ≡ true
+never-sems s p never = never-on (λ sems. record s { sems = sems }) p never
+
 never-plan : (s : State) (client : ℕ) (call : Call) → can_wait call ≡ false → never_waits (plan s client call) ≡ true
 unfolding part_plan
 never-plan s client (MsgGet key flags) never =
     let who = caller s client in
-    never-on (λ queues. record s { queues = queues }) (get_queue s.limits s.queues who key flags) (never-get s.queues who key flags (new_queue s.limits) (object_of_key s.queues key))
+    never-on (λ queues. record s { queues = queues }) (get_queue s.limits s.queues who key flags)
+    (never-get s.queues (getting_queue s.limits) (λ p waits. waits) (λ x p waits. waits) who key flags (object_of_key s.queues key))
 never-plan s client (MsgSnd id mtype text flags) never = absurd (true≢false never)
 never-plan s client (MsgRcv id size msgtyp flags) never = absurd (true≢false never)
+never-plan s client (SemGet key nsems flags) never =
+    let who = caller s client in
+    let sets = s.sems.sets in
+    never-on (λ sems. record s { sems = sems }) (get_set s.limits s.sems who key nsems flags)
+    (never-on (λ sets. record s.sems { sets = sets }) (get sets who key flags (getting_set nsems))
+    (never-get sets (getting_set nsems) (λ p waits. waits) (λ x p waits. waits) who key flags (object_of_key sets key)))
+never-plan s client (SemOp id ops) never = absurd (true≢false never)
+never-plan s client (GetNcnt id num) never = never-sems s (get_waiting s id num (is_negative num)) (never-found (set_at s.sems id) BadId tt _ (λ set. refl))
+never-plan s client (GetZcnt id num) never = never-sems s (get_waiting s id num (is_zero num)) (never-found (set_at s.sems id) BadId tt _ (λ set. refl))
+never-plan s client Exit never = refl
+never-plan s client (GetVal id num) never = never-sems s (get_value s.sems id num) (never-found (set_at s.sems id) BadId tt _ (λ set. refl))
+never-plan s client (GetPid id num) never = never-sems s (get_pid s.sems id num) (never-found (set_at s.sems id) BadId tt _ (λ set. refl))
+never-plan s client (GetAll id) never = never-sems s (get_all s.sems id) (never-found (set_at s.sems id) BadId tt _ (λ set. refl))
+never-plan s client (SetVal id num value) never = never-sems s (set_value s.sems (caller s client) id num value) (never-found (set_at s.sems id) BadId tt _ (λ set. refl))
+never-plan s client (SetAll id values) never = never-sems s (set_all s.sems (caller s client) id values) (never-found (set_at s.sems id) BadId tt _ (λ set. refl))
 never-plan s client (IpcStat kind id) never = never-found (status_of s kind id) BadId tt _ (λ told. refl)
 never-plan s client (IpcSet kind id uid gid mode qbytes) never =
     let set : Settings = record { uid = uid; gid = gid; mode = mode; qbytes = qbytes } in
@@ -139,14 +129,34 @@ can-wait : (b : Bool) (s : State) (client : ℕ) (call : Call) → can_wait call
 can-wait true s client call is waits = refl
 can-wait false s client call is waits = absurd (true≢false (sym (proceeds-never (creds_at s client) (plan s client call) (never-plan s client call is)) ∙ waits))
 
+can-wait-alive : (b : Bool) (s : State) (client : ℕ) (call : Call) → can_wait call ≡ b → proceeds (decide_alive s client call) ≡ false → b ≡ true
+can-wait-alive true s client call is waits = refl
+can-wait-alive false s client call is waits = absurd (true≢false (sym (proceeds-never (creds_at s client) (plan_alive s client call) (never-plan s client call is)) ∙ waits))
+
+pub only_parkable_alive : (s : State) (client : ℕ) (call : Call) → proceeds (decide_alive s client call) ≡ false → can_wait call ≡ true
+only_parkable_alive s client call waits = can-wait-alive (can_wait call) s client call refl waits
+
 pub only_parkable : (s : State) (client : ℕ) (call : Call) → proceeds (decide s client call) ≡ false → can_wait call ≡ true
 only_parkable s client call waits = can-wait (can_wait call) s client call refl waits
 
+-- a call that waits on some list, at some time, waits on any list and at each time
+module _ (s t : State) (client : ℕ) (call : Call) (creds : creds_at t client ≡ creds_at s client) (alike : can_wait call ≡ true → blank (plan t client call) ≡ blank (plan s client call)) where
+  either : (b : Bool) → can_wait call ≡ b → proceeds (decide t client call) ≡ proceeds (decide s client call)
+  either true can = ap (λ c. proceeds (decision c (plan t client call))) creds ∙ proceeds-alike (creds_at s client) (plan t client call) (plan s client call) (alike can)
+  either false can = proceeds-never (creds_at t client) (plan t client call) (never-plan t client call can) ∙ sym (proceeds-never (creds_at s client) (plan s client call) (never-plan s client call can))
+
+pub parked_alike : (s : State) (parked : List Waiting) (client : ℕ) (call : Call) → proceeds (decide (record s { parked = parked }) client call) ≡ proceeds (decide s client call)
+parked_alike s parked client call = either s (record s { parked = parked }) client call refl (plan-alike s parked s.clock client call) (can_wait call) refl
+
+pub clock_alike : (s : State) (now client : ℕ) (call : Call) → proceeds (decide (at_time s now) client call) ≡ proceeds (decide s client call)
+clock_alike s now client call = either s (at_time s now) client call refl (plan-alike s s.parked (at_time s now).clock client call) (can_wait call) refl
+
 module _ {X : Type 0} where
   -- a get, of any kind
-  Ends-get : (t : Table (Object X)) (who : Caller) (key flags : ℕ) (new : X) (there : Option (ℕ × Object X)) → Ends (λ answer u. Grows t u) (get_found t who key flags new there)
-  Ends-get t who key flags new None = Ends-found (λ answer u. Grows t u) (next_id t) NoSlot tt _ (λ id is. Grows-new t id (new_object who key flags new) is)
-  Ends-get t who key flags new (Some there) = Grows-same t
+  Ends-get : (t : Table (Object X)) (who : Caller) (key flags : ℕ) (getting : Getting X) (there : Option (ℕ × Object X)) → Ends (λ answer u. Grows t u) (get_found t who key flags getting there)
+  Ends-get t who key flags getting None = Ends-order (λ answer u. Grows t u) getting.to_make _
+      (Ends-found (λ answer u. Grows t u) (next_id t) NoSlot tt _ (λ id is. Grows-new t id (new_object who key flags getting.new) is))
+  Ends-get t who key flags getting (Some there) = Ends-order (λ answer u. Grows t u) (getting.to_find there.1.contents) (plans.Grant (Id there.0) t) (Grows-same t)
 
 -- the calls on messages
 Ends-send : (queues : Queues) (who : Caller) (id flags : ℕ) (message : Message) (queue : Option (Object Queue)) → Ends (λ answer u. Grows queues u) (send_found queues who id flags message queue)
@@ -161,18 +171,23 @@ Ends-receive : (queues : Queues) (who : Caller) (id size : ℕ) (msgtyp : ℤ) (
 Ends-receive queues who id size msgtyp flags None = tt
 Ends-receive queues who id size msgtyp flags (Some queue) = Ends-take queues who id size flags queue.contents (chosen queue.contents.messages msgtyp (has_flag flags msg_except))
 
+-- an object of a table has these permissions
+with_perm_of : {X : Type 0} (o : Option (Object X)) (perm : Perm) → option_map (λ (object : Object X). object.perm) o ≡ Some perm → (object : Object X) × (o ≡ Some object)
+with_perm_of None perm is = absurd (none-some perm is)
+with_perm_of (Some object) perm is = (object, refl)
+
 Ends-removed : (s : State) (kind : Kind) (id : ℕ) (perm : Perm) → perm_of s kind id ≡ Some perm → Succeeds s Done (removed s kind id)
-Ends-removed s kinds.Sems id perm is = absurd (none-some perm is)
+Ends-removed s kinds.Queue id perm is =
+    let there = with_perm_of (finite.get s.queues.objects id) perm is in
+    (refl, Follows-queues s (without_object s.queues id) (Grows-gone s.queues id there.0 there.1))
+Ends-removed s kinds.Sems id perm is =
+    let there = with_perm_of (finite.get s.sems.sets.objects id) perm is in
+    (refl, Follows-sems s (without_set s.sems id) (Grows-gone s.sems.sets id there.0 there.1))
 Ends-removed s kinds.Segment id perm is = absurd (none-some perm is)
-Ends-removed s kinds.Queue id perm is = let there = with_perm_of (finite.get s.queues.objects id) perm is in (refl, record { queues = Grows-gone s.queues id there.0 there.1; clients = refl; limits = refl })
-  where
-    with_perm_of : (o : Option (Object Queue)) (perm : Perm) → option_map (λ (object : Object Queue). object.perm) o ≡ Some perm → (queue : Object Queue) × (o ≡ Some queue)
-    with_perm_of None perm is = absurd (none-some perm is)
-    with_perm_of (Some queue) perm is = (queue, refl)
 
 Succeeds-set : (s : State) (kind : Kind) (id : ℕ) (new : Settings) → Succeeds s Done (with_set s kind id new)
-Succeeds-set s kinds.Queue id new = (refl, record { queues = Grows-changed s.queues id _; clients = refl; limits = refl })
-Succeeds-set s kinds.Sems id new = Succeeds-same s Done
+Succeeds-set s kinds.Queue id new = (refl, Follows-queues s (changed s.queues id (with_settings s.clock new)) (Grows-changed s.queues id _))
+Succeeds-set s kinds.Sems id new = (refl, Follows-sems s (record s.sems { sets = changed s.sems.sets id (with_new_owner s.clock new) }) (Grows-changed s.sems.sets id _))
 Succeeds-set s kinds.Segment id new = Succeeds-same s Done
 
 Ends-set : (s : State) (kind : Kind) (id : ℕ) (new : Settings) (within : Bool) → Ends (Succeeds s) (in_order (if within then [] else Needs Resource ∷ []) (plans.Grant Done (with_set s kind id new)))
@@ -187,18 +202,44 @@ Ends-queues s p ends = Ends-on (λ queues. record s { queues = queues }) (Succee
     kept (check ⨾ rest) ends = kept rest ends
     kept (plans.Refuse rule plain) ends = tt
     kept plans.Wait ends = tt
-    kept (plans.Grant answer new) ends = (refl, record { queues = ends; clients = refl; limits = refl })
+    kept (plans.Grant answer new) ends = (refl, Follows-queues s new ends)
+
+Ends-sems : (s : State) (p : Plan Sems) → Ends (λ answer u. Grows s.sems.sets u.sets) p → Ends (Succeeds s) (whole s (OnSems p))
+Ends-sems s p ends = Ends-on (λ sems. record s { sems = sems }) (Succeeds s) p (kept p ends)
+  where
+    kept : (p : Plan Sems) → Ends (λ answer u. Grows s.sems.sets u.sets) p → Ends (λ answer u. Succeeds s answer (record s { sems = u })) p
+    kept (check ⨾ rest) ends = kept rest ends
+    kept (plans.Refuse rule plain) ends = tt
+    kept plans.Wait ends = tt
+    kept (plans.Grant answer new) ends = (refl, Follows-sems s new ends)
 
 -- each call
 Ends-plan : (s : State) (client : ℕ) (call : Call) → Ends (Succeeds s) (plan s client call)
 unfolding part_plan
 Ends-plan s client (MsgGet key flags) =
-    Ends-queues s (get_queue s.limits s.queues (caller s client) key flags) (Ends-get s.queues (caller s client) key flags (new_queue s.limits) (object_of_key s.queues key))
+    Ends-queues s (get_queue s.limits s.queues (caller s client) key flags) (Ends-get s.queues (caller s client) key flags (getting_queue s.limits) (object_of_key s.queues key))
 Ends-plan s client (MsgSnd id mtype text flags) =
     let message : Message = record { mtype = mtype; text = text } in
     Ends-queues s (send_message s.limits s.queues (caller s client) id flags message) (Ends-send s.queues (caller s client) id flags message (queue_at s.queues id))
 Ends-plan s client (MsgRcv id size msgtyp flags) =
     Ends-queues s (receive_message s.queues (caller s client) id size msgtyp flags) (Ends-receive s.queues (caller s client) id size msgtyp flags (queue_at s.queues id))
+Ends-plan s client (SemGet key nsems flags) =
+    let who = caller s client in
+    let P : Answer → Sems → Type 0 = λ answer u. Grows s.sems.sets u.sets in
+    Ends-sems s (get_set s.limits s.sems who key nsems flags)
+    (Ends-on (λ sets. record s.sems { sets = sets }) P (get s.sems.sets who key flags (getting_set nsems)) (Ends-get s.sems.sets who key flags (getting_set nsems) (object_of_key s.sems.sets key)))
+Ends-plan s client (SemOp id ops) =
+    let who = caller s client in
+    Ends-sems s (operate s.limits s.sems who id ops) (Ends-found _ (set_at s.sems id) BadId tt _ (λ set is.
+    Ends-order (λ answer u. Grows s.sems.sets u.sets) (trial_checks set.contents.semaphores (adj_of s.sems.undo client id) [] ops) (plans.Grant Done (operated s.sems who id ops set.contents)) (Grows-changed s.sems.sets id _)))
+Ends-plan s client (GetNcnt id num) = Ends-sems s (get_waiting s id num (is_negative num)) (Ends-found _ (set_at s.sems id) BadId tt _ (λ set is. Grows-same s.sems.sets))
+Ends-plan s client (GetZcnt id num) = Ends-sems s (get_waiting s id num (is_zero num)) (Ends-found _ (set_at s.sems id) BadId tt _ (λ set is. Grows-same s.sems.sets))
+Ends-plan s client Exit = (refl, record { queues = Grows-same s.queues; sets = Grows-mapped (exited s.sems (caller s client)) s.sems.sets; clients = refl; limits = refl })
+Ends-plan s client (GetVal id num) = Ends-sems s (get_value s.sems id num) (Ends-found _ (set_at s.sems id) BadId tt _ (λ set is. Grows-same s.sems.sets))
+Ends-plan s client (GetPid id num) = Ends-sems s (get_pid s.sems id num) (Ends-found _ (set_at s.sems id) BadId tt _ (λ set is. Grows-same s.sems.sets))
+Ends-plan s client (GetAll id) = Ends-sems s (get_all s.sems id) (Ends-found _ (set_at s.sems id) BadId tt _ (λ set is. Grows-same s.sems.sets))
+Ends-plan s client (SetVal id num value) = Ends-sems s (set_value s.sems (caller s client) id num value) (Ends-found _ (set_at s.sems id) BadId tt _ (λ set is. Grows-changed s.sems.sets id _))
+Ends-plan s client (SetAll id values) = Ends-sems s (set_all s.sems (caller s client) id values) (Ends-found _ (set_at s.sems id) BadId tt _ (λ set is. Grows-changed s.sems.sets id _))
 Ends-plan s client (IpcStat kind id) = Ends-found (Succeeds s) (status_of s kind id) BadId tt _ (λ told is. Succeeds-same s (StatusAnswer told.1))
 Ends-plan s client (IpcSet kind id uid gid mode qbytes) =
     let new : Settings = record { uid = uid; gid = gid; mode = mode; qbytes = qbytes } in

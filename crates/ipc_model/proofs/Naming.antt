@@ -4,7 +4,7 @@ use Rattle.std.specs.Prelude.{if◌then◌else◌, is_none}
 use Rattle.std.specs.List.{AllByRecursion, IsDistinct}
 use Rattle.std.proofs.lemmas.Bool.{true≢false, ne_eqb}
 use Rattle.ipc_call.specs.declared.calls.Call.{Call}
-use Rattle.ipc_call.specs.declared.calls.Call.TheVariants.{MsgGet}
+use Rattle.ipc_call.specs.declared.calls.Call.TheVariants.{MsgGet, SemGet}
 use Rattle.ipc_call.specs.declared.calls.Kind.{Kind}
 use Rattle.ipc_call.specs.declared.calls.Kind.TheVariants as kinds
 use Rattle.ipc_call.specs.declared.replies.Answer.{Answer}
@@ -13,24 +13,24 @@ use Rattle.ipc_call.specs.declared.rules.Rule.TheVariants.{NoSlot}
 use Rattle.ipc_ids.specs.Table.{IsSound, Table, WasUsed, next_id, with_object}
 use Rattle.ipc_ids.proofs.Sound.{IsFresh, IsSound-empty, WasUsed-there, fresh-unused, get-insert-same, next_id-fresh}
 use Rattle.ipc_objects.specs.declared.object.Object.{Object}
-use Rattle.ipc_model.specs.State.{Caller, Queues, State, caller, creds_at, opening}
+use Rattle.ipc_model.specs.State.{Caller, Queues, SemSet, Sems, State, caller, creds_at, opening}
 use Rattle.ipc_model.specs.Decision.{Decision, Grant, Outcome, outcome_of}
-use Rattle.ipc_model.specs.Plan.{decision, found, on_part}
+use Rattle.ipc_model.specs.Plan.{found, on_part}
 use Rattle.ipc_model.specs.Plan as plans
-use Rattle.ipc_model.specs.Gets.{get_found, get_queue, new_object, new_queue, object_of_key}
-use Rattle.ipc_model.specs.Decide.{decide, part_plan}
+use Rattle.ipc_model.specs.Gets.{Getting, get, get_found, get_queue, get_set, getting_queue, getting_set, new_object, object_of_key}
+use Rattle.ipc_model.specs.Decide.{decide, part_plan, plan}
 use Rattle.ipc_model.specs.Step.{Event, at_time, cancel, cancelled_by, settled, state_by, step}
 use Rattle.ipc_model.specs.History.{History}
 use Rattle.ipc_model.specs.Made.{id_in, made, made_by, made_from, makes}
-use Rattle.ipc_model.proofs.Plans.{Ends, Ends-decision, Ends-on, IfGranted}
+use Rattle.ipc_model.proofs.Plans.{Ends, Ends-decision, Ends-on, Ends-order, IfGranted}
 use Rattle.ipc_model.proofs.Calls.{Keeps-decide}
-use Rattle.ipc_model.proofs.Growing.{Follows, Keeps}
-use Rattle.ipc_model.proofs.Keeping.{Follows-settled, Follows-step}
+use Rattle.ipc_model.proofs.Growing.{Follows, Grows, Keeps}
+use Rattle.ipc_model.proofs.Keeping.{Follows-cancelled_by, Follows-settled, Follows-step}
 
 -- the identifier names an object of the kind, or named one that was removed
 abbrev pub IsUsed : State → Kind → ℕ → Type 0
 IsUsed s kinds.Queue id = WasUsed s.queues id
-IsUsed s kinds.Sems id = ⊥
+IsUsed s kinds.Sems id = WasUsed s.sems.sets id
 IsUsed s kinds.Segment id = ⊥
 
 -- an identifier that is answered with a new table is fresh, and names an object of it
@@ -44,21 +44,30 @@ module _ {X : Type 0} (t : Table (Object X)) (few : t.slots ≤ 32768) where
   Ends-made object None is = tt
   Ends-made object (Some id) is = (next_id-fresh t few id is, WasUsed-there (with_object t id object) id object (get-insert-same t.objects id object))
 
-  Ends-get : (who : Caller) (key flags : ℕ) (new : X) (there : Option (ℕ × Object X)) → is_none there ≡ true → Ends (IsNew t) (get_found t who key flags new there)
-  Ends-get who key flags new None absent = Ends-made (new_object who key flags new) (next_id t) refl
-  Ends-get who key flags new (Some there) absent = absurd (true≢false (sym absent))
+  Ends-get : (who : Caller) (key flags : ℕ) (getting : Getting X) (there : Option (ℕ × Object X)) → is_none there ≡ true → Ends (IsNew t) (get_found t who key flags getting there)
+  Ends-get who key flags getting None absent = Ends-order (IsNew t) getting.to_make _ (Ends-made (new_object who key flags getting.new) (next_id t) refl)
+  Ends-get who key flags getting (Some there) absent = absurd (true≢false (sym absent))
 
--- what a grant makes is new among the queues
-abbrev pub NamesFresh : State → Decision State → Type 0
-NamesFresh s d = IfGranted (λ answer new. IsNew s.queues answer new.queues) d
-
-NamesFresh-get : (s : State) (client key flags : ℕ) → s.queues.slots ≤ 32768 → is_none (object_of_key s.queues key) ≡ true
-    → NamesFresh s (decision (creds_at s client) (on_part (λ queues. record s { queues = queues }) (get_queue s.limits s.queues (caller s client) key flags)))
-NamesFresh-get s client key flags few absent =
+-- msgget, among the queues
+Names-queue : (s : State) (client key flags : ℕ) → s.queues.slots ≤ 32768 → is_none (object_of_key s.queues key) ≡ true → IfGranted (λ answer new. IsNew s.queues answer new.queues) (decide s client (MsgGet key flags))
+unfolding part_plan
+Names-queue s client key flags few absent =
     let put : Queues → State = λ queues. record s { queues = queues } in
     let p = get_queue s.limits s.queues (caller s client) key flags in
-    Ends-decision (creds_at s client) (λ answer new. IsNew s.queues answer new.queues) (on_part put p)
-    (Ends-on put (λ answer new. IsNew s.queues answer new.queues) p (Ends-get s.queues few (caller s client) key flags (new_queue s.limits) (object_of_key s.queues key) absent))
+    Ends-decision (creds_at s client) (λ answer new. IsNew s.queues answer new.queues) (plan s client (MsgGet key flags))
+    (Ends-on put (λ answer new. IsNew s.queues answer new.queues) p (Ends-get s.queues few (caller s client) key flags (getting_queue s.limits) (object_of_key s.queues key) absent))
+
+-- semget, among the sets
+Names-set : (s : State) (client key nsems flags : ℕ) → s.sems.sets.slots ≤ 32768 → is_none (object_of_key s.sems.sets key) ≡ true → IfGranted (λ answer new. IsNew s.sems.sets answer new.sems.sets) (decide s client (SemGet key nsems flags))
+unfolding part_plan
+Names-set s client key nsems flags few absent =
+    let put : Sems → State = λ sems. record s { sems = sems } in
+    let put_sets : Table (Object SemSet) → Sems = λ sets. record s.sems { sets = sets } in
+    let who = caller s client in
+    let p = get s.sems.sets who key flags (getting_set nsems) in
+    Ends-decision (creds_at s client) (λ answer new. IsNew s.sems.sets answer new.sems.sets) (plan s client (SemGet key nsems flags))
+    (Ends-on put (λ answer new. IsNew s.sems.sets answer new.sems.sets) (get_set s.limits s.sems who key nsems flags)
+    (Ends-on put_sets (λ answer u. IsNew s.sems.sets answer u.sets) p (Ends-get s.sems.sets few who key flags (getting_set nsems) (object_of_key s.sems.sets key) absent)))
 
 -- what holds of an identifier that an event made: it was never used before the event, and is used after it
 abbrev IsNamed : State → Kind → State → ℕ → Type 0
@@ -68,25 +77,46 @@ all-where : (P : ℕ → Type 0) (b : Bool) (xs : List ℕ) → (b ≡ true → 
 all-where P true xs named = named refl
 all-where P false xs named = tt
 
-named-in : (s : State) (d : Decision State) (client : ℕ) (call : Call) → NamesFresh s d → Keeps s d → IsSound s.queues
-    → AllByRecursion (IsNamed s kinds.Queue (settled (cancelled_by (state_by s client call d) call d).state).state) (id_in (outcome_of d))
-named-in s (Grant (Id id) new) client call names keeps sound =
-    let cancelled = (cancel new call).state in
-    ((fresh-unused s.queues id names.0, (Follows-settled cancelled).queues.used (keeps.1.queues.sound sound) id names.1), tt)
-named-in s d client call names keeps sound = tt
+-- of the table of a kind
+module _ {X : Type 0} (table : State → Table X) (grows : (s t : State) → Follows s t → Grows (table s) (table t)) where
+  named-in : (s : State) (d : Decision State) (client : ℕ) (call : Call) → IfGranted (λ answer new. IsNew (table s) answer (table new)) d → Keeps s d → IsSound (table s)
+      → AllByRecursion (λ id. (WasUsed (table s) id → ⊥) × WasUsed (table (settled (cancelled_by (state_by s client call d) call d).state).state) id) (id_in (outcome_of d))
+  named-in s (Grant (Id id) new) client call names keeps sound =
+      let cancelled = (cancel new call).state in
+      let later = grows cancelled (settled cancelled).state (Follows-settled cancelled) in (
+        (
+          fresh-unused (table s) id names.0,
+          later.used ((grows new cancelled (Follows-cancelled_by new call (Grant (Id id) new))).sound ((grows s new keeps.1).sound sound)) id
+              ((grows new cancelled (Follows-cancelled_by new call (Grant (Id id) new))).used ((grows s new keeps.1).sound sound) id names.1),
+        ),
+        tt,
+      )
+  named-in s d client call names keeps sound = tt
 
-named-by : (kind : Kind) (s : State) (client now : ℕ) (call : Call) → IsSound s.queues
+pub record AreSound (s : State) : Type 0 where
+  pub queues : IsSound s.queues
+  pub sets : IsSound s.sems.sets
+
+sound-later : (s t : State) → Follows s t → AreSound s → AreSound t
+sound-later s t follows sound = record { queues = follows.queues.sound sound.queues; sets = follows.sets.sound sound.sets }
+
+named-by : (kind : Kind) (s : State) (client now : ℕ) (call : Call) → AreSound s
     → AllByRecursion (IsNamed s kind (step s (record { client = client; now = now; call = call })).state) (made_by kind s (record { client = client; now = now; call = call }))
-unfolding part_plan
 named-by kinds.Queue s client now (MsgGet key flags) sound =
     let here = at_time s now in
+    let call = MsgGet key flags in
     all-where _ (is_none (object_of_key s.queues key)) _ (λ absent.
-    named-in here (decide here client (MsgGet key flags)) client (MsgGet key flags) (NamesFresh-get here client key flags sound.few absent) (Keeps-decide here client (MsgGet key flags)) sound)
+    named-in (λ t. t.queues) (λ s t follows. follows.queues) here (decide here client call) client call (Names-queue here client key flags sound.queues.few absent) (Keeps-decide here client call) sound.queues)
+named-by kinds.Sems s client now (SemGet key nsems flags) sound =
+    let here = at_time s now in
+    let call = SemGet key nsems flags in
+    all-where _ (is_none (object_of_key s.sems.sets key)) _ (λ absent.
+    named-in (λ t. t.sems.sets) (λ s t follows. follows.sets) here (decide here client call) client call (Names-set here client key nsems flags sound.sets.few absent) (Keeps-decide here client call) sound.sets)
 named-by kind s client now call sound = tt
 
-used-later : (kind : Kind) (s t : State) → Follows s t → IsSound s.queues → (id : ℕ) → IsUsed s kind id → IsUsed t kind id
-used-later kinds.Queue s t follows sound id used = follows.queues.used sound id used
-used-later kinds.Sems s t follows sound id used = used
+used-later : (kind : Kind) (s t : State) → Follows s t → AreSound s → (id : ℕ) → IsUsed s kind id → IsUsed t kind id
+used-later kinds.Queue s t follows sound id used = follows.queues.used sound.queues id used
+used-later kinds.Sems s t follows sound id used = follows.sets.used sound.sets id used
 used-later kinds.Segment s t follows sound id used = used
 
 all-append : (P : ℕ → Type 0) (xs ys : List ℕ) → AllByRecursion P xs → AllByRecursion P ys → AllByRecursion P (xs ++ ys)
@@ -97,14 +127,14 @@ all-map : (P Q : ℕ → Type 0) (xs : List ℕ) → ((x : ℕ) → P x → Q x)
 all-map P Q [] f a = tt
 all-map P Q (x ∷ xs) f a = (f x a.0, all-map P Q xs f a.1)
 
-unused-from : (kind : Kind) (s : State) (es : List Event) → IsSound s.queues → AllByRecursion (λ id. IsUsed s kind id → ⊥) (made_from kind s es)
+unused-from : (kind : Kind) (s : State) (es : List Event) → AreSound s → AllByRecursion (λ id. IsUsed s kind id → ⊥) (made_from kind s es)
 unused-from kind s [] sound = tt
 unused-from kind s (e ∷ es) sound =
     let later = (step s e).state in
     let follows = Follows-step s e in
     all-append _ (made_by kind s e) (made_from kind later es)
     (all-map _ _ (made_by kind s e) (λ id named. named.0) (named-by kind s e.client e.now e.call sound))
-    (all-map _ _ (made_from kind later es) (λ id unused used. unused (used-later kind s later follows sound id used)) (unused-from kind later es (follows.queues.sound sound)))
+    (all-map _ _ (made_from kind later es) (λ id unused used. unused (used-later kind s later follows sound id used)) (unused-from kind later es (sound-later s later follows sound)))
 
 -- what has the property is none of those that lack it
 apart-from : (P : ℕ → Type 0) (x : ℕ) (ys : List ℕ) → P x → AllByRecursion (λ y. P y → ⊥) ys → AllByRecursion (λ y. eqb x y ≡ false) ys
@@ -127,12 +157,12 @@ unfolding IsDistinct
 distinct-where true xs distinct = distinct
 distinct-where false xs distinct = tt
 
-distinct-from : (kind : Kind) (s : State) (es : List Event) → IsSound s.queues → IsDistinct eqb (made_from kind s es)
+distinct-from : (kind : Kind) (s : State) (es : List Event) → AreSound s → IsDistinct eqb (made_from kind s es)
 unfolding IsDistinct
 distinct-from kind s [] sound = tt
 distinct-from kind s (e ∷ es) sound =
     let later = (step s e).state in
-    let later_sound = (Follows-step s e).queues.sound sound in
+    let later_sound = sound-later s later (Follows-step s e) sound in
     distinct-append (λ id. IsUsed later kind id) (made_by kind s e) (made_from kind later es)
     (distinct-where (makes s kind e.call) (id_in (step s e).own) (distinct-in (step s e).own))
     (all-map _ _ (made_by kind s e) (λ id named. named.1) (named-by kind s e.client e.now e.call sound))
@@ -141,4 +171,5 @@ distinct-from kind s (e ∷ es) sound =
 
 -- no identifier is given to two objects of one kind
 pub made-distinct : (kind : Kind) (h : History) → h.limits.slots ≤ 32768 → IsDistinct eqb (made kind h)
-made-distinct kind h few = distinct-from kind (opening h.limits h.clients) h.events (IsSound-empty h.limits.slots h.limits.first_seq few)
+made-distinct kind h few = distinct-from kind (opening h.limits h.clients) h.events
+    (record { queues = IsSound-empty h.limits.slots h.limits.first_seq few; sets = IsSound-empty h.limits.slots h.limits.first_seq few })

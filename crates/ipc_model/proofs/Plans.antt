@@ -1,5 +1,5 @@
 -- What follows for every plan: its end, what holds of its decision, and what it decides as the plan of a part.
-use Rattle.std.proofs.Common.{◌≡◌, Bool, true, false, cond, ◌∷◌, refl, sym, ap, ◌∙◌, Option, Some, None}
+use Rattle.std.proofs.Common.{◌≡◌, Bool, true, false, cond, List, [], ◌∷◌, refl, sym, ap, ◌∙◌, Option, Some, None}
 use Rattle.std.proofs.lemmas.Bool.{false≢true}
 use Rattle.ipc_call.specs.Flags.{has_flag, ipc_nowait}
 use Rattle.ipc_call.specs.declared.rules.Rule.{Rule}
@@ -8,7 +8,7 @@ use Rattle.ipc_creds.specs.Credentials.{Credentials}
 use Rattle.ipc_perm.specs.Access.{denial}
 use Rattle.ipc_model.specs.Decision.{Decision, left_by, outcome_of, proceeds}
 use Rattle.ipc_model.specs.Decision as decisions
-use Rattle.ipc_model.specs.Plan.{Check, Proceeds, IsPlain, Needs, Passes, Plan, Refuse, Grant, Wait, by_check, checks_in, decision, found, needs_among, needs_in, on_part, or_wait, unless, ◌⨾◌}
+use Rattle.ipc_model.specs.Plan.{Check, Proceeds, IsPlain, Needs, Passes, Plan, Refuse, Grant, Wait, by_check, checks_in, decision, found, in_order, needs_among, needs_in, on_part, or_wait, unless, ◌⨾◌}
 
 -- what is decided where all checks pass
 abbrev pub end_of : {X : Type 0} → Plan X → Decision X
@@ -54,6 +54,10 @@ Ends-decision c P p ends = by-end c (IfGranted P) (λ rule. tt) tt p ends
 pub Ends-found : {X Y : Type 0} (P : Answer → Y → Type 0) (o : Option X) (rule : Rule) (plain : IsPlain rule) (rest : X → Plan Y) → ((x : X) → o ≡ Some x → Ends P (rest x)) → Ends P (found o rule plain rest)
 Ends-found P None rule plain rest ends = tt
 Ends-found P (Some x) rule plain rest ends = ends x refl
+
+pub Ends-order : {X : Type 0} (P : Answer → X → Type 0) (checks : List Check) (p : Plan X) → Ends P p → Ends P (in_order checks p)
+Ends-order P [] p ends = ends
+Ends-order P (check ∷ checks) p ends = Ends-order P checks p ends
 
 -- what a plan of a part grants, it grants of the whole
 pub Ends-on : {X Y : Type 0} (put : X → Y) (P : Answer → Y → Type 0) (p : Plan X) → Ends (λ answer x. P answer (put x)) p → Ends P (on_part put p)

@@ -17,21 +17,28 @@ use Rattle.ipc_objects.specs.declared.object.Object.{Object}
 use Rattle.ipc_objects.specs.declared.object.Owner.{Owner}
 use Rattle.ipc_objects.specs.Objects.{changed, with_owner}
 use Rattle.msg_queue.specs.Messages.{bytes_of}
-use Rattle.ipc_model.specs.State.{Queue, State}
+use Rattle.sem_undo.specs.Entries.{cleared}
+use Rattle.ipc_model.specs.State.{Queue, SemSet, Sems, State}
 use Rattle.ipc_model.specs.Plan.{Needs, Passes, Plan, Grant, found, in_order, ◌⨾◌}
 
 abbrev pub perm_in : {X : Type 0} → Table (Object X) → ℕ → Option Perm
 perm_in objects id = option_map (λ object. object.perm) (finite.get objects.objects id)
 
--- the permissions of the object of the identifier; there are no semaphore sets and no segments yet
+-- the permissions of the object of the identifier; there are no segments yet
 abbrev pub perm_of : State → Kind → ℕ → Option Perm
 perm_of s kinds.Queue id = perm_in s.queues id
-perm_of s kind id = None
+perm_of s kinds.Sems id = perm_in s.sems.sets id
+perm_of s kinds.Segment id = None
+
+-- a set leaves, and what exit undoes of it, of every client
+abbrev pub without_set : Sems → ℕ → Sems
+without_set sems id = record { sets = without_object sems.sets id; undo = cleared sems.undo id (λ _. true) }
 
 -- IPC_RMID: the object leaves, and its key is free
 abbrev pub removed : State → Kind → ℕ → State
 removed s kinds.Queue id = record s { queues = without_object s.queues id }
-removed s kind id = s
+removed s kinds.Sems id = record s { sems = without_set s.sems id }
+removed s kinds.Segment id = s
 
 abbrev pub remove_object : State → Kind → ℕ → Plan State
 remove_object s kind id =
@@ -56,10 +63,24 @@ status_of_queue queue = statuses.Queue (record {
   ctime = queue.change_time;
 })
 
+abbrev pub status_of_set : Object SemSet → Status
+status_of_set set = statuses.Set (record {
+  key = set.perm.key;
+  mode = set.perm.mode;
+  uid = set.perm.uid;
+  gid = set.perm.gid;
+  cuid = set.perm.cuid;
+  cgid = set.perm.cgid;
+  nsems = length set.contents.semaphores;
+  otime = set.contents.op_time;
+  ctime = set.change_time;
+})
+
 -- the permissions and the status of the object of the identifier
 abbrev pub status_of : State → Kind → ℕ → Option (Perm × Status)
 status_of s kinds.Queue id = option_map (λ queue. (queue.perm, status_of_queue queue)) (finite.get s.queues.objects id)
-status_of s kind id = None
+status_of s kinds.Sems id = option_map (λ set. (set.perm, status_of_set set)) (finite.get s.sems.sets.objects id)
+status_of s kinds.Segment id = None
 
 abbrev pub stat_object : State → Kind → ℕ → Plan State
 stat_object s kind id =
@@ -69,15 +90,21 @@ stat_object s kind id =
 abbrev pub owner_in : Settings → Owner
 owner_in new = record { uid = new.uid; gid = new.gid; mode = new.mode % 512 }
 
+-- IPC_SET of an object of any kind: its owner and the time of the change
+abbrev pub with_new_owner : {X : Type 0} → ℕ → Settings → Object X → Object X
+with_new_owner now new object = with_owner object (owner_in new) now
+
 -- IPC_SET of a queue: its owner, the time of the change, and its msg_qbytes where that is given
 abbrev pub with_settings : ℕ → Settings → Object Queue → Object Queue
-with_settings now new queue = record (with_owner queue (owner_in new) now) {
+with_settings now new queue = record (with_new_owner now new queue) {
   contents = record queue.contents { qbytes = unwrap_or new.qbytes queue.contents.qbytes };
 }
 
 abbrev pub with_set : State → Kind → ℕ → Settings → State
 with_set s kinds.Queue id new = record s { queues = changed s.queues id (with_settings s.clock new) }
-with_set s kind id new = s
+with_set s kinds.Sems id new =
+    record s { sems = record s.sems { sets = changed s.sems.sets id (with_new_owner s.clock new) } }
+with_set s kinds.Segment id new = s
 
 -- a msg_qbytes above MSGMNB needs CAP_SYS_RESOURCE
 abbrev pub is_within : State → Option ℕ → Bool

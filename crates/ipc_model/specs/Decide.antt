@@ -1,25 +1,54 @@
 -- The decision on each call, and what it needs of its caller.
-use Rattle.std.specs.Prelude.{ℕ, Bool, List, Option, Some, None, is_some}
+use Rattle.std.specs.Prelude.{ℕ, ◌==◌, pos, int_lt, Bool, false, not, ◌&&◌, List, Option, Some, None, is_some}
+use Rattle.std.specs.List.{count_by}
+use Rattle.std.specs.Ordering.{int_eq}
 use Rattle.ipc_call.specs.declared.calls.Call.{Call}
-use Rattle.ipc_call.specs.declared.calls.Call.TheVariants.{MsgGet, MsgSnd, MsgRcv, IpcStat, IpcSet, IpcRmid, Interrupt}
+use Rattle.ipc_call.specs.declared.calls.Call.TheVariants.{MsgGet, MsgSnd, MsgRcv, SemGet, SemOp, GetVal, GetPid, GetNcnt, GetZcnt, GetAll}
+use Rattle.ipc_call.specs.declared.calls.Call.TheVariants.{SetVal, SetAll, IpcStat, IpcSet, IpcRmid, Interrupt, Exit}
+use Rattle.ipc_call.specs.declared.calls.SemOper.{SemOper}
+use Rattle.ipc_call.specs.declared.rules.Rule.TheVariants.{Ended}
 use Rattle.ipc_call.specs.declared.calls.Kind.{Kind}
 use Rattle.ipc_call.specs.declared.calls.Kind.TheVariants as kinds
 use Rattle.ipc_perm.specs.Access.{Need}
-use Rattle.ipc_model.specs.State.{Caller, Queues, State, caller, creds_at}
+use Rattle.ipc_model.specs.State.{Caller, Queues, Sems, State, caller, creds_at, has_ended}
 use Rattle.ipc_model.specs.Decision.{Decision}
-use Rattle.ipc_model.specs.Plan.{Plan, decision, needs_in, on_part}
-use Rattle.ipc_model.specs.Gets.{get_queue}
+use Rattle.ipc_model.specs.Plan.{Passes, Plan, decision, needs_in, on_part, ◌⨾◌}
+use Rattle.ipc_model.specs.Gets.{get_queue, get_set}
 use Rattle.ipc_model.specs.Messages.{receive_message, send_message}
-use Rattle.ipc_model.specs.Interrupts.{interrupt}
+use Rattle.ipc_model.specs.Semaphores.{get_all, get_pid, get_value, look, operate, set_all, set_value, stopping}
+use Rattle.ipc_model.specs.Processes.{exit, interrupt}
 use Rattle.ipc_model.specs.Controls.{remove_object, set_object, stat_object}
+
+-- a semop of a client stops at an operation that passes
+abbrev pub is_stopped_at : (SemOper → Bool) → Option SemOper → Bool
+is_stopped_at which None = false
+is_stopped_at which (Some o) = which o
+
+-- a call of a client waits on the set for an operation that passes
+abbrev pub waits_for : Sems → ℕ → (SemOper → Bool) → ℕ → Call → Bool
+waits_for sems id which client (SemOp other ops) = other == id && is_stopped_at which (stopping sems client id ops)
+waits_for sems id which client call = false
+
+-- GETNCNT and GETZCNT: each waiting semop is counted where it stops now
+abbrev pub get_waiting : State → ℕ → ℕ → (SemOper → Bool) → Plan Sems
+get_waiting s id num which = look s.sems id num (λ semaphores. count_by (λ w. waits_for s.sems id which w.client w.call) s.parked)
+
+-- it waits for the value to rise, or to become 0
+abbrev pub is_negative : ℕ → SemOper → Bool
+is_negative num o = o.num == num && int_lt o.op (pos 0)
+
+abbrev pub is_zero : ℕ → SemOper → Bool
+is_zero num o = o.num == num && int_eq o.op (pos 0)
 
 -- the plan of a call, by the part of the state that the call may change
 pub data PartPlan : Type 0 where
   OnQueues : (plan : Plan Queues) → PartPlan
+  OnSems : (plan : Plan Sems) → PartPlan
   OnState : (plan : Plan State) → PartPlan
 
 abbrev pub whole : State → PartPlan → Plan State
 whole s (OnQueues plan) = on_part (λ queues. record s { queues = queues }) plan
+whole s (OnSems plan) = on_part (λ sems. record s { sems = sems }) plan
 whole s (OnState plan) = plan
 
 -- each call as a row of the table of checks
@@ -28,18 +57,36 @@ part_plan s who (MsgGet key flags) = OnQueues (get_queue s.limits s.queues who k
 part_plan s who (MsgSnd id mtype text flags) =
     OnQueues (send_message s.limits s.queues who id flags (record { mtype = mtype; text = text }))
 part_plan s who (MsgRcv id size msgtyp flags) = OnQueues (receive_message s.queues who id size msgtyp flags)
+part_plan s who (SemGet key nsems flags) = OnSems (get_set s.limits s.sems who key nsems flags)
+part_plan s who (SemOp id ops) = OnSems (operate s.limits s.sems who id ops)
+part_plan s who (GetVal id num) = OnSems (get_value s.sems id num)
+part_plan s who (GetPid id num) = OnSems (get_pid s.sems id num)
+part_plan s who (GetNcnt id num) = OnSems (get_waiting s id num (is_negative num))
+part_plan s who (GetZcnt id num) = OnSems (get_waiting s id num (is_zero num))
+part_plan s who (GetAll id) = OnSems (get_all s.sems id)
+part_plan s who (SetVal id num value) = OnSems (set_value s.sems who id num value)
+part_plan s who (SetAll id values) = OnSems (set_all s.sems who id values)
 part_plan s who (IpcStat kind id) = OnState (stat_object s kind id)
 part_plan s who (IpcSet kind id uid gid mode qbytes) =
     OnState (set_object s kind id (record { uid = uid; gid = gid; mode = mode; qbytes = qbytes }))
 part_plan s who (IpcRmid kind id) = OnState (remove_object s kind id)
 part_plan s who (Interrupt pid) = OnState (interrupt s pid)
+part_plan s who Exit = OnState (exit s who)
 
+-- of a client that hasn't ended
+abbrev pub plan_alive : State → ℕ → Call → Plan State
+plan_alive s client call = whole s (part_plan s (caller s client) call)
+
+-- before all else the client hasn't ended (ESRCH; the project's own)
 abbrev pub plan : State → ℕ → Call → Plan State
-plan s client call = whole s (part_plan s (caller s client) call)
+plan s client call = Passes (not (has_ended s client)) Ended _ ⨾ plan_alive s client call
 
 -- the decision relation: the credentials are the caller's, by its number
 abbrev pub decide : State → ℕ → Call → Decision State
 decide s client call = decision (creds_at s client) (plan s client call)
+
+abbrev pub decide_alive : State → ℕ → Call → Decision State
+decide_alive s client call = decision (creds_at s client) (plan_alive s client call)
 
 -- the needs on the object that the call names
 abbrev pub needs : State → ℕ → Call → List Need
@@ -49,6 +96,7 @@ needs s client call = needs_in (plan s client call)
 abbrev pub waits_at : Call → Option (Kind × ℕ)
 waits_at (MsgSnd id mtype text flags) = Some (kinds.Queue, id)
 waits_at (MsgRcv id size msgtyp flags) = Some (kinds.Queue, id)
+waits_at (SemOp id ops) = Some (kinds.Sems, id)
 waits_at call = None
 
 -- a call that may wait

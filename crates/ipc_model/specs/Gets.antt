@@ -1,10 +1,10 @@
--- The gets: the object of a key, or a new one (msgget(2), POSIX.1-2017 XSH msgget). With a key that an object has:
+-- The gets: the object of a key, or a new one (msgget(2), semget(2), POSIX.1-2017 XSH). With a key that an object has:
 -- IPC_CREAT with IPC_EXCL is refused, then the rights that the flags ask for are needed. With any other key: IPC_CREAT
 -- is needed, and then a slot. Key 0 is IPC_PRIVATE: no object has it, and it needs no IPC_CREAT.
-use Rattle.std.specs.Prelude.{ℕ, ◌%◌, ◌==◌, not, ◌&&◌, ◌||◌, [], Option, Some, None}
+use Rattle.std.specs.Prelude.{ℕ, ◌%◌, ◌==◌, nat_le, nat_lt, not, ◌&&◌, ◌||◌, List, [], ◌∷◌, length, replicate, Option, Some, None}
 use Rattle.ipc_call.specs.Flags.{has_flag, ipc_creat, ipc_excl}
 use Rattle.ipc_call.specs.declared.limits.Limits.{Limits}
-use Rattle.ipc_call.specs.declared.rules.Rule.TheVariants.{NoKey, KeyExists, NoSlot}
+use Rattle.ipc_call.specs.declared.rules.Rule.TheVariants.{NoKey, KeyExists, NoSlot, BadSize}
 use Rattle.ipc_call.specs.declared.replies.Answer.TheVariants.{Id}
 use Rattle.ipc_creds.specs.Credentials.{Credentials}
 use Rattle.ipc_perm.specs.declared.perms.Perm.{Perm}
@@ -12,8 +12,9 @@ use Rattle.ipc_perm.specs.Access.{Permission, asked_of}
 use Rattle.ipc_ids.specs.Table.{Table, find_object, next_id, with_object}
 use Rattle.ipc_objects.specs.declared.object.Object.{Object}
 use Rattle.ipc_objects.specs.Objects.{has_key}
-use Rattle.ipc_model.specs.State.{Caller, Queue, Queues}
-use Rattle.ipc_model.specs.Plan.{Needs, Passes, Plan, Grant, found, ◌⨾◌}
+use Rattle.sem_set.specs.Sets.{zeroed}
+use Rattle.ipc_model.specs.State.{Caller, Queue, Queues, SemSet, Sems}
+use Rattle.ipc_model.specs.Plan.{Check, Needs, Passes, Plan, Grant, found, in_order, on_part, ◌⨾◌}
 
 -- the caller is owner and creator
 abbrev pub owned_by : Credentials → ℕ → ℕ → Perm
@@ -27,28 +28,58 @@ new_object who key flags contents =
 abbrev pub make_object : {X : Type 0} → Table (Object X) → Object X → Plan (Table (Object X))
 make_object t object = found (next_id t) NoSlot _ (λ id. Grant (Id id) (with_object t id object))
 
-abbrev pub get_found : {X : Type 0} → Table (Object X) → Caller → ℕ → ℕ → X → Option (ℕ × Object X)
-    → Plan (Table (Object X))
-get_found t who key flags new None =
-    Passes (key == 0 || has_flag flags ipc_creat) NoKey _
-    ⨾ make_object t (new_object who key flags new)
-get_found t who key flags new (Some there) =
+-- what a get of a kind has of its own: what a new object holds, the checks before one is made, and those on one that is
+-- found
+pub record Getting (X : Type 0) : Type 0 where
+  pub new : X
+  pub to_make : List Check
+  pub to_find : X → List Check
+
+-- the checks on an object that is found, of any kind
+abbrev pub to_open : Perm → ℕ → List Check
+to_open perm flags =
     Passes (not (has_flag flags ipc_creat && has_flag flags ipc_excl)) KeyExists _
-    ⨾ Needs (Permission there.1.perm (asked_of flags))
-    ⨾ Grant (Id there.0) t
+    ∷ Needs (Permission perm (asked_of flags)) ∷ []
+
+abbrev pub get_found : {X : Type 0} → Table (Object X) → Caller → ℕ → ℕ → Getting X → Option (ℕ × Object X)
+    → Plan (Table (Object X))
+get_found t who key flags getting None =
+    Passes (key == 0 || has_flag flags ipc_creat) NoKey _
+    ⨾ in_order getting.to_make (make_object t (new_object who key flags getting.new))
+get_found t who key flags getting (Some there) =
+    in_order (to_open there.1.perm flags)
+    (in_order (getting.to_find there.1.contents) (Grant (Id there.0) t))
 
 -- the object with its identifier
 abbrev pub object_of_key : {X : Type 0} → Table (Object X) → ℕ → Option (ℕ × Object X)
 object_of_key t key = find_object (has_key key) t
 
--- a get; a new object holds this
-abbrev pub get : {X : Type 0} → Table (Object X) → Caller → ℕ → ℕ → X → Plan (Table (Object X))
-get t who key flags new = get_found t who key flags new (object_of_key t key)
+abbrev pub get : {X : Type 0} → Table (Object X) → Caller → ℕ → ℕ → Getting X → Plan (Table (Object X))
+get t who key flags getting = get_found t who key flags getting (object_of_key t key)
 
--- no messages; pids and times are 0
+-- msgget: a new queue has no messages; its pids and times are 0
 abbrev pub new_queue : Limits → Queue
 new_queue max =
     record { messages = []; qbytes = max.msg_mnb; last_sender = 0; last_receiver = 0; send_time = 0; receive_time = 0 }
 
+abbrev pub getting_queue : Limits → Getting Queue
+getting_queue limits = record { new = new_queue limits; to_make = []; to_find = λ queue. [] }
+
 abbrev pub get_queue : Limits → Queues → Caller → ℕ → ℕ → Plan Queues
-get_queue limits queues who key flags = get queues who key flags (new_queue limits)
+get_queue limits queues who key flags = get queues who key flags (getting_queue limits)
+
+-- semget: at most SEMMSL semaphores; a new set has at least one, each 0, and one that is found has as many
+abbrev pub new_set : ℕ → SemSet
+new_set nsems = record { semaphores = replicate nsems zeroed; op_time = 0 }
+
+abbrev pub getting_set : ℕ → Getting SemSet
+getting_set nsems = record {
+  new = new_set nsems;
+  to_make = Passes (nat_lt 0 nsems) BadSize _ ∷ [];
+  to_find = λ set. Passes (nat_le nsems (length set.semaphores)) BadSize _ ∷ [];
+}
+
+abbrev pub get_set : Limits → Sems → Caller → ℕ → ℕ → ℕ → Plan Sems
+get_set limits sems who key nsems flags =
+    Passes (nat_le nsems limits.sem_msl) BadSize _
+    ⨾ on_part (λ sets. record sems { sets = sets }) (get sems.sets who key flags (getting_set nsems))

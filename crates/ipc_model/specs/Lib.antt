@@ -5,10 +5,11 @@ pub mod Decide
 pub mod Decision
 pub mod Gets
 pub mod History
-pub mod Interrupts
 pub mod Made
 pub mod Messages
 pub mod Plan
+pub mod Processes
+pub mod Semaphores
 pub mod State
 pub mod Step
 pub mod Waits

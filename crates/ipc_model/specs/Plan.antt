@@ -1,13 +1,14 @@
 -- The plan of a call: its checks in their order, and what it does where all pass (the order is the project's own where
 -- POSIX leaves it open).
-use Rattle.std.specs.Prelude.{ℕ, Bool, true, false, not, T, List, [], ◌∷◌, Option, Some, None, is_none, if◌then◌else◌}
+use Rattle.std.specs.Prelude.{ℕ, ⊤, Result, Bool, true, false, not, T, List, [], ◌∷◌, Option, Some, None, is_none, if◌then◌else◌}
 use Rattle.ipc_call.specs.Flags.{has_flag, ipc_nowait}
 use Rattle.ipc_call.specs.declared.rules.Rule.{Rule}
 use Rattle.ipc_call.specs.declared.rules.Rule.TheVariants.{NotOwner, NeedsResource, NotSameUser, OwnerBits, GroupBits, OtherBits}
 use Rattle.ipc_call.specs.declared.replies.Answer.{Answer}
+use Rattle.ipc_call.specs.declared.replies.Answer.TheVariants.{Done}
 use Rattle.ipc_creds.specs.Credentials.{Credentials}
 use Rattle.ipc_perm.specs.Access.{Need, denial}
-use Rattle.ipc_model.specs.Decision.{Decision}
+use Rattle.ipc_model.specs.Decision.{Decision, without_answer}
 use Rattle.ipc_model.specs.Decision as decisions
 
 -- the rule is that of a need that fails (EPERM and EACCES)
@@ -80,6 +81,13 @@ decision c (check ⨾ rest) = by_check c check (decision c rest)
 decision c (Refuse rule plain) = decisions.Refuse rule
 decision c Wait = decisions.Wait
 decision c (Grant answer new) = decisions.Grant answer new
+
+-- what these checks alone give: all pass, or a rule refuses, or the call waits
+abbrev pub passed : Credentials → List Check → Option (Result ⊤ Rule)
+passed c checks = without_answer (decision c (in_order checks nothing))
+  where
+    nothing : Plan ⊤
+    nothing = Grant Done tt
 
 -- the checks of a plan, and the needs among them
 abbrev pub checks_in : {X : Type 0} → Plan X → List Check

@@ -1,12 +1,15 @@
 -- The state of a namespace (POSIX.1-2017 XSH 2.7).
 use Rattle.std.specs.Prelude.{ℕ, ◌+◌, ◌==◌, Bool, List, [], Option, slice_index_or}
 use Rattle.std.specs.List.{find, list_any}
+use Rattle.std.specs.FinMap as finite
 use Rattle.ipc_call.specs.declared.limits.Limits.{Limits}
 use Rattle.ipc_call.specs.declared.replies.Waiting.{Waiting}
 use Rattle.ipc_creds.specs.Credentials.{Credentials}
 use Rattle.ipc_ids.specs.Table.{Table, empty_table}
 use Rattle.ipc_objects.specs.declared.object.Object.{Object}
 use Rattle.msg_queue.specs.declared.messages.Message.{Message}
+use Rattle.sem_set.specs.declared.sets.Semaphore.{Semaphore}
+use Rattle.sem_undo.specs.Entries.{Entries}
 
 -- what a message queue holds beside its permissions and msg_ctime (msqid_ds of msgctl(2)): messages, msg_qbytes,
 -- msg_lspid and msg_lrpid, msg_stime and msg_rtime
@@ -22,12 +25,25 @@ pub record Queue : Type 0 where
 abbrev pub Queues : Type 0
 Queues = Table (Object Queue)
 
--- the clients' credentials by number, the clock in seconds, the queues, and the calls that wait in order of arrival
+-- what a semaphore set holds beside its permissions and sem_ctime (semid_ds of semctl(2)): semaphores and sem_otime
+pub record SemSet : Type 0 where
+  pub semaphores : List Semaphore
+  pub op_time : ℕ
+
+-- the semaphore sets by identifier, and the semadj that aren't 0, by client, set and semaphore number: what exit adds
+pub record Sems : Type 0 where
+  pub sets : Table (Object SemSet)
+  pub undo : Entries
+
+-- the clients' credentials by number, the clients that ended, the clock in seconds, the queues, the semaphore sets, and
+-- the calls that wait in order of arrival
 pub record State : Type 0 where
   pub limits : Limits
   pub clients : List Credentials
+  pub ended : List ℕ
   pub clock : ℕ
   pub queues : Queues
+  pub sems : Sems
   pub parked : List Waiting
 
 -- a namespace before its first event
@@ -35,8 +51,10 @@ abbrev pub opening : Limits → List Credentials → State
 opening limits clients = record {
   limits = limits;
   clients = clients;
+  ended = [];
   clock = 0;
   queues = empty_table limits.slots limits.first_seq;
+  sems = record { sets = empty_table limits.slots limits.first_seq; undo = finite.empty };
   parked = [];
 }
 
@@ -66,3 +84,7 @@ is_waiting s client = list_any (λ w. w.client == client) s.parked
 -- the client's call that waits
 abbrev pub waiting_of : State → ℕ → Option Waiting
 waiting_of s client = find (λ w. w.client == client) s.parked
+
+-- the client has called exit
+abbrev pub has_ended : State → ℕ → Bool
+has_ended s client = list_any (λ other. other == client) s.ended
