@@ -17,21 +17,21 @@ ghost use Rattle.std.specs.Prelude.{
 };
 ghost use Rattle.ipc_call.specs.declared.limits.Limits.{Limits as LimitsOf};
 ghost use Rattle.ipc_model.specs.State.{Queue as Contents, Queues as Table};
-ghost use Rattle.ipc_model.specs.Decision.{left_by, outcome_of};
-ghost use Rattle.ipc_model.specs.Gets.{get_found, get_queue, new_object, new_queue as new_contents, object_of_key};
+ghost use Rattle.ipc_model.specs.Decision.{left_by, outcome_of, without_answer};
+ghost use Rattle.ipc_model.specs.Gets.{get_found, get_queue, getting_queue, new_object as object_of, new_queue as new_contents, object_of_key};
 ghost use Rattle.ipc_model.specs.Messages.{receive_message};
 ghost use Rattle.ipc_model.specs.Plan.{decision};
 ghost use Rattle.ipc_objects.specs.declared.object.Object.{Object as Entry};
 ghost use Rattle.ipc_objects.specs.Seen.{seen};
-ghost use Rattle.queue_calls.specs.Calls.{MaySend, sending, without_answer};
+ghost use Rattle.queue_calls.specs.Calls.{MaySend, sending};
 ghost use Rattle.queue_calls.specs.Held.{one_if, queue_of, queues_of, room};
 
-use crate::caller::Caller;
 use crate::queue::Queue;
 use crate::queues::Queues;
-use ipc_call::{Answer, Items, Limits, Memory, Outcome, Rule, creates, is_exclusive, may_wait};
+use ipc_call::{Answer, Items, Limits, Memory, Outcome, Rule, creates, may_wait};
 use ipc_objects::Object;
-use ipc_perm::{Mode, Perm, TO_ALTER, TO_READ, Verdict, asked_of_flags, decide};
+use ipc_perm::{Perm, TO_ALTER, TO_READ, Verdict, decide};
+use object_calls::{Caller, may_open, new_object};
 use std::alloc::Global;
 
 impl Queues {
@@ -64,8 +64,8 @@ impl Queues {
         flags: u32,
     ) -> Result<Outcome, Memory>
         requires { object_of_key (queues_of self.old) key ≡ None }
-        ensures outcome { IfOk result (λ outcome. outcome_of (decision who.entry.now.creds (get_found (queues_of self.old) who.entry.now key flags (new_contents limits.now) None)) ≡ Some outcome) }
-        ensures queues { OnOk result (queues_of self.new ≡ left_by (queues_of self.old) (decision who.entry.now.creds (get_found (queues_of self.old) who.entry.now key flags (new_contents limits.now) None))) }
+        ensures outcome { IfOk result (λ outcome. outcome_of (decision who.entry.now.creds (get_found (queues_of self.old) who.entry.now key flags (getting_queue limits.now) None)) ≡ Some outcome) }
+        ensures queues { OnOk result (queues_of self.new ≡ left_by (queues_of self.old) (decision who.entry.now.creds (get_found (queues_of self.old) who.entry.now key flags (getting_queue limits.now) None))) }
         ensures room { (j : ℕ) → room self.new j ≡ room self.old j }
         ensures err { OnErr result (self.new ≡ self.old) }
     {
@@ -166,36 +166,19 @@ impl Queues {
     }
 }
 
-/// msgget with a key that a queue has. Permission is asked last (the order is the project's own).
+/// msgget with a key that a queue has.
 fn found_queue(who: &Caller, id: u32, perm: &Perm, flags: u32) -> Outcome
-    ensures outcome { (t : Table) (key : ℕ) (new : Contents) (queue : Entry Contents) → queue.perm ≡ perm.now
-        → outcome_of (decision who.entry.now.creds (get_found t who.entry.now key flags new (Some (id, queue)))) ≡ Some result }
+    ensures outcome { (t : Table) (key : ℕ) (limits : LimitsOf) (queue : Entry Contents) → queue.perm ≡ perm.now
+        → outcome_of (decision who.entry.now.creds (get_found t who.entry.now key flags (getting_queue limits) (Some (id, queue)))) ≡ Some result }
 {
-    if creates(flags) && is_exclusive(flags) {
-        return Err(Rule::KeyExists);
-    }
-    match decide(who.creds(), perm, asked_of_flags(flags)) {
-        Verdict::Denied(rule) => Err(rule),
-        Verdict::Allowed(_) => Ok(Answer::Id(id)),
-    }
+    may_open(who, perm, flags)?;
+    Ok(Answer::Id(id))
 }
 
 /// A queue that the caller owns and made, with the mode in the flags.
 fn new_queue(alloc: Global, limits: &Limits, who: &Caller, key: u32, flags: u32) -> Object<Queue>
-    ensures queue { seen queue_of result ≡ new_object who.entry.now key flags (new_contents limits.now) }
+    ensures queue { seen queue_of result ≡ object_of who.entry.now key flags (new_contents limits.now) }
     ensures reserved { result.contents.reserved ≡ 0 }
 {
-    let creds = who.creds();
-    Object {
-        perm: Perm {
-            key,
-            uid: creds.euid(),
-            gid: creds.egid(),
-            cuid: creds.euid(),
-            cgid: creds.egid(),
-            mode: Mode::from_low_bits(flags),
-        },
-        change_time: who.now(),
-        contents: Queue::new(alloc, limits.msg_mnb),
-    }
+    new_object(who, key, flags, Queue::new(alloc, limits.msg_mnb))
 }

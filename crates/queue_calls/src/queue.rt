@@ -27,13 +27,13 @@ ghost use Rattle.ipc_objects.specs.Seen.{seen};
 ghost use Rattle.msg_queue.specs.Messages.{is_full};
 ghost use Rattle.queue_calls.specs.Held.{queue_of};
 
-use crate::caller::Caller;
 use ipc_call::{
     Answer, Items, Memory, Outcome, QueueStatus, Rule, Status, cuts_text, may_wait,
     takes_other_types,
 };
 use ipc_objects::Object;
 use msg_queue::Queue as Messages;
+use object_calls::Caller;
 use std::alloc::Global;
 use std::marker::Model;
 

@@ -31,11 +31,11 @@ ghost use Rattle.ipc_objects.specs.Seen.{seen};
 ghost use Rattle.msg_queue.specs.Messages.{is_full};
 ghost use Rattle.queue_calls.specs.Held.{one_if, queue_of, queues_of, room};
 
-use crate::caller::Caller;
 use crate::queue::Queue;
 use ipc_call::{Items, Memory, Outcome, Settings};
 use ipc_objects::{Object, Objects, Owner};
 use ipc_perm::{Mode, Perm};
+use object_calls::Caller;
 use std::alloc::Global;
 use std::marker::Model;
 
