@@ -1,0 +1,41 @@
+-- The trial of a semop: its plan has it as checks in order.
+use Rattle.std.proofs.Common.{◌≡◌, ℕ, ℤ, pos, Bool, true, false, cond, List, [], ◌∷◌, ◌++◌, ◌+◌, ◌+ℤ◌, ◌-ℤ◌, refl, Some, None}
+use Rattle.std.specs.Prelude.{◌&&◌, int_lt, not, unwrap_or, if◌then◌else◌}
+use Rattle.ipc_call.specs.Flags.{has_flag, ipc_nowait}
+use Rattle.ipc_call.specs.declared.calls.SemOper.{SemOper}
+use Rattle.ipc_call.specs.declared.rules.Rule.TheVariants.{UndoRange, ValueRange, WouldWait}
+use Rattle.ipc_creds.specs.Credentials.{Credentials}
+use Rattle.sem_set.specs.declared.sets.Semaphore.{Semaphore}
+use Rattle.sem_set.specs.declared.trials.Trial.{Trial}
+use Rattle.sem_set.specs.declared.trials.Trial.TheVariants as trials
+use Rattle.sem_set.specs.Met.{met_at}
+use Rattle.sem_set.specs.Sets.{semvmx}
+use Rattle.sem_set.specs.Trials.{is_semadj, must_wait, trial_from, undoes}
+use Rattle.ipc_model.specs.Decision.{Decision}
+use Rattle.ipc_model.specs.Decision as decisions
+use Rattle.ipc_model.specs.Plan.{Plan, decision, in_order}
+use Rattle.ipc_model.specs.Semaphores.{trial_checks}
+
+-- what is decided where a trial goes, and where it stops
+abbrev pub by_trial : {X : Type 0} → Trial → Decision X → Decision X
+by_trial trials.Go d = d
+by_trial (trials.Wait place) d = decisions.Wait
+by_trial (trials.Refuse rule) d = decisions.Refuse rule
+
+-- one operation, by its three tests
+by_tests : {X : Type 0} (high low nowait far : Bool) (place : ℕ) (rest : Trial) (d e : Decision X) → e ≡ by_trial rest d
+    → cond (not high) (cond (not low) (cond (not far) e (decisions.Refuse UndoRange)) (cond nowait (decisions.Refuse WouldWait) decisions.Wait)) (decisions.Refuse ValueRange)
+    ≡ by_trial (unwrap_or (if high then Some (trials.Refuse ValueRange) else (if low then Some (if nowait then trials.Refuse WouldWait else trials.Wait place) else (if far then Some (trials.Refuse UndoRange) else None))) rest) d
+by_tests true low nowait far place rest d e is = refl
+by_tests false true true far place rest d e is = refl
+by_tests false true false far place rest d e is = refl
+by_tests false false nowait true place rest d e is = refl
+by_tests false false nowait false place rest d e is = is
+
+pub tried : {X : Type 0} (c : Credentials) (place : ℕ) (sems : List Semaphore) (adj : ℕ → ℤ) (earlier ops : List SemOper) (rest : Plan X)
+    → decision c (in_order (trial_checks sems adj earlier ops) rest) ≡ by_trial (trial_from place sems adj earlier ops) (decision c rest)
+tried c place sems adj earlier [] rest = refl
+tried c place sems adj earlier (o ∷ os) rest =
+    let met = met_at sems adj earlier o.num in
+    by_tests (int_lt semvmx (met.value +ℤ o.op)) (must_wait met.value o) (has_flag o.flags ipc_nowait) (undoes o && not (is_semadj (met.adj -ℤ o.op))) place (trial_from (place + 1) sems adj (earlier ++ o ∷ []) os) (decision c rest) _
+    (tried c (place + 1) sems adj (earlier ++ o ∷ []) os rest)

@@ -1,0 +1,34 @@
+-- semop in two steps: what is decided on it, and then the operations, for which a row was reserved.
+use Rattle.std.specs.Prelude.{◌≡◌, ⊤, ℕ, ◌-ℤ◌, true, List, [], ◌∷◌, Option, Some, None, Result, Ok, Err}
+use Rattle.ipc_call.specs.declared.calls.SemOper.{SemOper}
+use Rattle.ipc_call.specs.declared.limits.Limits.{Limits}
+use Rattle.ipc_call.specs.declared.rules.Rule.{Rule}
+use Rattle.sem_set.specs.declared.trials.Trial.{Trial}
+use Rattle.sem_set.specs.declared.trials.Trial.TheVariants.{Go, Wait, Refuse}
+use Rattle.sem_set.specs.Trials.{is_semadj, undoes}
+use Rattle.sem_undo.specs.Entries.{Entries, adj_of}
+use Rattle.ipc_model.specs.Decision.{Decision, without_answer}
+use Rattle.ipc_model.specs.Plan.{decision}
+use Rattle.ipc_model.specs.Semaphores.{lowered_by, operate}
+use Rattle.ipc_model.specs.State.{Caller, Sems}
+
+-- the decision on semop
+abbrev pub operating : Limits → Sems → Caller → ℕ → List SemOper → Decision Sems
+operating limits sems who id ops = decision who.creds (operate limits sems who id ops)
+
+-- semop is granted under some limits
+abbrev pub MayOperate : Sems → Caller → ℕ → List SemOper → Type 0
+MayOperate sems who id ops = (limits : Limits) × (without_answer (operating limits sems who id ops) ≡ Some (Ok tt))
+
+-- how the call ends by its trial, its answer left out
+abbrev pub told_by : Trial → Option (Result ⊤ Rule)
+told_by Go = Some (Ok tt)
+told_by (Wait place) = None
+told_by (Refuse rule) = Some (Err rule)
+
+-- each semadj that the operations lower stays in its range
+abbrev pub StayInRange : Entries → ℕ → ℕ → List SemOper → Type 0
+StayInRange undo client id [] = ⊤
+StayInRange undo client id (o ∷ os) =
+    (undoes o ≡ true → is_semadj (adj_of undo client id o.num -ℤ o.op) ≡ true)
+    × StayInRange (lowered_by undo client id o) client id os
