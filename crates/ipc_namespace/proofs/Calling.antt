@@ -1,28 +1,35 @@
 -- The calls of queues as a namespace makes them: what is decided of its queues is decided of its state.
 use Rattle.std.proofs.Common.{◌≡◌, ℕ, ℤ, Bool, true, false, List, [], ◌∷◌, length, refl, sym, ap, subst, ◌∙◌, Option, Some, None, Ok, Err}
-use Rattle.std.specs.Prelude.{⊤, if◌then◌else◌, is_some, pos, int_le, nat_le, IfOk, IfSome, IsSome, Result}
+use Rattle.std.specs.Prelude.{⊤, not, if◌then◌else◌, is_some, pos, int_le, nat_le, nat_lt, IfOk, IfSome, IsSome, Result}
 use Rattle.std.proofs.lemmas.Bool.{eqb-true, false≢true}
 use Rattle.std.proofs.lemmas.Option.{none-some}
 use Rattle.ipc_call.specs.declared.calls.Call.{Call}
-use Rattle.ipc_call.specs.declared.calls.Call.TheVariants.{MsgGet, MsgSnd, MsgRcv}
+use Rattle.ipc_call.specs.declared.calls.Call.TheVariants.{MsgGet, MsgSnd, MsgRcv, SemOp}
+use Rattle.ipc_call.specs.declared.calls.SemOper.{SemOper}
 use Rattle.ipc_call.specs.declared.limits.Limits.{Limits}
 use Rattle.ipc_call.specs.declared.replies.Answer.TheVariants.{Done}
 use Rattle.ipc_call.specs.declared.rules.Rule.{Rule}
-use Rattle.ipc_call.specs.declared.rules.Rule.TheVariants.{BadId, BadType, TextTooLong}
+use Rattle.ipc_call.specs.declared.rules.Rule.TheVariants.{BadId, BadType, NoOperations, SemOutOfSet, TextTooLong, TooManyOperations}
+use Rattle.ipc_call.specs.declared.rules.Rule.TheVariants as rules
 use Rattle.ipc_creds.specs.Credentials.{Credentials}
 use Rattle.ipc_objects.specs.declared.object.Object.{Object}
 use Rattle.msg_queue.specs.declared.messages.Message.{Message}
-use Rattle.ipc_model.specs.State.{Caller, Queue, Queues, State, caller, creds_at}
+use Rattle.ipc_model.specs.State.{Caller, Queue, Queues, SemSet, Sems, State, caller, creds_at, has_ended}
 use Rattle.ipc_model.specs.Decision.{Decision, Grant, Outcome, Refuse, Wait, left_by, outcome_of, proceeds}
-use Rattle.ipc_model.specs.Plan.{Plan, decision, on_part}
+use Rattle.ipc_model.specs.Plan.{Plan, decision, on_part, unless}
+use Rattle.ipc_perm.specs.Access.{Permission, denial}
+use Rattle.sem_set.specs.Trials.{are_in}
+use Rattle.ipc_model.specs.Semaphores.{operate, operate_found, set_at, wanted_by}
 use Rattle.ipc_model.specs.Gets.{get_queue}
 use Rattle.ipc_model.specs.Messages.{queue_at, receive_message, send_found, send_message}
-use Rattle.ipc_model.specs.Decide.{decide, part_plan}
+use Rattle.ipc_model.specs.Decide as decisions
+use Rattle.ipc_model.specs.Decide.{OnSems, decide_alive as decide, part_plan, whole}
 use Rattle.ipc_model.specs.Step.{end_waiting, ended_by, state_by, without}
 use Rattle.ipc_model.proofs.Plans.{Ends-decision, Ends-found, IfGranted, left-on, outcome-on}
 use Rattle.ipc_model.proofs.Alike.{proceeds-on}
-use Rattle.queue_calls.specs.Calls.{sending, without_answer}
-use Rattle.ipc_namespace.specs.Namespace.{is_send_to}
+use Rattle.queue_calls.specs.Calls.{sending}
+use Rattle.ipc_model.specs.Decision.{without_answer}
+use Rattle.ipc_namespace.specs.Namespace.{MayReserve, is_send_to}
 
 pub IfOk-map : {T E : Type 0} (r : Result T E) (P Q : T → Type 0) → ((x : T) → P x → Q x) → IfOk r P → IfOk r Q
 IfOk-map (Ok x) P Q f p = f x p
@@ -34,29 +41,54 @@ IfSome-at o x P is p = subst (λ v. IfSome v P) is p
 abbrev pub put_in : State → Queues → State
 put_in s queues = record s { queues = queues }
 
--- a plan of the queues of a state, decided for a client of it, on the state as the code has it
-module _ (part : State → Caller → Plan Queues) (v s : State) (client : ℕ) (who : Caller) (is : v ≡ s) (called : who ≡ caller v client) where
+-- a plan of a part of a state, decided for a client of it, on the state as the code has it
+module _ {X : Type 0} (put : State → X → State) (pick : State → X) (same : (t : State) → put t (pick t) ≡ t) (part : State → Caller → Plan X) (v s : State) (client : ℕ) (who : Caller) (is : v ≡ s) (called : who ≡ caller v client) where
   abbrev whole_of : State → Decision State
-  whole_of t = decision (creds_at t client) (on_part (put_in t) (part t (caller t client)))
+  whole_of t = decision (creds_at t client) (on_part (put t) (part t (caller t client)))
 
-  outcome-as : outcome_of (decision who.creds (part v who)) ≡ outcome_of (whole_of s)
-  outcome-as =
+  outcome-by : outcome_of (decision who.creds (part v who)) ≡ outcome_of (whole_of s)
+  outcome-by =
       ap (λ (w : Caller). outcome_of (decision w.creds (part v w))) called
-      ∙ sym (outcome-on (creds_at v client) (put_in v) (part v (caller v client)))
+      ∙ sym (outcome-on (creds_at v client) (put v) (part v (caller v client)))
       ∙ ap (λ (t : State). outcome_of (whole_of t)) is
 
-  proceeds-as : proceeds (decision who.creds (part v who)) ≡ proceeds (whole_of s)
-  proceeds-as =
+  proceeds-by : proceeds (decision who.creds (part v who)) ≡ proceeds (whole_of s)
+  proceeds-by =
       ap (λ (w : Caller). proceeds (decision w.creds (part v w))) called
-      ∙ sym (proceeds-on (creds_at v client) (put_in v) (part v (caller v client)))
+      ∙ sym (proceeds-on (creds_at v client) (put v) (part v (caller v client)))
       ∙ ap (λ (t : State). proceeds (whole_of t)) is
 
-  left-as : (queues : Queues) → queues ≡ left_by v.queues (decision who.creds (part v who)) → put_in v queues ≡ left_by s (whole_of s)
-  left-as queues left =
-      ap (put_in v) left
-      ∙ ap (λ (w : Caller). put_in v (left_by v.queues (decision w.creds (part v w)))) called
-      ∙ sym (left-on (creds_at v client) (put_in v) (part v (caller v client)) v.queues v refl)
+  left-by : (x : X) → x ≡ left_by (pick v) (decision who.creds (part v who)) → put v x ≡ left_by s (whole_of s)
+  left-by x left =
+      ap (put v) left
+      ∙ ap (λ (w : Caller). put v (left_by (pick v) (decision w.creds (part v w)))) called
+      ∙ sym (left-on (creds_at v client) (put v) (part v (caller v client)) (pick v) v (same v))
       ∙ ap (λ (t : State). left_by t (whole_of t)) is
+
+-- of the queues
+module _ (part : State → Caller → Plan Queues) (v s : State) (client : ℕ) (who : Caller) (is : v ≡ s) (called : who ≡ caller v client) where
+  outcome-as : outcome_of (decision who.creds (part v who)) ≡ outcome_of (decision (creds_at s client) (on_part (put_in s) (part s (caller s client))))
+  outcome-as = outcome-by put_in (λ t. t.queues) (λ t. refl) part v s client who is called
+
+  proceeds-as : proceeds (decision who.creds (part v who)) ≡ proceeds (decision (creds_at s client) (on_part (put_in s) (part s (caller s client))))
+  proceeds-as = proceeds-by put_in (λ t. t.queues) (λ t. refl) part v s client who is called
+
+  left-as : (queues : Queues) → queues ≡ left_by v.queues (decision who.creds (part v who)) → put_in v queues ≡ left_by s (decision (creds_at s client) (on_part (put_in s) (part s (caller s client))))
+  left-as = left-by put_in (λ t. t.queues) (λ t. refl) part v s client who is called
+
+-- a call on the sets
+abbrev pub put_sems : State → Sems → State
+put_sems s sems = record s { sems = sems }
+
+module _ (call : Call) (part : State → Caller → Plan Sems) (v s : State) (client : ℕ) (who : Caller) (is : v ≡ s) (called : who ≡ caller v client) (planned : (t : State) → part_plan t (caller t client) call ≡ OnSems (part t (caller t client))) where
+  decided : decide s client call ≡ decision (creds_at s client) (on_part (put_sems s) (part s (caller s client)))
+  decided = ap (λ p. decision (creds_at s client) (whole s p)) (planned s)
+
+  pub sets-outcome : outcome_of (decision who.creds (part v who)) ≡ outcome_of (decide s client call)
+  sets-outcome = outcome-by put_sems (λ t. t.sems) (λ t. refl) part v s client who is called ∙ sym (ap (λ d. outcome_of d) decided)
+
+  pub sets-left : (sems : Sems) → sems ≡ left_by v.sems (decision who.creds (part v who)) → put_sems v sems ≡ left_by s (decide s client call)
+  sets-left sems left = left-by put_sems (λ t. t.sems) (λ t. refl) part v s client who is called sems left ∙ sym (ap (λ d. left_by s d) decided)
 
 -- a decision without its answer, by how the call ends
 abbrev answered : Option Outcome → Option (Result ⊤ Rule)
@@ -170,12 +202,17 @@ ended-as s client (Refuse rule) outcome is = let same : Err rule ≡ outcome = c
 ended-as s client Wait outcome is = absurd (none-some outcome is)
 ended-as s client (Grant answer new) outcome is = let same : Ok answer ≡ outcome = cc in ap (λ o. record { state = new; ended = record { client = client; outcome = o } ∷ [] }) same
 
+-- of a client that hasn't ended
+pub alive-decides : (s : State) (client : ℕ) (call : Call) → has_ended s client ≡ false → decisions.decide s client call ≡ decide s client call
+alive-decides s client call alive = ap (λ b. if not b then decide s client call else Refuse rules.Ended) alive
+
 -- a waiting call that ends
-pub ends-so : (s new : State) (client : ℕ) (call : Call) (outcome : Outcome) → outcome_of (decide (without s client) client call) ≡ Some outcome
+pub ends-so : (s new : State) (client : ℕ) (call : Call) (outcome : Outcome) → has_ended s client ≡ false → outcome_of (decide (without s client) client call) ≡ Some outcome
     → new ≡ left_by (without s client) (decide (without s client) client call)
     → end_waiting s (record { client = client; call = call }) ≡ record { state = new; ended = record { client = client; outcome = outcome } ∷ [] }
-ends-so s new client call outcome told left =
-    ended-as (without s client) client (decide (without s client) client call) outcome told ∙ (λ i. record { state = sym left i; ended = record { client = client; outcome = outcome } ∷ [] })
+ends-so s new client call outcome alive told left =
+    ap (λ d. ended_by (without s client) client d) (alive-decides (without s client) client call alive)
+    ∙ ended-as (without s client) client (decide (without s client) client call) outcome told ∙ (λ i. record { state = sym left i; ended = record { client = client; outcome = outcome } ∷ [] })
 
 no-queue : (a b : Bool) → outcome_of {X = Queues} (if a then (if b then Refuse BadId else Refuse TextTooLong) else Refuse BadType) ≡ None → ⊥
 no-queue true true is = cc
@@ -186,6 +223,42 @@ there-where : (a b : Bool) (c : Credentials) (queues : Queues) (who : Caller) (i
     → outcome_of (if a then (if b then decision c (send_found queues who id flags message queue) else Refuse TextTooLong) else Refuse BadType) ≡ None → IsSome queue
 there-where a b c queues who id flags message None is = absurd (no-queue a b is)
 there-where a b c queues who id flags message (Some queue) is = refl
+
+-- a semop that waits has its set, with the semaphores that it names
+no-set : (a b : Bool) → outcome_of {X = Sems} (if a then (if b then Refuse BadId else Refuse TooManyOperations) else Refuse NoOperations) ≡ None → ⊥
+no-set true true is = cc
+no-set true false is = cc
+no-set false b is = cc
+
+module _ (c : Credentials) (sems : Sems) (who : Caller) (id : ℕ) (ops : List SemOper) where
+  abbrev tests : Bool → Bool → Option (Object SemSet) → Decision Sems
+  tests a b set = if a then (if b then decision c (operate_found sems who id ops set) else Refuse TooManyOperations) else Refuse NoOperations
+
+  set-there : (a b : Bool) (set : Option (Object SemSet)) → outcome_of (tests a b set) ≡ None → IsSome set
+  set-there a b None is = absurd (no-set a b is)
+  set-there a b (Some set) is = refl
+
+  denied-or : (o : Option Rule) (inside : Bool) (d : Decision Sems) → outcome_of (unless o (if inside then d else Refuse SemOutOfSet)) ≡ None → inside ≡ true
+  denied-or (Some rule) inside d is = cc
+  denied-or None true d is = refl
+  denied-or None false d is = cc
+
+  numbers-in : (a b : Bool) (set : Option (Object SemSet)) → outcome_of (tests a b set) ≡ None → IfSome set (λ s. are_in s.contents.semaphores ops ≡ true)
+  numbers-in a b None is = tt
+  numbers-in true true (Some set) is = denied-or (denial c (Permission set.perm (wanted_by ops))) (are_in set.contents.semaphores ops) _ is
+  numbers-in true false (Some set) is = cc
+  numbers-in false b (Some set) is = cc
+
+pub operator-there : (s : State) (client : ℕ) (call : Call) → outcome_of (decide s client call) ≡ None → MayReserve s.sems call
+unfolding part_plan
+operator-there s client (SemOp id ops) waits =
+    let c = creds_at s client in
+    let who = caller s client in
+    let is = sym (outcome-on c (put_sems s) (operate s.limits s.sems who id ops)) ∙ waits in (
+      set-there c s.sems who id ops (nat_lt 0 (length ops)) (nat_le (length ops) s.limits.sem_opm) (set_at s.sems id) is,
+      numbers-in c s.sems who id ops (nat_lt 0 (length ops)) (nat_le (length ops) s.limits.sem_opm) (set_at s.sems id) is,
+    )
+operator-there s client call waits = tt
 
 -- a call that waits to send has its queue
 pub sender-there : (s : State) (client : ℕ) (call : Call) (id : ℕ) → outcome_of (decide s client call) ≡ None → is_send_to id call ≡ true → IsSome (queue_at s.queues id)

@@ -1,25 +1,32 @@
 -- The waiting calls that a granted call cancels: the code ends the first until none is left, the definition filters the list.
-use Rattle.std.proofs.Common.{◌≡◌, ℕ, ℤ, ◌+◌, true, false, List, [], ◌∷◌, ◌++◌, cond, length, append_assoc, refl, sym, ap, subst, ◌∙◌, ⊎_elim, Option, Some, None, Err}
-use Rattle.std.specs.Prelude.{is_none, is_some, IfSome}
+use Rattle.std.proofs.Common.{◌≡◌, ℕ, ℤ, ◌+◌, Bool, true, false, List, [], ◌∷◌, ◌++◌, cond, length, append_assoc, refl, sym, ap, subst, ◌∙◌, ⊎_elim, Option, Some, None, Err}
+use Rattle.std.specs.Prelude.{◌==◌, ◌&&◌, is_none, is_some, option_map, unwrap_or, IfSome}
 use Rattle.std.specs.List.{find, AllByRecursion}
-use Rattle.std.proofs.lemmas.Bool.{cases_Bool, true≢false}
+use Rattle.std.proofs.lemmas.Bool.{cases_Bool, false≢true, true≢false}
 use Rattle.ipc_call.specs.Flags.{has_flag, msg_except}
 use Rattle.ipc_call.specs.declared.calls.Call.{Call}
-use Rattle.ipc_call.specs.declared.calls.Call.TheVariants.{MsgSnd, MsgRcv}
+use Rattle.ipc_call.specs.declared.calls.Call.TheVariants.{MsgSnd, MsgRcv, SemOp}
+use Rattle.ipc_call.specs.declared.calls.SemOper.{SemOper}
+use Rattle.ipc_call.specs.declared.replies.Answer.TheVariants.{Done}
+use Rattle.sem_set.specs.declared.sets.Semaphore.{Semaphore}
+use Rattle.sem_undo.specs.Entries.{adj_of}
+use Rattle.ipc_model.specs.Controls.{perm_in}
+use Rattle.ipc_model.specs.Semaphores.{operate, operate_found, operated, set_at, trial_checks, wanted_by}
+use Rattle.ipc_call.specs.declared.calls.Kind.{Kind}
 use Rattle.ipc_call.specs.declared.replies.Waiting.{Waiting}
 use Rattle.ipc_call.specs.declared.replies.Ended.{Ended}
 use Rattle.ipc_call.specs.declared.rules.Rule.{Rule}
 use Rattle.ipc_perm.specs.Access.{Permission, to_alter, to_read}
 use Rattle.msg_queue.specs.declared.messages.Message.{Message}
-use Rattle.ipc_model.specs.State.{Caller, Queue, Queues, State, caller, creds_at, is_waiting, waiting_of}
-use Rattle.ipc_model.specs.Plan.{needs_in}
+use Rattle.ipc_model.specs.State.{Caller, Queue, Queues, SemSet, Sems, State, caller, creds_at, is_waiting, waiting_of}
+use Rattle.ipc_model.specs.Plan.{Plan, Grant, in_order, needs_in}
 use Rattle.ipc_objects.specs.declared.object.Object.{Object}
 use Rattle.ipc_model.specs.Messages.{chosen, queue_at, receive_found, receive_message, send_found, send_message, take_chosen}
-use Rattle.ipc_model.specs.Decide.{needs, part_plan, plan}
+use Rattle.ipc_model.specs.Decide.{can_wait, needs, part_plan, plan, waits_at}
 use Rattle.ipc_model.proofs.Plans.{needs-on}
 use Rattle.ipc_model.proofs.Alike.{needs-alike}
 use Rattle.ipc_model.proofs.Calls.{plan-alike}
-use Rattle.ipc_model.specs.Cancelled.{first_denial, waits_on}
+use Rattle.ipc_model.specs.Cancelled.{first_denial, is_same, waits_on}
 use Rattle.ipc_model.specs.Step.{told_cancelled, without}
 use Rattle.ipc_namespace.specs.declared.cancelling.Cancelling.{Cancelling}
 use Rattle.ipc_namespace.specs.declared.cancelling.Cancelling.TheVariants as cancellings
@@ -69,16 +76,25 @@ module _ (rule : Waiting → Option Rule) where
         ap (ended_as rule) at.is ∙ ended-append at.before (w ∷ at.after) ∙ ap (λ es. es ++ ended_as rule (w ∷ at.after)) before ∙ ap (λ o. told_cancelled w.client o ++ ended_as rule at.after) is
         ∙ ap (λ es. record { client = w.client; outcome = Err r } ∷ es) (sym (ap (ended_as rule) at.left ∙ ended-append at.before at.after ∙ ap (λ es. es ++ ended_as rule at.after) before))
 
--- what a call needs, and so what ends, doesn't depend on the waiting list
+-- a call that waits at an object may wait
+waits-can : (kind : Kind) (id : ℕ) (o : Option (Kind × ℕ)) → unwrap_or (option_map (λ at. is_same at.0 kind && at.1 == id) o) false ≡ true → is_some o ≡ true
+waits-can kind id None on = absurd (false≢true on)
+waits-can kind id (Some at) on = refl
+
+-- what a call that may wait needs, and so what ends, doesn't depend on the waiting list
 module _ (s : State) (parked : List Waiting) where
   abbrev other : State
   other = record s { parked = parked }
 
-  needs-same : (client : ℕ) (call : Call) → needs other client call ≡ needs s client call
-  needs-same client call = needs-alike (plan other client call) (plan s client call) (plan-alike s parked s.clock client call)
+  needs-same : (client : ℕ) (call : Call) → can_wait call ≡ true → needs other client call ≡ needs s client call
+  needs-same client call can = needs-alike (plan other client call) (plan s client call) (plan-alike s parked s.clock client call can)
+
+  denied-alike : (b : Bool) (w : Waiting) → (b ≡ true → can_wait w.call ≡ true) → cond b (first_denial (creds_at s w.client) (needs other w.client w.call)) None ≡ cond b (first_denial (creds_at s w.client) (needs s w.client w.call)) None
+  denied-alike true w can = ap (λ ns. first_denial (creds_at s w.client) ns) (needs-same w.client w.call (can refl))
+  denied-alike false w can = refl
 
   cancelled_as-alike : (cancelling : Cancelling) (w : Waiting) → cancelled_as other cancelling w ≡ cancelled_as s cancelling w
-  cancelled_as-alike (cancellings.Denied kind id) w = ap (λ ns. cond (waits_on kind id w.call) (first_denial (creds_at s w.client) ns) None) (needs-same w.client w.call)
+  cancelled_as-alike (cancellings.Denied kind id) w = denied-alike (waits_on kind id w.call) w (λ on. waits-can kind id (waits_at w.call) on)
   cancelled_as-alike (cancellings.Removed kind id) w = refl
   cancelled_as-alike (cancellings.Interrupted pid) w = refl
 
@@ -91,28 +107,43 @@ module _ (queues : Queues) (who : Caller) (id : ℕ) where
   taken-needs size flags queue None = refl
   taken-needs size flags queue (Some taken) = refl
 
-  received-needs : (size : ℕ) (msgtyp : ℤ) (flags : ℕ) (queue : Option (Object Queue)) → needs_in (receive_found queues who id size msgtyp flags queue) ≡ needs_for to_read queue
+  received-needs : (size : ℕ) (msgtyp : ℤ) (flags : ℕ) (queue : Option (Object Queue)) → needs_in (receive_found queues who id size msgtyp flags queue) ≡ needs_for to_read (option_map (λ q. q.perm) queue)
   received-needs size msgtyp flags None = refl
   received-needs size msgtyp flags (Some queue) =
       ap (λ ns. Permission queue.perm to_read ∷ ns) (taken-needs size flags queue.contents (chosen queue.contents.messages msgtyp (has_flag flags msg_except)))
 
-  sent-needs : (flags : ℕ) (message : Message) (queue : Option (Object Queue)) → needs_in (send_found queues who id flags message queue) ≡ needs_for to_alter queue
+  sent-needs : (flags : ℕ) (message : Message) (queue : Option (Object Queue)) → needs_in (send_found queues who id flags message queue) ≡ needs_for to_alter (option_map (λ q. q.perm) queue)
   sent-needs flags message None = refl
   sent-needs flags message (Some queue) = refl
 
 module _ (s : State) (client id : ℕ) where
-  pub receiver-needs : (size : ℕ) (msgtyp : ℤ) (flags : ℕ) → needs s client (MsgRcv id size msgtyp flags) ≡ needs_for to_read (queue_at s.queues id)
+  pub receiver-needs : (size : ℕ) (msgtyp : ℤ) (flags : ℕ) → needs s client (MsgRcv id size msgtyp flags) ≡ needs_for to_read (perm_in s.queues id)
   unfolding part_plan
   receiver-needs size msgtyp flags =
       needs-on (λ queues. record s { queues = queues }) (receive_message s.queues (caller s client) id size msgtyp flags)
       ∙ received-needs s.queues (caller s client) id size msgtyp flags (queue_at s.queues id)
 
-  pub sender-needs : (mtype : ℤ) (text : List ℕ) (flags : ℕ) → needs s client (MsgSnd id mtype text flags) ≡ needs_for to_alter (queue_at s.queues id)
+  pub sender-needs : (mtype : ℤ) (text : List ℕ) (flags : ℕ) → needs s client (MsgSnd id mtype text flags) ≡ needs_for to_alter (perm_in s.queues id)
   unfolding part_plan
   sender-needs mtype text flags =
       let message : Message = record { mtype = mtype; text = text } in
       needs-on (λ queues. record s { queues = queues }) (send_message s.limits s.queues (caller s client) id flags message)
       ∙ sent-needs s.queues (caller s client) id flags message (queue_at s.queues id)
+
+-- a trial needs nothing more
+tried-needs : {X : Type 0} (sems : List Semaphore) (adj : ℕ → ℤ) (earlier ops : List SemOper) (p : Plan X) → needs_in (in_order (trial_checks sems adj earlier ops) p) ≡ needs_in p
+tried-needs sems adj earlier [] p = refl
+tried-needs sems adj earlier (o ∷ os) p = tried-needs sems adj (earlier ++ o ∷ []) os p
+
+operated-needs : (sems : Sems) (who : Caller) (id : ℕ) (ops : List SemOper) (set : Option (Object SemSet)) → needs_in (operate_found sems who id ops set) ≡ needs_for (wanted_by ops) (option_map (λ o. o.perm) set)
+operated-needs sems who id ops None = refl
+operated-needs sems who id ops (Some set) =
+    ap (λ ns. Permission set.perm (wanted_by ops) ∷ ns) (tried-needs set.contents.semaphores (adj_of sems.undo who.client id) [] ops (Grant Done (operated sems who id ops set.contents)))
+
+pub operator-needs : (s : State) (client id : ℕ) (ops : List SemOper) → needs s client (SemOp id ops) ≡ needs_for (wanted_by ops) (perm_in s.sems.sets id)
+unfolding part_plan
+operator-needs s client id ops =
+    needs-on (λ sems. record s { sems = sems }) (operate s.limits s.sems (caller s client) id ops) ∙ operated-needs s.sems (caller s client) id ops (set_at s.sems id)
 
 IfSome-at : {A : Type 0} (o : Option A) (x : A) (P : A → Type 0) → o ≡ Some x → IfSome o P → P x
 IfSome-at o x P is p = subst (λ v. IfSome v P) is p

@@ -1,19 +1,22 @@
 -- What a decided call leaves, with the waiting calls that it cancels.
-use Rattle.std.proofs.Common.{◌≡◌, ℕ, ◌<◌, List, [], ◌∷◌, get_or, length, refl, sym, ap, subst, ◌∙◌, Some, None, Err}
+use Rattle.std.proofs.Common.{◌≡◌, ℕ, ◌<◌, List, [], ◌∷◌, get_or, length, true, refl, sym, ap, subst, ◌∙◌, Some, None, Err}
 use Rattle.std.specs.List.{AllByRecursion}
+use Rattle.std.proofs.lemmas.Bool.{false≢true}
 use Rattle.std.proofs.lemmas.List.{get_or_default}
 use Rattle.std.proofs.lemmas.Option.{none-some}
 use Rattle.ipc_call.specs.declared.calls.Call.{Call}
+use Rattle.ipc_call.specs.declared.calls.Call.TheVariants.{SemGet, GetVal, GetPid, GetAll, SetVal, SetAll}
 use Rattle.ipc_call.specs.declared.replies.Answer.{Answer}
 use Rattle.ipc_call.specs.declared.replies.Waiting.{Waiting}
 use Rattle.ipc_call.specs.declared.rules.Rule.{Rule}
 use Rattle.ipc_creds.specs.Credentials.{Credentials}
 use Rattle.ipc_model.specs.State.{State, creds_at, nobody}
 use Rattle.ipc_model.specs.Decision.{Decision, Grant, Outcome, Refuse, Wait, left_by, outcome_of}
-use Rattle.ipc_model.specs.Decide.{decide}
+use Rattle.ipc_model.specs.Decide.{decide_alive as decide}
 use Rattle.ipc_model.specs.Cancelled.{cancelled}
-use Rattle.ipc_model.specs.Step.{Moved, cancel, cancelled_by, moved_by, state_by}
-use Rattle.queue_calls.specs.Calls.{without_answer}
+use Rattle.ipc_model.specs.Step.{Moved, cancel, cancelled_by, state_by}
+use Rattle.ipc_model.specs.Decision.{without_answer}
+use Rattle.ipc_namespace.specs.Namespace.{is_on_sets, moved_alive as moved_by}
 use Rattle.ipc_namespace.proofs.Endings.{ended-none, left-none}
 
 refused-as : (d : Decision State) (rule : Rule) → without_answer d ≡ Some (Err rule) → d ≡ Refuse rule
@@ -31,6 +34,16 @@ uncancelled new call none = λ i. record {
   state = record new { parked = left-none (cancelled new call) new.parked (every (λ w. cancelled new call w ≡ None) new.parked none) i };
   ended = ended-none (cancelled new call) new.parked (every (λ w. cancelled new call w ≡ None) new.parked none) i;
 }
+
+-- no call on sets alone cancels another
+pub sets-cancel-none : (new : State) (call : Call) (w : Waiting) → is_on_sets call ≡ true → cancelled new call w ≡ None
+sets-cancel-none new (SemGet key nsems flags) w sets = refl
+sets-cancel-none new (GetVal id num) w sets = refl
+sets-cancel-none new (GetPid id num) w sets = refl
+sets-cancel-none new (GetAll id) w sets = refl
+sets-cancel-none new (SetVal id num value) w sets = refl
+sets-cancel-none new (SetAll id values) w sets = refl
+sets-cancel-none new call w sets = absurd (false≢true sets)
 
 moved-state : (s : State) (client : ℕ) (call : Call) (d : Decision State) → ((new : State) (w : Waiting) → cancelled new call w ≡ None)
     → cancelled_by (state_by s client call d) call d ≡ record { state = state_by s client call d; ended = [] }

@@ -34,7 +34,7 @@ module _ (P : Waiting → Type 0) where
       (λ (no : test w ≡ false). rw no (all-filter test ws all.1))
       (cases_Bool (test w))
 
-  all-push : (ws : List Waiting) (w : Waiting) → AllByRecursion P ws → P w → AllByRecursion P (ws ++ w ∷ [])
+  pub all-push : (ws : List Waiting) (w : Waiting) → AllByRecursion P ws → P w → AllByRecursion P (ws ++ w ∷ [])
   all-push [] w all p = (p, tt)
   all-push (v ∷ ws) w all p = (all.0, all-push ws w all.1 p)
 

@@ -4,7 +4,8 @@ use Rattle.std.specs.Prelude.{◌==◌, is_none, if◌then◌else◌, IsSome}
 use Rattle.std.specs.List.{find}
 use Rattle.std.proofs.lemmas.Bool.{false≢true, true≢false}
 use Rattle.ipc_call.specs.declared.calls.Call.{Call}
-use Rattle.ipc_call.specs.declared.calls.Call.TheVariants.{MsgSnd, MsgRcv}
+use Rattle.ipc_call.specs.declared.calls.Call.TheVariants.{MsgSnd, MsgRcv, SemOp}
+use Rattle.ipc_call.specs.declared.calls.SemOper.{SemOper}
 use Rattle.ipc_call.specs.declared.replies.Waiting.{Waiting}
 use Rattle.ipc_call.specs.declared.rules.Rule.TheVariants.{Removed}
 use Rattle.queue_calls.specs.Held.{one_if}
@@ -66,8 +67,10 @@ pub only_send : (call : Call) → IsSome (sent_to call) → ((id : ℕ) (mtype :
 only_send (MsgSnd id mtype text flags) some sends = sends id mtype text flags refl
 only_send call some sends = absurd (false≢true some)
 
--- a call that may wait sends or receives
-pub no_other : (call : Call) → can_wait call ≡ true → ((id : ℕ) (mtype : ℤ) (text : List ℕ) (flags : ℕ) → call ≡ MsgSnd id mtype text flags → ⊥) → ((id size : ℕ) (msgtyp : ℤ) (flags : ℕ) → call ≡ MsgRcv id size msgtyp flags → ⊥) → ⊥
-no_other (MsgSnd id mtype text flags) can sends receives = sends id mtype text flags refl
-no_other (MsgRcv id size msgtyp flags) can sends receives = receives id size msgtyp flags refl
-no_other call can sends receives = absurd (true≢false (sym can))
+-- a call that may wait sends, receives or operates
+pub no_other : (call : Call) → can_wait call ≡ true → ((id : ℕ) (mtype : ℤ) (text : List ℕ) (flags : ℕ) → call ≡ MsgSnd id mtype text flags → ⊥) → ((id size : ℕ) (msgtyp : ℤ) (flags : ℕ) → call ≡ MsgRcv id size msgtyp flags → ⊥)
+    → ((id : ℕ) (ops : List SemOper) → call ≡ SemOp id ops → ⊥) → ⊥
+no_other (MsgSnd id mtype text flags) can sends receives operates = sends id mtype text flags refl
+no_other (MsgRcv id size msgtyp flags) can sends receives operates = receives id size msgtyp flags refl
+no_other (SemOp id ops) can sends receives operates = operates id ops refl
+no_other call can sends receives operates = absurd (true≢false (sym can))

@@ -1,31 +1,73 @@
 -- What is true of the calls that wait, and what a granted call ends of them.
-use Rattle.std.specs.Prelude.{◌≡◌, ⊤, Ok, Err, Result, ℕ, ◌+◌, ◌<◌, ◌==◌, Bool, true, false, List, [], ◌∷◌, filter, flat_map, is_none, Option, Some, None, if◌then◌else◌}
-use Rattle.std.specs.List.{AllByRecursion}
+use Rattle.std.specs.Prelude.{◌≡◌, ⊤, Ok, Err, Result, ℕ, ◌+◌, ◌<◌, ◌==◌, Bool, true, false, List, [], ◌∷◌, filter, flat_map, is_none, Option, Some, None, IfSome, IsSome, if◌then◌else◌}
+use Rattle.std.specs.List.{AllByRecursion, list_any}
 use Rattle.ipc_call.specs.declared.replies.Waiting.{Waiting}
 use Rattle.ipc_call.specs.declared.calls.Call.{Call}
-use Rattle.ipc_call.specs.declared.calls.Call.TheVariants.{MsgSnd}
+use Rattle.ipc_call.specs.declared.calls.Call.TheVariants.{MsgSnd, SemOp, SemGet, GetVal, GetPid, GetAll, SetVal, SetAll}
 use Rattle.ipc_call.specs.declared.replies.Ended.{Ended}
 use Rattle.ipc_call.specs.declared.rules.Rule.{Rule}
 use Rattle.ipc_call.specs.declared.rules.Rule.TheVariants.{Removed, Interrupted}
 use Rattle.ipc_ids.specs.Table.{Table}
 use Rattle.ipc_objects.specs.declared.object.Object.{Object}
 use Rattle.queue_calls.specs.Held.{Held, one_if, room}
+use Rattle.set_calls.specs.Held.{Held as Sets, HasRow}
 use Rattle.ipc_perm.specs.Access.{Need, Permission}
 use Rattle.ipc_perm.specs.declared.access.Verdict.{Verdict}
 use Rattle.ipc_perm.specs.declared.access.Verdict.TheVariants.{Allowed, Denied}
 use Rattle.ipc_perm.specs.declared.access.Want.{Want}
-use Rattle.ipc_model.specs.State.{Queue, State, creds_at, pid_of}
-use Rattle.ipc_model.specs.Decide.{can_wait, needs}
+use Rattle.ipc_perm.specs.declared.perms.Perm.{Perm}
+use Rattle.ipc_model.specs.State.{Sems, State, creds_at, pid_of}
+use Rattle.ipc_model.specs.Semaphores.{set_at}
+use Rattle.sem_set.specs.Trials.{are_in}
+use Rattle.ipc_model.specs.Decide.{can_wait, decide_alive, is_negative, is_zero, needs}
 use Rattle.ipc_model.specs.Cancelled.{first_denial, waits_on}
 use Rattle.ipc_model.specs.Decision.{Outcome}
-use Rattle.ipc_model.specs.Step.{told_cancelled}
+use Rattle.ipc_model.specs.Step.{Moved, moved_as, told_cancelled}
 use Rattle.ipc_parked.specs.Parked.{AreApart}
+use Rattle.ipc_call.specs.declared.calls.SemOper.{SemOper}
+use Rattle.ipc_namespace.specs.declared.semaphore_calls.Awaited.{Awaited}
+use Rattle.ipc_namespace.specs.declared.semaphore_calls.Awaited.TheVariants as awaits
 use Rattle.ipc_namespace.specs.declared.cancelling.Cancelling.{Cancelling}
 use Rattle.ipc_namespace.specs.declared.cancelling.Cancelling.TheVariants as cancellings
 
 -- each is of a client that there is, of so many, and may wait; no two are of one client
 unfoldable pub AreParked : ℕ → List Waiting → Type 0
 AreParked clients ws = AllByRecursion (λ w. (w.client < clients) × (can_wait w.call ≡ true)) ws × AreApart ws
+
+-- a call on semaphore sets that doesn't wait, and isn't one of objects of any kind
+abbrev pub is_on_sets : Call → Bool
+is_on_sets (SemGet key nsems flags) = true
+is_on_sets (GetVal id num) = true
+is_on_sets (GetPid id num) = true
+is_on_sets (GetAll id) = true
+is_on_sets (SetVal id num value) = true
+is_on_sets (SetAll id values) = true
+is_on_sets call = false
+
+-- the operation waits for it at the semaphore of this number
+abbrev pub is_awaited : Awaited → ℕ → SemOper → Bool
+is_awaited awaits.Rise num o = is_negative num o
+is_awaited awaits.Zero num o = is_zero num o
+
+-- what a waiting call has reserved of the sets: a semop, a row of semadj
+abbrev pub HasRowFor : Sets → ℕ → Call → Type 0
+HasRowFor sets client (SemOp id ops) = HasRow sets client id ops
+HasRowFor sets client call = Unit {0}
+
+-- the set of a semop is there, with the semaphores that it names
+abbrev pub MayReserve : Sems → Call → Type 0
+MayReserve sems (SemOp id ops) =
+    IsSome (set_at sems id) × IfSome (set_at sems id) (λ set. are_in set.contents.semaphores ops ≡ true)
+MayReserve sems call = Unit {0}
+
+-- the client of each hasn't ended, and what it needs of the sets is reserved
+unfoldable pub AreHeld : Sets → List ℕ → List Waiting → Type 0
+AreHeld sets ended ws =
+    AllByRecursion (λ w. (list_any (λ other. other == w.client) ended ≡ false) × HasRowFor sets w.client w.call) ws
+
+-- where a call of a client that hasn't ended moves the state, and the waiting calls that its grant ends
+abbrev pub moved_alive : State → ℕ → Call → Moved
+moved_alive s client call = moved_as s client call (decide_alive s client call)
 
 -- the queue that the call sends to
 abbrev pub sent_to : Call → Option ℕ
@@ -62,10 +104,10 @@ abbrev pub allowed_by : Verdict → Result ⊤ Rule
 allowed_by (Allowed _) = Ok tt
 allowed_by (Denied rule) = Err rule
 
--- what a call that waits needs on its queue
-abbrev pub needs_for : Want → Option (Object Queue) → List Need
+-- what a call that waits needs on its object
+abbrev pub needs_for : Want → Option Perm → List Need
 needs_for want None = []
-needs_for want (Some queue) = Permission queue.perm want ∷ []
+needs_for want (Some perm) = Permission perm want ∷ []
 
 -- what is left of a list of waiting calls, and those that end
 abbrev pub kept_by : (Waiting → Option Rule) → List Waiting → List Waiting

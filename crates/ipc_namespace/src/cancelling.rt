@@ -22,14 +22,14 @@ ghost use Rattle.std.specs.List.{find};
 ghost use Rattle.ipc_model.specs.State.{creds_at, is_waiting as waits, waiting_of};
 ghost use Rattle.ipc_model.specs.Decide.{needs, can_wait as may_wait};
 ghost use Rattle.ipc_model.specs.Cancelled.{first_denial, waits_on as call_waits_on};
-ghost use Rattle.ipc_model.specs.Messages.{queue_at};
 ghost use Rattle.ipc_namespace.specs.Namespace.{ended_as, cancelled_as, kept_by, needs_for};
 ghost use Rattle.ipc_parked.specs.Parked.{AreApart};
 
 use crate::namespace::Namespace;
 use ipc_call::{Call, Ended, Kind, Rule};
 use ipc_parked::waits_on;
-use ipc_perm::{TO_ALTER, TO_READ, Verdict, Want, decide};
+use ipc_perm::{Perm, TO_ALTER, TO_READ, Verdict, Want, decide};
+use set_calls::wanted_by;
 
 /// Why a granted call cancels waiting ones.
 #[derive(Clone, Copy, Debug)]
@@ -53,7 +53,7 @@ impl Namespace {
         ensures room { vec_capacity ended.old ≤ vec_capacity ended.new }
     {
         while let Some((client, rule)) = self.first_cancelled(cancelling) {
-            let ending = self.end_refused(client, rule);
+            let ending = self.end_as(client, Err(rule));
             ended.push(ending).unwrap();
         }
     }
@@ -110,20 +110,22 @@ impl Namespace {
         ensures { result ≡ first_denial (creds_at self.now client) (needs self.now client call.now) }
     {
         match call {
-            Call::MsgSnd { id, .. } => self.denial_on(client, *id, TO_ALTER),
-            Call::MsgRcv { id, .. } => self.denial_on(client, *id, TO_READ),
+            Call::MsgSnd { id, .. } => self.denial_on(client, self.queues.perm(*id), TO_ALTER),
+            Call::MsgRcv { id, .. } => self.denial_on(client, self.queues.perm(*id), TO_READ),
+            Call::SemOp { id, ops } => {
+                self.denial_on(client, self.sets.perm(*id), wanted_by(ops.as_slice()))
+            }
             _ => unreachable!(),
         }
     }
 
-    /// The rule of the right on a queue, where the client lacks it.
-    fn denial_on(&self, client: u32, id: u32, want: Want) -> Option<Rule>
+    /// The rule of the right on an object of these permissions, where the client lacks it.
+    fn denial_on(&self, client: u32, perm: Option<Perm>, want: Want) -> Option<Rule>
         requires { client < length self.now.clients }
-        ensures { result ≡ first_denial (creds_at self.now client) (needs_for want (queue_at self.now.queues id)) }
+        ensures { result ≡ first_denial (creds_at self.now client) (needs_for want perm) }
     {
         let creds = &self.clients[client as usize];
-        let queue = self.queues.get(id)?;
-        match decide(creds, &queue.perm, want) {
+        match decide(creds, &perm?, want) {
             Verdict::Allowed(_) => None,
             Verdict::Denied(rule) => Some(rule),
         }

@@ -5,12 +5,11 @@ ghost use Rattle.std.specs.Prelude.{◌≡◌, ℕ, ◌+◌, ◌<◌, ◌≤◌,
 ghost use Rattle.ipc_model.specs.State.{creds_at};
 ghost use Rattle.ipc_model.specs.Decision.{left_by, outcome_of};
 ghost use Rattle.ipc_model.specs.Plan.{decision};
-ghost use Rattle.ipc_model.specs.Decide.{decide as decision_on};
-ghost use Rattle.ipc_model.specs.Step.{moved_by};
+ghost use Rattle.ipc_model.specs.Decide.{decide_alive as decision_on};
 ghost use Rattle.ipc_model.specs.Controls.{is_within as is_within_limit, perm_of as perm_in, remove_object, set_object};
-ghost use Rattle.ipc_model.specs.Interrupts.{interrupt as interrupt_by, process as process_of};
-ghost use Rattle.ipc_namespace.specs.Namespace.{allowed_by};
-ghost use Rattle.queue_calls.specs.Calls.{without_answer};
+ghost use Rattle.ipc_model.specs.Processes.{interrupt as interrupt_by, process as process_of};
+ghost use Rattle.ipc_namespace.specs.Namespace.{allowed_by, moved_alive as moved_by};
+ghost use Rattle.ipc_model.specs.Decision.{without_answer};
 
 use crate::cancelling::Cancelling;
 use crate::namespace::Namespace;
@@ -18,7 +17,6 @@ use bitflags::Flags;
 use ipc_call::{Answer, Call, Ended, Kind, Outcome, Rule, Settings};
 use ipc_creds::{Caps, Creds};
 use ipc_perm::{Perm, TO_READ, Verdict, decide, may_control, may_interrupt};
-use queue_calls::status;
 
 /// Nothing, or the rule that denies.
 fn allowed(verdict: Verdict) -> Result<(), Rule>
@@ -45,9 +43,16 @@ impl Namespace {
                     return Err(Rule::BadId);
                 };
                 allowed(decide(creds, &queue.perm, TO_READ))?;
-                Ok(Answer::Status(status(queue)))
+                Ok(Answer::Status(queue_calls::status(queue)))
             }
-            Kind::Sems | Kind::Segment => Err(Rule::BadId),
+            Kind::Sems => {
+                let Some(set) = self.sets.get(id) else {
+                    return Err(Rule::BadId);
+                };
+                allowed(decide(creds, &set.perm, TO_READ))?;
+                Ok(Answer::Status(set_calls::status(set)))
+            }
+            Kind::Segment => Err(Rule::BadId),
         }
     }
 
@@ -74,7 +79,8 @@ impl Namespace {
         self.may_set(&self.clients[client as usize], kind, id, new)?;
         match kind {
             Kind::Queue => self.queues.set(id, new, self.clock),
-            Kind::Sems | Kind::Segment => unreachable!(),
+            Kind::Sems => self.sets.set(id, new, self.clock),
+            Kind::Segment => unreachable!(),
         }
         self.cancel(Cancelling::Denied(kind, id), ended);
         Ok(Answer::Done)
@@ -131,7 +137,8 @@ impl Namespace {
         self.cancel(Cancelling::Removed(kind, id), ended); // what waits gives its places back first
         match kind {
             Kind::Queue => self.queues.remove(id),
-            Kind::Sems | Kind::Segment => unreachable!(),
+            Kind::Sems => self.sets.remove(id),
+            Kind::Segment => unreachable!(),
         }
         Ok(Answer::Done)
     }
@@ -178,7 +185,7 @@ impl Namespace {
     fn process(&self, pid: u32) -> Option<&Creds>
         ensures { option_copied result ≡ process_of self.now pid }
     {
-        if pid == 0 {
+        if pid == 0 || self.has_ended(pid - 1) {
             return None;
         }
         self.clients.get(pid as usize - 1)
@@ -190,7 +197,8 @@ impl Namespace {
     {
         match kind {
             Kind::Queue => self.queues.perm(id),
-            Kind::Sems | Kind::Segment => None,
+            Kind::Sems => self.sets.perm(id),
+            Kind::Segment => None,
         }
     }
 }

@@ -8,5 +8,6 @@ mod control_calls;
 mod message_calls;
 mod namespace;
 mod reserving;
+mod semaphore_calls;
 
 pub use namespace::Namespace;

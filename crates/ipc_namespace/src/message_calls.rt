@@ -1,9 +1,9 @@
 // The calls on message queues, msgget(2) and msgop(2), in a namespace.
 
 ghost use Rattle.std.specs.Prelude.{◌≡◌, ℕ, ◌<◌, false, List, length, IfOk, IfSome, OnOk, OnErr, Some};
-ghost use Rattle.ipc_model.specs.State.{is_waiting as waits};
+ghost use Rattle.ipc_model.specs.State.{has_ended, is_waiting as waits};
 ghost use Rattle.ipc_model.specs.Decision.{left_by, outcome_of};
-ghost use Rattle.ipc_model.specs.Decide.{decide as decision_on};
+ghost use Rattle.ipc_model.specs.Decide.{decide_alive as decision_on};
 ghost use Rattle.ipc_model.specs.Step.{state_by};
 
 use crate::callers::caller_of;
@@ -38,6 +38,7 @@ impl Namespace {
     ) -> Result<Option<Outcome>, Memory>
         requires known { client < length self.old.clients }
         requires free { waits self.old client ≡ false }
+        requires alive { has_ended self.old client ≡ false }
         ensures outcome { IfOk result (λ own. own ≡ outcome_of (decision_on self.old client (Call.MsgRcv id size msgtyp flags))) }
         ensures state { OnOk result (self.new ≡ state_by self.old client (Call.MsgRcv id size msgtyp flags) (decision_on self.old client (Call.MsgRcv id size msgtyp flags))) }
         ensures parked { IfOk result (λ own. IfSome own (λ _. self.new.parked ≡ self.old.parked)) }
@@ -73,6 +74,7 @@ impl Namespace {
     ) -> Result<Option<Outcome>, Memory>
         requires known { client < length self.old.clients }
         requires free { waits self.old client ≡ false }
+        requires alive { has_ended self.old client ≡ false }
         ensures outcome { IfOk result (λ own. own ≡ outcome_of (decision_on self.old client (Call.MsgSnd id mtype text flags))) }
         ensures state { OnOk result (self.new ≡ state_by self.old client (Call.MsgSnd id mtype text flags) (decision_on self.old client (Call.MsgSnd id mtype text flags))) }
         ensures parked { IfOk result (λ own. IfSome own (λ _. self.new.parked ≡ self.old.parked)) }

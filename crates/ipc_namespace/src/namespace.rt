@@ -28,9 +28,9 @@ ghost use Rattle.std.specs.Prelude.{
   None,
 };
 ghost use Rattle.ipc_call.specs.Limits.{are_in_range};
-ghost use Rattle.ipc_model.specs.State.{opening, is_waiting as waits, waiting_of};
+ghost use Rattle.ipc_model.specs.State.{opening, has_ended as ended_before, is_waiting as waits, waiting_of};
 ghost use Rattle.ipc_model.specs.Decision.{outcome_of};
-ghost use Rattle.ipc_model.specs.Decide.{decide as decision_on};
+ghost use Rattle.ipc_model.specs.Decide.{decide as decision_on, decide_alive as decision_alive};
 ghost use Rattle.ipc_model.specs.Waits.{AreNotReady};
 ghost use Rattle.ipc_model.specs.Step.{
   Moved as MovedTo,
@@ -43,15 +43,17 @@ ghost use Rattle.ipc_model.specs.Step.{
   step,
   without,
 };
-ghost use Rattle.ipc_namespace.specs.Namespace.{is_grant, sent_to as call_sent_to};
-ghost use Rattle.queue_calls.specs.Calls.{without_answer};
+ghost use Rattle.ipc_namespace.specs.Namespace.{is_grant, moved_alive, sent_to as call_sent_to};
+ghost use Rattle.ipc_model.specs.Decision.{without_answer};
 
 use crate::callers::caller_of;
-use crate::reserving::{release_in, reserve_in, sent_to};
+use crate::reserving::{release_in, reserve_in, reserve_row, sent_to};
+use crate::semaphore_calls::Awaited;
 use ipc_call::{Answer, Call, Ended, Limits, Memory, Outcome, Rule, Settings};
 use ipc_creds::Creds;
 use ipc_parked::Parked;
 use queue_calls::Queues;
+use set_calls::Sets;
 use std::marker::Model;
 
 /// The state of a namespace: its objects, its clients, its clock in seconds, and the calls that wait
@@ -60,8 +62,10 @@ use std::marker::Model;
 pub struct Namespace {
     pub(super) limits: Limits,
     pub(super) clients: Vec<Creds>,
+    pub(super) ended: Vec<u32>,
     pub(super) clock: u64,
     pub(super) queues: Queues,
+    pub(super) sets: Sets,
     pub(super) parked: Parked,
 }
 
@@ -70,9 +74,10 @@ impl Model for Namespace {
     ghost use Rattle.std.specs.FinMap as map;
     ghost use Rattle.std.specs.Coded.{codes};
     ghost use Rattle.queue_calls.specs.Held.{queues_of};
+    ghost use Rattle.set_calls.specs.Held.{sems_of};
     ghost use Rattle.ipc_model.specs.State.{State};
     ghost use Rattle.ipc_parked.specs.Parked.{waiting};
-    ghost use Rattle.ipc_namespace.specs.Namespace.{AreParked, IsReserved};
+    ghost use Rattle.ipc_namespace.specs.Namespace.{AreHeld, AreParked, IsReserved};
 
     ghost Value = { State };
 
@@ -81,17 +86,19 @@ impl Model for Namespace {
     ghost view = { λ n. record {
       limits = n.limits;
       clients = n.clients.items;
+      ended = n.ended.items;
       clock = n.clock;
       queues = queues_of n.queues;
+      sems = sems_of n.sets;
       parked = waiting n.parked;
     } };
 
-    ghost invariant = { λ n. (vec_len n.clients ≤ 64) × AreParked (length n.clients.items) (waiting n.parked) × IsReserved n.queues (waiting n.parked) };
+    ghost invariant = { λ n. (vec_len n.clients ≤ 64) × AreParked (length n.clients.items) (waiting n.parked) × IsReserved n.queues (waiting n.parked) × AreHeld n.sets n.ended.items (waiting n.parked) };
 }
 
 impl Namespace {
     /// A namespace before its first event, of at most 64 clients.
-    #[tactic(auto, using(crate::proofs::Parked::none_parked))]
+    #[tactic(auto, using(crate::proofs::Parked::none_parked, crate::proofs::Held::none_held))]
     pub fn new(limits: Limits, clients: Vec<Creds>) -> Namespace
         requires limits { IsTrue (are_in_range limits) }
         requires few { vec_len clients ≤ 64 }
@@ -101,8 +108,10 @@ impl Namespace {
         Namespace {
             limits,
             clients,
+            ended: Vec::new(alloc),
             clock: 0,
             queues: Queues::new(alloc, limits.slots, limits.first_seq),
+            sets: Sets::new(alloc, limits.slots, limits.first_seq),
             parked: Parked::new(alloc),
         }
     }
@@ -120,6 +129,13 @@ impl Namespace {
         ensures { result ≡ waits self.now client }
     {
         self.parked.is_waiting(client)
+    }
+
+    /// Whether the client has called exit.
+    pub(super) fn has_ended(&self, client: u32) -> bool
+        ensures { result ≡ ended_before self.now client }
+    {
+        self.ended.iter().any(|other| *other == client)
     }
 
     /// The clock, in seconds.
@@ -220,6 +236,33 @@ impl Namespace {
         ensures err { OnErr result (self.new ≡ self.old) }
         ensures none { OnErr result (ended.new.items ≡ []) }
     {
+        if self.has_ended(client) {
+            return Ok(Some(Err(Rule::Ended)));
+        }
+        self.act_alive(client, place, call, ended)
+    }
+
+    /// The same of a call whose client hasn't ended.
+    fn act_alive(
+        &mut self,
+        client: u32,
+        place: u64,
+        call: Call,
+        ended: &mut Vec<Ended>,
+    ) -> Result<Option<Outcome>, Memory>
+        requires known { client < length self.old.clients }
+        requires free { waits self.old client ≡ false }
+        requires alive { ended_before self.old client ≡ false }
+        requires empty { ended.old.items ≡ [] }
+        requires space { length self.old.parked ≤ vec_capacity ended.old }
+        ensures own { IfOk result (λ own. own ≡ outcome_of (decision_alive self.old client call)) }
+        ensures state { OnOk result (self.new ≡ (moved_alive self.old client call).state) }
+        ensures ended { OnOk result (ended.new.items ≡ (moved_alive self.old client call).ended) }
+        ensures few { IfOk result (λ own. IfSome own (λ _. vec_len ended.new + length self.new.parked ≡ length self.old.parked)) }
+        ensures space { OnOk result (vec_capacity ended.old ≤ vec_capacity ended.new) }
+        ensures err { OnErr result (self.new ≡ self.old) }
+        ensures none { OnErr result (ended.new.items ≡ []) }
+    {
         match call {
             Call::MsgGet { key, flags } => Ok(Some(self.msgget(client, key, flags)?)),
             Call::MsgSnd {
@@ -234,6 +277,15 @@ impl Namespace {
                 msgtyp,
                 flags,
             } => self.msgrcv(client, place, id, size, msgtyp, flags),
+            Call::SemOp { id, ops } => self.semop(client, place, id, ops),
+            Call::GetNcnt { id, num } => Ok(Some(self.count(client, id, num, Awaited::Rise))),
+            Call::GetZcnt { id, num } => Ok(Some(self.count(client, id, num, Awaited::Zero))),
+            Call::SemGet { .. }
+            | Call::GetVal { .. }
+            | Call::GetPid { .. }
+            | Call::GetAll { .. }
+            | Call::SetVal { .. }
+            | Call::SetAll { .. } => Ok(Some(self.on_sets(client, call)?)),
             Call::IpcStat { kind, id } => Ok(Some(self.stat(client, kind, id))),
             Call::IpcSet {
                 kind,
@@ -253,6 +305,7 @@ impl Namespace {
             }
             Call::IpcRmid { kind, id } => Ok(Some(self.remove(client, kind, id, ended))),
             Call::Interrupt { pid } => Ok(Some(self.interrupt(client, pid, ended))),
+            Call::Exit => Ok(Some(self.exit(client)?)),
         }
     }
 
@@ -261,10 +314,12 @@ impl Namespace {
     pub(super) fn park(&mut self, client: u32, place: u64, call: Call) -> Result<(), Memory>
         requires known { client < length self.old.clients }
         requires free { waits self.old client ≡ false }
-        requires waits { outcome_of (decision_on self.old client call) ≡ None }
+        requires alive { ended_before self.old client ≡ false }
+        requires waits { outcome_of (decision_alive self.old client call) ≡ None }
         ensures ok { OnOk result (self.new ≡ record self.old { parked = self.old.parked ++ record { client = client; call = call } ∷ [] }) }
         ensures err { OnErr result (self.new ≡ self.old) }
     {
+        reserve_row(&mut self.sets, client, &call)?;
         let queue = sent_to(&call);
         reserve_in(&mut self.queues, queue)?;
         let parked = self.parked.park(client, place, call);
@@ -312,7 +367,7 @@ impl Namespace {
     {
         let (client, call) = self.parked.nth(index)?;
         let who = caller_of(&self.clients, client, self.clock);
-        let outcome = match call {
+        match call {
             Call::MsgSnd {
                 id,
                 mtype,
@@ -322,18 +377,25 @@ impl Namespace {
                 let decided = self
                     .queues
                     .decide_send(&self.limits, &who, *id, *mtype, text.len(), *flags)?;
-                return Some(self.end_send(client, decided));
+                Some(self.end_send(client, decided))
             }
             Call::MsgRcv {
                 id,
                 size,
                 msgtyp,
                 flags,
-            } => self.queues.msgrcv(&who, *id, *size, *msgtyp, *flags)?,
+            } => {
+                let outcome = self.queues.msgrcv(&who, *id, *size, *msgtyp, *flags)?;
+                Some(self.end_as(client, outcome))
+            }
+            Call::SemOp { id, ops } => {
+                let outcome = self
+                    .sets
+                    .semop_reserved(&self.limits, &who, *id, ops.as_slice())?;
+                Some(self.end_as(client, outcome))
+            }
             _ => unreachable!(),
-        };
-        self.parked.finish(client);
-        Some(Ended { client, outcome })
+        }
     }
 
     /// Ends the client's waiting msgsnd as was decided on it: it leaves the list, and its message goes to the queue in
@@ -341,13 +403,14 @@ impl Namespace {
     #[tactic(auto, unfolding(ipc_model::specs::Decide::part_plan))]
     fn end_send(&mut self, client: u32, decided: Result<(), Rule>) -> Ended
         requires waits { waits self.old client ≡ true }
+        requires alive { ended_before self.old client ≡ false }
         requires sends { IfSome (waiting_of self.old client) (λ w. IsSome (call_sent_to w.call)) }
-        requires decided { IfSome (waiting_of self.old client) (λ w. without_answer (decision_on (without self.old client) client w.call) ≡ Some decided) }
+        requires decided { IfSome (waiting_of self.old client) (λ w. without_answer (decision_alive (without self.old client) client w.call) ≡ Some decided) }
         ensures ended { IfSome (waiting_of self.old client) (λ w. end_waiting self.old w ≡ record { state = self.new; ended = result ∷ [] }) }
         ensures shorter { length self.new.parked + 1 ≡ length self.old.parked }
     {
         if let Err(rule) = decided {
-            return self.end_refused(client, rule);
+            return self.end_as(client, Err(rule));
         }
         let Call::MsgSnd {
             id,
@@ -366,19 +429,16 @@ impl Namespace {
         }
     }
 
-    /// Ends the client's waiting call by a rule: it leaves the list, and what was reserved for it is given back.
-    pub(super) fn end_refused(&mut self, client: u32, rule: Rule) -> Ended
+    /// Ends the client's waiting call so: it leaves the list, and what was reserved for it is given back.
+    pub(super) fn end_as(&mut self, client: u32, outcome: Outcome) -> Ended
         requires { waits self.old client ≡ true }
         ensures state { self.new ≡ without self.old client }
         ensures shorter { length self.new.parked + 1 ≡ length self.old.parked }
-        ensures ended { result ≡ record { client = client; outcome = Err rule } }
+        ensures ended { result ≡ record { client = client; outcome = outcome } }
     {
         let call = self.parked.finish(client);
         release_in(&mut self.queues, sent_to(&call));
-        Ended {
-            client,
-            outcome: Err(rule),
-        }
+        Ended { client, outcome }
     }
 }
 

@@ -1,12 +1,15 @@
-// What a waiting call has reserved for its completion: a call that sends, a place in its queue.
+// What a waiting call has reserved for its completion: a call that sends, a place in its queue, and a semop a row of
+// semadj.
 
 ghost use Rattle.std.specs.Prelude.{◌≡◌, ℕ, ◌+◌, ◌<◌, true, IsSome, OnOk, OnErr};
 ghost use Rattle.std.specs.FinMap as map;
 ghost use Rattle.queue_calls.specs.Held.{one_if, queues_of, room};
-ghost use Rattle.ipc_namespace.specs.Namespace.{is_at, sent_to as call_sent_to};
+ghost use Rattle.set_calls.specs.Held.{row_at, sems_of};
+ghost use Rattle.ipc_namespace.specs.Namespace.{HasRowFor, MayReserve, is_at, sent_to as call_sent_to};
 
 use ipc_call::{Call, Memory};
 use queue_calls::Queues;
+use set_calls::Sets;
 
 /// The queue that the call sends to, in which its completion needs a place.
 pub fn sent_to(call: &Call) -> Option<u32>
@@ -40,5 +43,21 @@ pub fn release_in(queues: &mut Queues, queue: Option<u32>)
 {
     if let Some(id) = queue {
         queues.release(id);
+    }
+}
+
+/// Makes the row of semadj that the completion of a semop needs. Memory comes where a growth was refused, and then nothing
+/// has changed.
+pub fn reserve_row(sets: &mut Sets, client: u32, call: &Call) -> Result<(), Memory>
+    requires few { client < 64 }
+    requires there { MayReserve (sems_of sets.old) call.now }
+    ensures sems { OnOk result (sems_of sets.new ≡ sems_of sets.old) }
+    ensures row { OnOk result (HasRowFor sets.new client call.now) }
+    ensures rows { OnOk result ((c s n : ℕ) → n < row_at sets.old c s → n < row_at sets.new c s) }
+    ensures err { OnErr result (sets.new ≡ sets.old) }
+{
+    match call {
+        Call::SemOp { id, ops } => sets.reserve(client, *id, ops.as_slice()),
+        _ => Ok(()),
     }
 }

@@ -154,6 +154,7 @@ pub fn waits_at(call: &Call) -> Option<(Kind, u32)>
 {
     match call {
         Call::MsgSnd { id, .. } | Call::MsgRcv { id, .. } => Some((Kind::Queue, *id)),
+        Call::SemOp { id, .. } => Some((Kind::Sems, *id)),
         _ => None,
     }
 }

@@ -7,13 +7,13 @@ pub loop-client-preserved : goal.loop-client-preserved
 loop-client-preserved c =
     let inv = c.loop-client.invariant in
     let s = c.loop-client.self in
-    let turn = cancel-turn c.args.self.now s c.args.cancelling inv.rest c.end_refused-ending.new.self c.in-Some.client c.in-Some.rule c.end_refused-ending.result
-    c.in-Some.ensures.apart c.in-Some.ensures.waits c.in-Some.ensures.first c.in-Some.ensures.rule c.end_refused-ending.ensures.state c.end_refused-ending.ensures.ended in
+    let turn = cancel-turn c.args.self.now s c.args.cancelling inv.rest c.end_as-ending.new.self c.in-Some.client c.in-Some.rule c.end_as-ending.result
+    c.in-Some.ensures.apart c.in-Some.ensures.waits c.in-Some.ensures.first c.in-Some.ensures.rule c.end_as-ending.ensures.state c.end_as-ending.ensures.ended in
     record {
       rest = turn.0;
       left = inv.left ∙ turn.1;
-      ended = inv.ended ∙ ap (λ es. c.loop-client.ended.items ++ es) turn.2 ∙ sym (append_assoc c.loop-client.ended.items (c.end_refused-ending.result ∷ []) (ended_as (cancelled_as c.args.self.now c.args.cancelling) c.end_refused-ending.new.self.parked))
-          ∙ ap (λ es. es ++ ended_as (cancelled_as c.args.self.now c.args.cancelling) c.end_refused-ending.new.self.parked) (sym (let e = c.push.ensures.items in rw c.unwrap.ensures at e));
+      ended = inv.ended ∙ ap (λ es. c.loop-client.ended.items ++ es) turn.2 ∙ sym (append_assoc c.loop-client.ended.items (c.end_as-ending.result ∷ []) (ended_as (cancelled_as c.args.self.now c.args.cancelling) c.end_as-ending.new.self.parked))
+          ∙ ap (λ es. es ++ ended_as (cancelled_as c.args.self.now c.args.cancelling) c.end_as-ending.new.self.parked) (sym (let e = c.push.ensures.items in rw c.unwrap.ensures at e));
       few = (let l = (let e = c.push.ensures.len in rw c.unwrap.ensures at e) in omega (arith, l, turn.3, inv.few));
       space = omega (arith, c.push.ensures.capacity, inv.space);
     }

@@ -8,15 +8,19 @@ use Rattle.ipc_call.specs.declared.replies.Answer.TheVariants.{Done}
 use Rattle.ipc_call.specs.declared.replies.Ended.{Ended}
 use Rattle.ipc_call.specs.declared.replies.Waiting.{Waiting}
 use Rattle.ipc_call.specs.declared.rules.Rule.{Rule}
-use Rattle.queue_calls.specs.Calls.{sending, without_answer}
+use Rattle.set_calls.specs.Held.{sems_of}
+use Rattle.queue_calls.specs.Calls.{sending}
+use Rattle.ipc_model.specs.Decision.{without_answer}
 use Rattle.queue_calls.specs.Held.{one_if, queues_of, room}
 use Rattle.ipc_model.specs.State.{State, caller, is_waiting, waiting_of}
 use Rattle.ipc_model.specs.Decision.{left_by, outcome_of}
-use Rattle.ipc_model.specs.Decide.{decide}
+use Rattle.ipc_model.specs.Decide.{decide_alive as decide}
 use Rattle.ipc_model.specs.Step.{end_waiting, without}
 use Rattle.ipc_parked.specs.Parked.{waiting}
 use Rattle.ipc_parked.proofs.Listed.{any_waiting}
-use Rattle.ipc_namespace.specs.Namespace.{is_send_to, sent_to}
+use Rattle.std.specs.Prelude.{◌==◌, not}
+use Rattle.ipc_namespace.specs.Namespace.{AreHeld, is_send_to, sent_to}
+use Rattle.ipc_namespace.proofs.Held.{held-filter}
 use Rattle.ipc_namespace.proofs.Calling.{IfSome-at, answered-refused, ends-so, put_in, send-answered, send-left, send-outcome, sent-done}
 use Rattle.ipc_namespace.proofs.Leaving.{Leaves, leaves}
 use Rattle.ipc_namespace.proofs.Own.{own-there}
@@ -33,9 +37,9 @@ returns-in-Err-clause-ended c =
     let own : waiting_of s client ≡ Some (record { client = client; call = call }) = there.1 ∙ (λ i. Some (record { client = there.2 i; call = call })) in
     let d = decide (without s client) client call in
     let refused = answered-refused d c.in-Err.rule (IfSome-at (waiting_of s client) _ (λ (w : Waiting). without_answer (decide (without s client) client w.call) ≡ Some c.args.decided) own c.requires.decided ∙ ap (λ (r : Result ⊤ Rule). Some r) c.in-Err.is) in
-    subst (λ o. IfSome o (λ (w : Waiting). end_waiting s w ≡ record { state = c.end_refused.new.self; ended = c.end_refused.result ∷ [] })) (sym own)
-    (ends-so s c.end_refused.new.self client call (Err c.in-Err.rule) refused.0 (c.end_refused.ensures.state ∙ sym (refused.1 (without s client)))
-    ∙ ap (λ (e : Ended). record { state = c.end_refused.new.self; ended = e ∷ [] }) (sym c.end_refused.ensures.ended))
+    subst (λ o. IfSome o (λ (w : Waiting). end_waiting s w ≡ record { state = c.end_as.new.self; ended = c.end_as.result ∷ [] })) (sym own)
+    (ends-so s c.end_as.new.self client call (Err c.in-Err.rule) c.requires.alive refused.0 (c.end_as.ensures.state ∙ sym (refused.1 (without s client)))
+    ∙ ap (λ (e : Ended). record { state = c.end_as.new.self; ended = e ∷ [] }) (sym c.end_as.ensures.ended))
 
 pub finish-requires : goal.finish-requires
 finish-requires c = sym (any_waiting c.args.client c.self.inside.parked) ∙ ap (λ (s : State). is_waiting s c.args.client) c.self.view_is ∙ c.requires.waits
@@ -56,14 +60,14 @@ caller_of-who-requires-clause-known c = rw c.deref.ensures.value (left (goal.at.
 
 -- the state without the call
 rest : After-caller_of-who → State
-rest c = let n = c.self.inside in record { limits = n.limits; clients = n.clients.items; clock = n.clock; queues = queues_of n.queues; parked = waiting c.finish.new.self }
+rest c = let n = c.self.inside in record { limits = n.limits; clients = n.clients.items; ended = n.ended.items; clock = n.clock; queues = queues_of n.queues; sems = sems_of n.sets; parked = waiting c.finish.new.self }
 
 rest_is : (c : After-caller_of-who) → rest c ≡ without c.args.self.now c.args.client
 unfolding rest
 rest_is c =
     let n = c.self.inside in
     let b = (goal.at.After-caller_of-who c).After-finish in
-    (λ i. record { limits = n.limits; clients = n.clients.items; clock = n.clock; queues = queues_of n.queues; parked = (left b).rest i })
+    (λ i. record { limits = n.limits; clients = n.clients.items; ended = n.ended.items; clock = n.clock; queues = queues_of n.queues; sems = sems_of n.sets; parked = (left b).rest i })
     ∙ ap (λ (s : State). without s c.args.client) c.self.view_is
 
 called : (c : After-caller_of-who) → c.caller_of-who.result ≡ caller (rest c) c.args.client
@@ -101,6 +105,7 @@ invariant_of-self c =
       c.self.invariant.0,
       (left b).parked,
       λ id. (left b).room id _ _ (ap (λ (call : Call). room c.send_reserved.new.self id + one_if (is_send_to id call)) c.in-MsgSnd.is ∙ c.send_reserved.ensures.room id) (c.self.invariant.2 id),
+      subst (λ ws. AreHeld c.self.inside.sets c.self.inside.ended.items ws) (sym (left b).rest) (held-filter c.self.inside.sets c.self.inside.ended.items (λ w. not (w.client == c.args.client)) (waiting c.self.inside.parked) c.self.invariant.3),
     )
 
 pub returns-clause-ended : goal.returns-clause-ended
@@ -115,6 +120,7 @@ returns-clause-ended c =
     let new = put_in (rest k) (queues_of c.send_reserved.new.self) in
     subst (λ o. IfSome o (λ (w : Waiting). end_waiting s w ≡ record { state = new; ended = record { client = client; outcome = Ok Done } ∷ [] })) (sym (own b))
     (ends-so s new client c.finish.result (Ok Done)
+    c.requires.alive
     (ap (λ (call : Call). outcome_of (decide t client call)) n.is ∙ sym (send-outcome (rest k) t client _ (rest_is k) (called k) n.id n.flags _ n.mtype n.text (back k)) ∙ sent-done c.self.inside.limits (queues_of c.self.inside.queues) c.caller_of-who.result n.id n.flags (record { mtype = to_z w64 (of_z w64 n.mtype); text = n.text }) (granted k))
     (send-left (rest k) t client _ (rest_is k) (called k) n.id n.flags _ n.mtype n.text (back k) (queues_of c.send_reserved.new.self) (c.send_reserved.ensures.queues c.self.inside.limits n.flags (granted k))
     ∙ ap (λ (call : Call). left_by t (decide t client call)) (sym n.is)))

@@ -2,13 +2,14 @@ use Rattle.std.proofs.Common.{◌≡◌, sym, ◌∙◌}
 use Rattle.std.proofs.lemmas.Result.{on_ok_weaker}
 use Rattle.ipc_parked.specs.Parked.{waiting}
 use Rattle.queue_calls.specs.Held.{queues_of}
+use Rattle.set_calls.specs.Held.{sems_of}
 use Rattle.ipc_model.specs.State.{State, caller}
 use Rattle.ipc_namespace.proofs.Calling.{IfOk-map, get-left, get-outcome}
 use Rattle.ipc_namespace.proofs.namespace.Namespace.msgget.Goals as goal
 use Rattle.ipc_namespace.proofs.namespace.Namespace.msgget.Goals.{After-msgget}
 
 view : After-msgget → State
-view c = let n = c.self.inside in record { limits = n.limits; clients = n.clients.items; clock = n.clock; queues = queues_of n.queues; parked = waiting n.parked }
+view c = let n = c.self.inside in record { limits = n.limits; clients = n.clients.items; ended = n.ended.items; clock = n.clock; queues = queues_of n.queues; sems = sems_of n.sets; parked = waiting n.parked }
 
 called : (c : After-msgget) → c.caller_of-who.result ≡ caller (view c) c.args.client
 unfolding view

@@ -5,9 +5,10 @@ use Rattle.ipc_call.specs.declared.calls.Call.{Call}
 use Rattle.ipc_call.specs.declared.calls.Call.TheVariants.{MsgRcv}
 use Rattle.ipc_parked.specs.Parked.{waiting}
 use Rattle.queue_calls.specs.Held.{queues_of}
+use Rattle.set_calls.specs.Held.{sems_of}
 use Rattle.ipc_model.specs.State.{Queues, State, caller}
 use Rattle.ipc_model.specs.Decision.{outcome_of}
-use Rattle.ipc_model.specs.Decide.{decide}
+use Rattle.ipc_model.specs.Decide.{decide_alive as decide}
 use Rattle.ipc_model.specs.Step.{state_by}
 use Rattle.ipc_namespace.proofs.Calling.{left-waits, put_in, receive-left, receive-outcome, waits-of}
 use Rattle.ipc_namespace.proofs.Moving.{state-left}
@@ -15,7 +16,7 @@ use Rattle.ipc_namespace.proofs.namespace.Namespace.msgrcv.Goals as goal
 use Rattle.ipc_namespace.proofs.namespace.Namespace.msgrcv.Goals.{After-msgrcv}
 
 view : After-msgrcv → State
-view c = let n = c.self.inside in record { limits = n.limits; clients = n.clients.items; clock = n.clock; queues = queues_of n.queues; parked = waiting n.parked }
+view c = let n = c.self.inside in record { limits = n.limits; clients = n.clients.items; ended = n.ended.items; clock = n.clock; queues = queues_of n.queues; sems = sems_of n.sets; parked = waiting n.parked }
 
 called : (c : After-msgrcv) → c.caller_of-who.result ≡ caller (view c) c.args.client
 unfolding view

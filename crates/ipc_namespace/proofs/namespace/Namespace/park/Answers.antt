@@ -1,18 +1,20 @@
-use Rattle.std.proofs.Common.{◌≡◌, ◌+◌, ◌<◌, true, false, [], ◌∷◌, ◌++◌, length, refl, sym, ap, ◌∙◌, subst, None}
-use Rattle.std.specs.Prelude.{◌==◌, is_err, is_some, OnOk, Result, Ok, Err}
+use Rattle.std.proofs.Common.{◌≡◌, ◌+◌, ◌<◌, true, false, [], ◌∷◌, ◌++◌, length, refl, sym, ap, ◌∙◌, subst, arith, None}
+use Rattle.std.specs.Prelude.{◌==◌, is_err, is_some, OnErr, OnOk, Result, Ok, Err}
 use Rattle.std.specs.List.{list_any}
 use Rattle.std.proofs.lemmas.Bool.{true≢false}
 use Rattle.ipc_call.specs.declared.replies.Waiting.{Waiting}
 use Rattle.queue_calls.specs.Held.{one_if, room}
-use Rattle.ipc_model.specs.Decide.{can_wait, decide}
-use Rattle.ipc_model.specs.State.{State}
+use Rattle.ipc_model.specs.Decide.{can_wait, decide_alive as decide}
+use Rattle.ipc_model.specs.State.{State, has_ended}
 use Rattle.ipc_parked.specs.Parked.{waiting}
 use Rattle.ipc_parked.proofs.Listed.{any_waiting, waiting-push}
-use Rattle.ipc_namespace.specs.Namespace.{AreParked, is_at, is_send_to, sends_on}
+use Rattle.ipc_namespace.specs.Namespace.{AreHeld, AreParked, is_at, is_send_to, sends_on}
 use Rattle.ipc_model.specs.Decision.{Decision, Refuse, Wait, Grant, outcome_of, proceeds}
 use Rattle.std.proofs.lemmas.Option.{none-some}
-use Rattle.ipc_model.proofs.Calls.{only_parkable}
-use Rattle.ipc_namespace.proofs.Calling.{sender-there}
+use Rattle.ipc_model.proofs.Calls.{only_parkable_alive}
+use Rattle.ipc_namespace.proofs.Calling.{operator-there, sender-there}
+use Rattle.ipc_namespace.specs.Namespace.{MayReserve}
+use Rattle.ipc_namespace.proofs.Held.{held-longer, held-push}
 use Rattle.ipc_model.specs.Messages.{queue_at}
 use Rattle.ipc_namespace.proofs.Parked.{AreParked-push}
 use Rattle.ipc_namespace.proofs.Reserved.{sends_on-push}
@@ -37,7 +39,7 @@ invariant_of-self-else-is_err c =
     let n = c.self.inside in
     let w : Waiting = record { client = c.args.client; call = c.args.call } in
     let d = decide c.args.self.now c.args.client c.args.call in
-    let may : can_wait c.args.call ≡ true = only_parkable c.args.self.now c.args.client c.args.call (stays d c.requires.waits) in
+    let may : can_wait c.args.call ≡ true = only_parkable_alive c.args.self.now c.args.client c.args.call (stays d c.requires.waits) in
     let known : c.args.client < length n.clients.items = subst (λ (s : State). c.args.client < length s.clients) (sym c.self.view_is) c.requires.known in
     let free : list_any (λ v. v.client == c.args.client) (waiting n.parked) ≡ false = ap (λ (s : State). list_any (λ v. v.client == c.args.client) s.parked) c.self.view_is ∙ c.requires.free in
     let pushed = went_well c.park-parked.result _ (sym c.is_err.ensures.value ∙ c.if-is_err.false) c.park-parked.ensures.ok in
@@ -46,9 +48,40 @@ invariant_of-self-else-is_err c =
       subst (λ ws. AreParked (length n.clients.items) ws) (sym longer) (AreParked-push (length n.clients.items) (waiting n.parked) w c.self.invariant.1 known may free),
       λ id. c.in_ok-reserve_in.ensures.room id ∙ ap (λ q. room n.queues id + one_if (is_at id q)) c.sent_to-queue.ensures ∙ ap (λ k. k + one_if (is_send_to id c.args.call)) (c.self.invariant.2 id)
           ∙ sym (sends_on-push id (waiting n.parked) w) ∙ ap (λ ws. sends_on id ws) (sym longer),
+      subst (λ ws. AreHeld c.reserve_row.new.sets n.ended.items ws) (sym longer)
+          (held-push c.reserve_row.new.sets n.ended.items (waiting n.parked) w
+          (held-longer n.sets c.reserve_row.new.sets n.ended.items c.in_ok-reserve_row.ensures.rows (waiting n.parked) c.self.invariant.3)
+          (subst (λ (s : State). has_ended s c.args.client ≡ false) (sym c.self.view_is) c.requires.alive, c.in_ok-reserve_row.ensures.row)),
     )
 
 pub reserve_in-requires : goal.reserve_in-requires
 reserve_in-requires c = λ id sends.
     let there = sender-there c.args.self.now c.args.client c.args.call id c.requires.waits (ap (λ q. is_at id q) (sym c.sent_to-queue.ensures) ∙ sends) in
     ap (λ (s : State). is_some (queue_at s.queues id)) c.self.view_is ∙ there
+
+pub reserve_row-requires-clause-there : goal.reserve_row-requires-clause-there
+reserve_row-requires-clause-there c = subst (λ (s : State). MayReserve s.sems c.args.call) (sym c.self.view_is) (operator-there c.args.self.now c.args.client c.args.call c.requires.waits)
+
+went_wrong : {T E : Type 0} (r : Result T E) (P : Type 0) → is_err r ≡ true → OnErr r P → P
+went_wrong (Ok x) P bad p = absurd (true≢false (sym bad))
+went_wrong (Err e) P bad p = p
+
+pub invariant_of-self-in_err-reserve_in : goal.invariant_of-self-in_err-reserve_in
+invariant_of-self-in_err-reserve_in c =
+    let n = c.self.inside in (
+      c.self.invariant.0,
+      c.self.invariant.1,
+      λ id. ap (λ q. room q id) c.in_err-reserve_in.ensures.err ∙ c.self.invariant.2 id,
+      held-longer n.sets c.reserve_row.new.sets n.ended.items c.in_ok-reserve_row.ensures.rows (waiting n.parked) c.self.invariant.3,
+    )
+
+pub invariant_of-self-then-is_err : goal.invariant_of-self-then-is_err
+invariant_of-self-then-is_err c =
+    let n = c.self.inside in
+    let kept = went_wrong c.park-parked.result _ (sym c.is_err.ensures.value ∙ c.if-is_err.true) c.park-parked.ensures.err in
+    let same : waiting c.park-parked.new.self ≡ waiting n.parked = ap waiting kept in (
+      c.self.invariant.0,
+      subst (λ ws. AreParked (length n.clients.items) ws) (sym same) c.self.invariant.1,
+      λ id. (let one = c.in_ok-reserve_in.ensures.room id in let less = c.release_in.ensures.room id in omega (arith, one, less)) ∙ c.self.invariant.2 id ∙ ap (λ ws. sends_on id ws) (sym same),
+      subst (λ ws. AreHeld c.reserve_row.new.sets n.ended.items ws) (sym same) (held-longer n.sets c.reserve_row.new.sets n.ended.items c.in_ok-reserve_row.ensures.rows (waiting n.parked) c.self.invariant.3),
+    )

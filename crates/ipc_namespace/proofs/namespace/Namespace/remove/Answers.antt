@@ -1,14 +1,20 @@
-use Rattle.std.proofs.Common.{◌≡◌, sym, ap, ◌∙◌, Some, Err}
+use Rattle.std.proofs.Common.{◌≡◌, false, List, sym, ap, subst, ◌∙◌, Some, Err}
 use Rattle.ipc_call.specs.declared.calls.Call.TheVariants.{IpcRmid}
+use Rattle.std.specs.List.{AllByRecursion}
 use Rattle.ipc_call.specs.declared.calls.Kind.{Kind}
+use Rattle.ipc_call.specs.declared.calls.Kind.TheVariants as kinds
+use Rattle.ipc_call.specs.declared.replies.Waiting.{Waiting}
 use Rattle.ipc_creds.specs.Credentials.{Credentials}
+use Rattle.ipc_model.specs.Cancelled.{waits_on}
 use Rattle.ipc_model.specs.State.{State}
+use Rattle.ipc_parked.specs.Parked.{waiting}
 use Rattle.ipc_model.specs.Plan.{decision}
-use Rattle.ipc_model.specs.Decide.{decide, part_plan}
+use Rattle.ipc_model.specs.Decide.{decide_alive as decide, part_plan}
 use Rattle.ipc_model.specs.Controls.{remove_object}
-use Rattle.queue_calls.specs.Calls.{without_answer}
+use Rattle.ipc_model.specs.Decision.{without_answer}
 use Rattle.ipc_namespace.specs.Namespace.{cancelled_as, kept_by, sends_on}
 use Rattle.ipc_namespace.specs.declared.cancelling.Cancelling.TheVariants as cancellings
+use Rattle.ipc_namespace.proofs.Held.{held-elsewhere, none_there}
 use Rattle.ipc_namespace.proofs.Moving.{creds-read, refused-ended, refused-state}
 use Rattle.ipc_namespace.proofs.Reserved.{none_left}
 use Rattle.ipc_namespace.proofs.namespace.Namespace.remove.Goals as goal
@@ -34,3 +40,13 @@ remove-requires-clause-unreserved c =
     let s = c.args.self.now in
     c.self-2.invariant.2 c.args.id ∙ ap (λ (t : State). sends_on c.args.id t.parked) (c.self-2.view_is ∙ c.cancel.ensures.state)
     ∙ ap (λ (kind : Kind). sends_on c.args.id (kept_by (cancelled_as s (cancellings.Removed kind c.args.id)) s.parked)) c.in-Queue.is ∙ none_left c.args.id s.parked
+
+pub invariant_of-self-in-Sems : goal.invariant_of-self-in-Sems
+invariant_of-self-in-Sems c =
+    let s = c.args.self.now in
+    let n = c.self-2.inside in
+    let inv = c.self-2.invariant in
+    let left : waiting n.parked ≡ kept_by (cancelled_as s (cancellings.Removed kinds.Sems c.args.id)) s.parked = ap (λ (t : State). t.parked) (c.self-2.view_is ∙ c.cancel.ensures.state)
+    ∙ ap (λ (kind : Kind). kept_by (cancelled_as s (cancellings.Removed kind c.args.id)) s.parked) c.in-Sems.is in
+    let apart = subst (λ (ws : List Waiting). AllByRecursion (λ w. waits_on kinds.Sems c.args.id w.call ≡ false) ws) (sym left) (none_there c.args.id s.parked) in
+    (inv.0, inv.1, inv.2, held-elsewhere n.sets c.remove-in-Sems.new.self c.args.id c.remove-in-Sems.ensures.rows n.ended.items (waiting n.parked) apart inv.3)

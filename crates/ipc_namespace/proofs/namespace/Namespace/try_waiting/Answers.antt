@@ -1,29 +1,31 @@
-use Rattle.std.proofs.Common.{◌≡◌, ◌<◌, ◌∷◌, [], true, length, sym, ap, ◌∙◌, subst, arith, Option, Some, w64, rules}
+use Rattle.std.proofs.Common.{◌≡◌, ℕ, ◌<◌, ◌∷◌, [], List, true, false, length, refl, sym, ap, ◌∙◌, subst, Option, Some, w64, rules}
 use mir.Val.{SFits}
 use Rattle.std.specs.Prelude.{◌==◌, is_some, slice_get, IfSome, IsSome}
 use Rattle.std.specs.List.{find}
 use Rattle.std.proofs.lemmas.Int.{to_z-of_z}
-use Rattle.std.proofs.lemmas.Option.{same_Some}
 use Rattle.ipc_call.specs.declared.calls.Call.{Call}
-use Rattle.ipc_call.specs.declared.calls.Call.TheVariants.{MsgRcv}
+use Rattle.ipc_call.specs.declared.calls.Call.TheVariants.{SemOp}
+use Rattle.ipc_call.specs.declared.calls.SemOper.{SemOper}
 use Rattle.ipc_call.specs.declared.replies.Ended.{Ended}
 use Rattle.ipc_call.specs.declared.replies.Waiting.{Waiting}
-use Rattle.queue_calls.specs.Calls.{without_answer}
-use Rattle.queue_calls.specs.Held.{one_if, queues_of}
-use Rattle.ipc_model.specs.State.{Queues, State, caller, waiting_of}
+use Rattle.ipc_model.specs.Decision.{without_answer}
+use Rattle.set_calls.specs.Held.{HasRow, sems_of}
+use Rattle.queue_calls.specs.Held.{queues_of}
+use Rattle.ipc_model.specs.State.{Caller, Queues, Sems, State, caller, has_ended, waiting_of}
+use Rattle.ipc_model.specs.Plan.{Plan, decision}
+use Rattle.ipc_model.specs.Semaphores.{operate}
 use Rattle.ipc_model.specs.Decision.{Outcome, left_by, outcome_of, proceeds}
-use Rattle.ipc_model.specs.Decide.{can_wait, decide}
+use Rattle.ipc_model.specs.Decide.{can_wait, decide_alive as decide, part_plan}
 use Rattle.ipc_model.specs.Step.{end_waiting, is_ready, without}
 use Rattle.ipc_parked.specs.Parked.{waiting}
-use Rattle.ipc_parked.proofs.Listed.{any_waiting}
-use Rattle.ipc_namespace.specs.Namespace.{is_send_to, sent_to}
-use Rattle.ipc_namespace.proofs.Calling.{IfSome-at, answered-some, ends-so, left-waits, outcome-some, put_in, receive-left, receive-outcome, receive-proceeds, send-answered, send-proceeds}
-use Rattle.ipc_namespace.proofs.Leaving.{Leaves, leaves}
+use Rattle.ipc_namespace.specs.Namespace.{HasRowFor, sent_to}
+use Rattle.ipc_namespace.proofs.Calling.{IfSome-at, alive-decides, answered-some, ends-so, left-waits, outcome-some, put_in, put_sems, sets-left, sets-outcome, receive-left, receive-outcome, receive-proceeds, send-answered, send-proceeds}
+use Rattle.ipc_namespace.proofs.Held.{IsHeld, held-found, held-same}
 use Rattle.ipc_namespace.proofs.Own.{found-there, nth-own}
 use Rattle.ipc_namespace.proofs.Parked.{apart-parked, parked_found}
 use Rattle.ipc_namespace.proofs.Reserved.{no_other}
 use Rattle.ipc_namespace.proofs.namespace.Namespace.try_waiting.Goals as goal
-use Rattle.ipc_namespace.proofs.namespace.Namespace.try_waiting.Goals.{After-caller_of-who, After-deref, After-finish}
+use Rattle.ipc_namespace.proofs.namespace.Namespace.try_waiting.Goals.{After-caller_of-who, After-deref}
 
 -- the call at the index
 abbrev tried : After-deref → Waiting
@@ -44,11 +46,21 @@ at_index c = sym (ap (λ (s : State). slice_get s.parked c.args.index) c.self.vi
 is_own : (c : After-deref) → waiting_of c.args.self.now c.in_ok-client.client ≡ Some (tried c)
 is_own c = sym (ap (λ (s : State). waiting_of s c.in_ok-client.client) c.self.view_is) ∙ own c
 
+is_held : (c : After-deref) → IsHeld c.self.inside.sets c.self.inside.ended.items (tried c)
+is_held c = held-found c.self.inside.sets c.self.inside.ended.items (λ w. w.client == c.in_ok-client.client) (waiting c.self.inside.parked) (tried c) c.self.invariant.3 (own c)
+
+alive : (c : After-deref) → has_ended c.args.self.now c.in_ok-client.client ≡ false
+alive c = subst (λ (s : State). has_ended s c.in_ok-client.client ≡ false) c.self.view_is (is_held c).0
+
+-- what is decided of the call, its client being alive
+as-decided : (c : After-deref) → proceeds (decide c.args.self.now c.in_ok-client.client c.in_ok-client.call.now) ≡ is_ready c.args.self.now (tried c)
+as-decided c = sym (ap (λ d. proceeds d) (alive-decides c.args.self.now c.in_ok-client.client c.in_ok-client.call.now (alive c)))
+
 pub caller_of-who-requires-clause-known : goal.caller_of-who-requires-clause-known
 caller_of-who-requires-clause-known c = rw c.deref.ensures.value (of_client (goal.at.caller_of-who-requires-clause-known c).After-deref).0
 
 view : After-caller_of-who → State
-view c = let n = c.self.inside in record { limits = n.limits; clients = n.clients.items; clock = n.clock; queues = queues_of n.queues; parked = waiting n.parked }
+view c = let n = c.self.inside in record { limits = n.limits; clients = n.clients.items; ended = n.ended.items; clock = n.clock; queues = queues_of n.queues; sems = sems_of n.sets; parked = waiting n.parked }
 
 called : (c : After-caller_of-who) → c.caller_of-who.result ≡ caller (view c) c.in_ok-client.client
 unfolding view
@@ -63,6 +75,9 @@ pub end_send-requires-clause-waits : goal.end_send-requires-clause-waits
 end_send-requires-clause-waits c =
     let b = (goal.at.end_send-requires-clause-waits c).After-deref in
     found-there (λ w. w.client == c.in_ok-client.client) c.args.self.now.parked (tried b) (is_own b)
+
+pub end_send-requires-clause-alive : goal.end_send-requires-clause-alive
+end_send-requires-clause-alive c = alive (goal.at.end_send-requires-clause-alive c).After-deref
 
 pub end_send-requires-clause-sends : goal.end_send-requires-clause-sends
 end_send-requires-clause-sends c =
@@ -83,11 +98,11 @@ end_send-requires-clause-decided c =
     ∙ sym (send-answered (without (view k) client) t client c.caller_of-who.result (rest_is k) (called k) n.id n.flags _ n.mtype n.text (to_z-of_z w64 n.mtype fits))
     ∙ sym (c.in_ok-decided-in-MsgSnd.ensures n.text (sym c.len.ensures)))
 
-pub returns-in-MsgSnd-clause-ready : goal.returns-in-MsgSnd-clause-ready
+pub returns-in_ok-decided-in-MsgSnd-clause-ready : goal.returns-in_ok-decided-in-MsgSnd-clause-ready
 unfolding view
-returns-in-MsgSnd-clause-ready c =
-    let b = (goal.at.returns-in-MsgSnd-clause-ready c).After-deref in
-    let k = (goal.at.returns-in-MsgSnd-clause-ready c).After-caller_of-who in
+returns-in_ok-decided-in-MsgSnd-clause-ready c =
+    let b = (goal.at.returns-in_ok-decided-in-MsgSnd-clause-ready c).After-deref in
+    let k = (goal.at.returns-in_ok-decided-in-MsgSnd-clause-ready c).After-caller_of-who in
     let n = c.in-MsgSnd in
     let s = c.args.self.now in
     let client = c.in_ok-client.client in
@@ -95,11 +110,25 @@ returns-in-MsgSnd-clause-ready c =
     subst (λ o. IfSome o (λ (w : Waiting). true ≡ is_ready s w)) (sym (at_index b))
     (ap (λ o. is_some o) (c.in_ok-decided-in-MsgSnd.ensures n.text (sym c.len.ensures)) ∙ answered-some _
     ∙ send-proceeds (view k) s client c.caller_of-who.result c.self.view_is (called k) n.id n.flags _ n.mtype n.text (to_z-of_z w64 n.mtype fits)
-    ∙ ap (λ (call : Call). proceeds (decide s client call)) (sym n.is))
+    ∙ ap (λ (call : Call). proceeds (decide s client call)) (sym n.is) ∙ as-decided b)
 
-pub returns-in-MsgSnd-clause-ended : goal.returns-in-MsgSnd-clause-ended
-returns-in-MsgSnd-clause-ended c =
-    let b = (goal.at.returns-in-MsgSnd-clause-ended c).After-deref in
+pub returns-in_err-decided-in-MsgSnd-clause-ready : goal.returns-in_err-decided-in-MsgSnd-clause-ready
+unfolding view
+returns-in_err-decided-in-MsgSnd-clause-ready c =
+    let b = (goal.at.returns-in_err-decided-in-MsgSnd-clause-ready c).After-deref in
+    let k = (goal.at.returns-in_err-decided-in-MsgSnd-clause-ready c).After-caller_of-who in
+    let n = c.in-MsgSnd in
+    let s = c.args.self.now in
+    let client = c.in_ok-client.client in
+    let fits : SFits w64 n.mtype = search rules in
+    subst (λ o. IfSome o (λ (w : Waiting). is_some c.from_residual-in_err-decided-in-MsgSnd.result ≡ is_ready s w)) (sym (at_index b))
+    (ap (λ (o : Option Ended). is_some o) c.from_residual-in_err-decided-in-MsgSnd.ensures ∙ ap (λ o. is_some o) (c.in_err-decided-in-MsgSnd.ensures n.text (sym c.len.ensures)) ∙ answered-some _
+    ∙ send-proceeds (view k) s client c.caller_of-who.result c.self.view_is (called k) n.id n.flags _ n.mtype n.text (to_z-of_z w64 n.mtype fits)
+    ∙ ap (λ (call : Call). proceeds (decide s client call)) (sym n.is) ∙ as-decided b)
+
+pub returns-in_ok-decided-in-MsgSnd-clause-ended : goal.returns-in_ok-decided-in-MsgSnd-clause-ended
+returns-in_ok-decided-in-MsgSnd-clause-ended c =
+    let b = (goal.at.returns-in_ok-decided-in-MsgSnd-clause-ended c).After-deref in
     let s = c.args.self.now in
     subst (λ o. IfSome o (λ (w : Waiting). end_waiting s w ≡ record { state = c.end_send.new.self; ended = c.end_send.result ∷ [] })) (sym (at_index b))
     (IfSome-at (waiting_of s c.in_ok-client.client) (tried b) (λ (w : Waiting). end_waiting s w ≡ record { state = c.end_send.new.self; ended = c.end_send.result ∷ [] }) (is_own b) c.end_send.ensures.ended)
@@ -116,7 +145,7 @@ returns-in_err-outcome-in-MsgRcv-clause-ready c =
     subst (λ o. IfSome o (λ (w : Waiting). is_some c.from_residual-in_err-outcome-in-MsgRcv.result ≡ is_ready s w)) (sym (at_index b))
     (ap (λ (o : Option Ended). is_some o) c.from_residual-in_err-outcome-in-MsgRcv.ensures ∙ ap (λ (o : Option Outcome). is_some o) c.in_err-outcome-in-MsgRcv.ensures.outcome ∙ outcome-some _
     ∙ receive-proceeds (view k) s client c.caller_of-who.result c.self.view_is (called k) n.id n.size n.flags _ n.msgtyp (to_z-of_z w64 n.msgtyp fits)
-    ∙ ap (λ (call : Call). proceeds (decide s client call)) (sym n.is))
+    ∙ ap (λ (call : Call). proceeds (decide s client call)) (sym n.is) ∙ as-decided b)
 
 pub returns-in_err-outcome-in-MsgRcv-clause-none : goal.returns-in_err-outcome-in-MsgRcv-clause-none
 unfolding view
@@ -128,35 +157,47 @@ returns-in_err-outcome-in-MsgRcv-clause-none c =
 pub unreachable-requires : goal.unreachable-requires
 unreachable-requires c =
     let b = (goal.at.unreachable-requires c).After-deref in
-    no_other c.in_ok-client.call.now (of_client b).1 c.in_default.not-MsgSnd c.in_default.not-MsgRcv
+    no_other c.in_ok-client.call.now (of_client b).1 c.in_default.not-MsgSnd c.in_default.not-MsgRcv c.in_default.not-SemOp
 
-pub finish-requires : goal.finish-requires
-finish-requires c =
-    let b = (goal.at.finish-requires c).After-deref in
-    sym (any_waiting c.in_ok-client.client c.self.inside.parked) ∙ found-there (λ w. w.client == c.in_ok-client.client) (waiting c.self.inside.parked) (tried b) (own b)
+pub invariant_of-self-in-SemOp : goal.invariant_of-self-in-SemOp
+invariant_of-self-in-SemOp c = (
+  c.self.invariant.0,
+  c.self.invariant.1,
+  c.self.invariant.2,
+  held-same c.self.inside.sets c.semop_reserved.new.self c.self.inside.ended.items c.semop_reserved.ensures.rows (waiting c.self.inside.parked) c.self.invariant.3,
+)
 
-left : (c : After-finish) → Leaves (length c.self.inside.clients.items) c.in_ok-client.client c.finish.result (waiting c.self.inside.parked) (waiting c.finish.new.self)
-left c = leaves (length c.self.inside.clients.items) c.in_ok-client.client c.finish.result c.self.inside.parked c.finish.new.self c.self.invariant.1 c.finish.ensures.call c.finish.ensures.rest
+pub invariant_of-self-in_err-outcome-in-SemOp : goal.invariant_of-self-in_err-outcome-in-SemOp
+invariant_of-self-in_err-outcome-in-SemOp c = (
+  c.self.invariant.0,
+  c.self.invariant.1,
+  c.self.invariant.2,
+  held-same c.self.inside.sets c.semop_reserved.new.self c.self.inside.ended.items c.semop_reserved.ensures.rows (waiting c.self.inside.parked) c.self.invariant.3,
+)
 
--- which is what left
-same : (c : After-finish) → c.finish.result ≡ MsgRcv c.in-MsgRcv.id c.in-MsgRcv.size c.in-MsgRcv.msgtyp c.in-MsgRcv.flags
-same c =
-    let b = (goal.at.After-finish c).After-deref in
-    ap (λ (w : Waiting). w.call) (same_Some (record { client = c.in_ok-client.client; call = c.finish.result }) (tried b) (sym (left c).own ∙ own b)) ∙ c.in-MsgRcv.is
+pub semop_reserved-requires : goal.semop_reserved-requires
+semop_reserved-requires c =
+    let b = (goal.at.semop_reserved-requires c).After-deref in
+    let held = (is_held b).1 in
+    subst (λ (ops : List SemOper). HasRow c.self.inside.sets c.caller_of-who.result.client c.in-SemOp.id ops) (sym c.as_slice.ensures)
+    (subst (λ k. HasRow c.self.inside.sets k c.in-SemOp.id c.in-SemOp.ops) (sym (ap (λ (w : Caller). w.client) c.caller_of-who.ensures))
+    (subst (λ (call : Call). HasRowFor c.self.inside.sets c.in_ok-client.client call) c.in-SemOp.is held))
 
-pub invariant_of-self-2 : goal.invariant_of-self-2
-invariant_of-self-2 c =
-    let f = (goal.at.invariant_of-self-2 c).After-finish in (
-      c.self.invariant.0,
-      (left f).parked,
-      λ id. (left f).room id _ _ (let none = ap (λ (call : Call). one_if (is_send_to id call)) (same f) in let kept = c.msgrcv.ensures.room id in omega (arith, none, kept)) (c.self.invariant.2 id),
-    )
+pub end_as-requires : goal.end_as-requires
+end_as-requires c =
+    let b = (goal.at.end_as-requires c).After-deref in
+    found-there (λ w. w.client == c.in_ok-client.client) (waiting c.self.inside.parked) (tried b) (own b)
 
-pub returns-clause-ready : goal.returns-clause-ready
+pub end_as-requires-in-SemOp : goal.end_as-requires-in-SemOp
+end_as-requires-in-SemOp c =
+    let b = (goal.at.end_as-requires-in-SemOp c).After-deref in
+    found-there (λ w. w.client == c.in_ok-client.client) (waiting c.self.inside.parked) (tried b) (own b)
+
+pub returns-in_ok-outcome-in-MsgRcv-clause-ready : goal.returns-in_ok-outcome-in-MsgRcv-clause-ready
 unfolding view
-returns-clause-ready c =
-    let b = (goal.at.returns-clause-ready c).After-deref in
-    let k = (goal.at.returns-clause-ready c).After-caller_of-who in
+returns-in_ok-outcome-in-MsgRcv-clause-ready c =
+    let b = (goal.at.returns-in_ok-outcome-in-MsgRcv-clause-ready c).After-deref in
+    let k = (goal.at.returns-in_ok-outcome-in-MsgRcv-clause-ready c).After-caller_of-who in
     let n = c.in-MsgRcv in
     let s = c.args.self.now in
     let client = c.in_ok-client.client in
@@ -164,30 +205,96 @@ returns-clause-ready c =
     subst (λ o. IfSome o (λ (w : Waiting). true ≡ is_ready s w)) (sym (at_index b))
     (ap (λ o. is_some o) c.in_ok-outcome-in-MsgRcv.ensures.outcome ∙ outcome-some _
     ∙ receive-proceeds (view k) s client c.caller_of-who.result c.self.view_is (called k) n.id n.size n.flags _ n.msgtyp (to_z-of_z w64 n.msgtyp fits)
-    ∙ ap (λ (call : Call). proceeds (decide s client call)) (sym n.is))
+    ∙ ap (λ (call : Call). proceeds (decide s client call)) (sym n.is) ∙ as-decided b)
 
-pub returns-clause-ended : goal.returns-clause-ended
+pub returns-in_ok-outcome-in-MsgRcv-clause-ended : goal.returns-in_ok-outcome-in-MsgRcv-clause-ended
 unfolding view
-returns-clause-ended c =
-    let b = (goal.at.returns-clause-ended c).After-deref in
-    let k = (goal.at.returns-clause-ended c).After-caller_of-who in
-    let f = (goal.at.returns-clause-ended c).After-finish in
+returns-in_ok-outcome-in-MsgRcv-clause-ended c =
+    let b = (goal.at.returns-in_ok-outcome-in-MsgRcv-clause-ended c).After-deref in
+    let k = (goal.at.returns-in_ok-outcome-in-MsgRcv-clause-ended c).After-caller_of-who in
     let n = c.in-MsgRcv in
     let s = c.args.self.now in
     let client = c.in_ok-client.client in
     let t = without s client in
     let back = to_z-of_z w64 n.msgtyp (let fits : SFits w64 n.msgtyp = search rules in fits) in
     let outcome = c.in_ok-outcome-in-MsgRcv.outcome in
-    let n' = c.self.inside in
-    let new : State = record { limits = n'.limits; clients = n'.clients.items; clock = n'.clock; queues = queues_of c.msgrcv.new.self; parked = waiting c.finish.new.self } in
-    subst (λ o. IfSome o (λ (w : Waiting). end_waiting s w ≡ record { state = new; ended = record { client = client; outcome = outcome } ∷ [] })) (sym (at_index b))
-    (ends-so s new client c.in_ok-client.call.now outcome
+    let new = c.end_as.new.self in
+    subst (λ o. IfSome o (λ (w : Waiting). end_waiting s w ≡ record { state = new; ended = c.end_as.result ∷ [] })) (sym (at_index b))
+    (ends-so s new client c.in_ok-client.call.now outcome (alive b)
     (ap (λ (call : Call). outcome_of (decide t client call)) n.is
     ∙ sym (receive-outcome (without (view k) client) t client c.caller_of-who.result (rest_is k) (called k) n.id n.size n.flags _ n.msgtyp back)
     ∙ sym c.in_ok-outcome-in-MsgRcv.ensures.outcome)
-    ((λ i. record new { parked = (left f).rest i })
+    (c.end_as.ensures.state
     ∙ receive-left (without (view k) client) t client c.caller_of-who.result (rest_is k) (called k) n.id n.size n.flags _ n.msgtyp back (queues_of c.msgrcv.new.self) c.msgrcv.ensures.queues
-    ∙ ap (λ (call : Call). left_by t (decide t client call)) (sym n.is)))
+    ∙ ap (λ (call : Call). left_by t (decide t client call)) (sym n.is))
+    ∙ ap (λ (e : Ended). record { state = new; ended = e ∷ [] }) (sym c.end_as.ensures.ended))
 
-pub returns-clause-shorter : goal.returns-clause-shorter
-returns-clause-shorter c = (left (goal.at.returns-clause-shorter c).After-finish).shorter ∙ ap (λ (s : State). length s.parked) c.self.view_is
+-- a semop, as the code reads it
+module _ (c : After-caller_of-who) (id : ℕ) (ops : List SemOper) (is : c.in_ok-client.call.now ≡ SemOp id ops) where
+  abbrev part : State → Caller → Plan Sems
+  part t w = operate t.limits t.sems w id ops
+
+  op-outcome : outcome_of (decision c.caller_of-who.result.creds (part (view c) c.caller_of-who.result)) ≡ outcome_of (decide c.args.self.now c.in_ok-client.client c.in_ok-client.call.now)
+  unfolding view part_plan
+  op-outcome =
+      sets-outcome (SemOp id ops) part (view c) c.args.self.now c.in_ok-client.client c.caller_of-who.result c.self.view_is (called c) (λ t. refl)
+      ∙ ap (λ (call : Call). outcome_of (decide c.args.self.now c.in_ok-client.client call)) (sym is)
+
+  op-rest : outcome_of (decision c.caller_of-who.result.creds (part (view c) c.caller_of-who.result)) ≡ outcome_of (decide (without c.args.self.now c.in_ok-client.client) c.in_ok-client.client c.in_ok-client.call.now)
+  unfolding view part_plan
+  op-rest =
+      sets-outcome (SemOp id ops) part (without (view c) c.in_ok-client.client) (without c.args.self.now c.in_ok-client.client) c.in_ok-client.client c.caller_of-who.result (rest_is c) (called c) (λ t. refl)
+      ∙ ap (λ (call : Call). outcome_of (decide (without c.args.self.now c.in_ok-client.client) c.in_ok-client.client call)) (sym is)
+
+  op-left : (sems : Sems) → sems ≡ left_by (view c).sems (decision c.caller_of-who.result.creds (part (view c) c.caller_of-who.result))
+      → put_sems (without (view c) c.in_ok-client.client) sems ≡ left_by (without c.args.self.now c.in_ok-client.client) (decide (without c.args.self.now c.in_ok-client.client) c.in_ok-client.client c.in_ok-client.call.now)
+  unfolding view part_plan
+  op-left sems so =
+      sets-left (SemOp id ops) part (without (view c) c.in_ok-client.client) (without c.args.self.now c.in_ok-client.client) c.in_ok-client.client c.caller_of-who.result (rest_is c) (called c) (λ t. refl) sems so
+      ∙ ap (λ (call : Call). left_by (without c.args.self.now c.in_ok-client.client) (decide (without c.args.self.now c.in_ok-client.client) c.in_ok-client.client call)) (sym is)
+
+pub returns-in_err-outcome-in-SemOp-clause-ready : goal.returns-in_err-outcome-in-SemOp-clause-ready
+unfolding view
+returns-in_err-outcome-in-SemOp-clause-ready c =
+    let b = (goal.at.returns-in_err-outcome-in-SemOp-clause-ready c).After-deref in
+    let k = (goal.at.returns-in_err-outcome-in-SemOp-clause-ready c).After-caller_of-who in
+    let n = c.in-SemOp in
+    let s = c.args.self.now in
+    let is : c.in_ok-client.call.now ≡ SemOp n.id c.as_slice.result.now = n.is ∙ ap (λ (ops : List SemOper). SemOp n.id ops) (sym c.as_slice.ensures) in
+    subst (λ o. IfSome o (λ (w : Waiting). is_some c.from_residual-in_err-outcome-in-SemOp.result ≡ is_ready s w)) (sym (at_index b))
+    (ap (λ (o : Option Ended). is_some o) c.from_residual-in_err-outcome-in-SemOp.ensures ∙ ap (λ (o : Option Outcome). is_some o) c.in_err-outcome-in-SemOp.ensures.outcome
+    ∙ ap (λ (o : Option Outcome). is_some o) (op-outcome k n.id c.as_slice.result.now is) ∙ outcome-some _ ∙ as-decided b)
+
+pub returns-in_err-outcome-in-SemOp-clause-none : goal.returns-in_err-outcome-in-SemOp-clause-none
+unfolding view
+returns-in_err-outcome-in-SemOp-clause-none c =
+    let k = (goal.at.returns-in_err-outcome-in-SemOp-clause-none c).After-caller_of-who in
+    rw c.from_residual-in_err-outcome-in-SemOp.ensures
+    (ap (λ (u : Sems). put_sems (view k) u) (c.semop_reserved.ensures.sems ∙ left-waits _ _ (sym c.in_err-outcome-in-SemOp.ensures.outcome)) ∙ c.self.view_is)
+
+pub returns-in_ok-outcome-in-SemOp-clause-ready : goal.returns-in_ok-outcome-in-SemOp-clause-ready
+unfolding view
+returns-in_ok-outcome-in-SemOp-clause-ready c =
+    let b = (goal.at.returns-in_ok-outcome-in-SemOp-clause-ready c).After-deref in
+    let k = (goal.at.returns-in_ok-outcome-in-SemOp-clause-ready c).After-caller_of-who in
+    let n = c.in-SemOp in
+    let s = c.args.self.now in
+    let is : c.in_ok-client.call.now ≡ SemOp n.id c.as_slice.result.now = n.is ∙ ap (λ (ops : List SemOper). SemOp n.id ops) (sym c.as_slice.ensures) in
+    subst (λ o. IfSome o (λ (w : Waiting). true ≡ is_ready s w)) (sym (at_index b))
+    (ap (λ (o : Option Outcome). is_some o) (c.in_ok-outcome-in-SemOp.ensures.outcome ∙ op-outcome k n.id c.as_slice.result.now is) ∙ outcome-some _ ∙ as-decided b)
+
+pub returns-in_ok-outcome-in-SemOp-clause-ended : goal.returns-in_ok-outcome-in-SemOp-clause-ended
+unfolding view
+returns-in_ok-outcome-in-SemOp-clause-ended c =
+    let b = (goal.at.returns-in_ok-outcome-in-SemOp-clause-ended c).After-deref in
+    let k = (goal.at.returns-in_ok-outcome-in-SemOp-clause-ended c).After-caller_of-who in
+    let n = c.in-SemOp in
+    let s = c.args.self.now in
+    let client = c.in_ok-client.client in
+    let is : c.in_ok-client.call.now ≡ SemOp n.id c.as_slice.result.now = n.is ∙ ap (λ (ops : List SemOper). SemOp n.id ops) (sym c.as_slice.ensures) in
+    let new = c.end_as-in-SemOp.new.self in
+    subst (λ o. IfSome o (λ (w : Waiting). end_waiting s w ≡ record { state = new; ended = c.end_as-in-SemOp.result ∷ [] })) (sym (at_index b))
+    (ends-so s new client c.in_ok-client.call.now c.in_ok-outcome-in-SemOp.outcome (alive b)
+    (sym (op-rest k n.id c.as_slice.result.now is) ∙ sym c.in_ok-outcome-in-SemOp.ensures.outcome)
+    (c.end_as-in-SemOp.ensures.state ∙ op-left k n.id c.as_slice.result.now is (sems_of c.semop_reserved.new.self) c.semop_reserved.ensures.sems)
+    ∙ ap (λ (e : Ended). record { state = new; ended = e ∷ [] }) (sym c.end_as-in-SemOp.ensures.ended))

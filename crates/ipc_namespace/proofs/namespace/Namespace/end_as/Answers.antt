@@ -1,13 +1,16 @@
-use Rattle.std.proofs.Common.{◌+◌, length, sym, ap, ◌∙◌}
+use Rattle.std.proofs.Common.{◌+◌, length, sym, ap, subst, ◌∙◌}
 use Rattle.queue_calls.specs.Held.{one_if, room}
+use Rattle.set_calls.specs.Held.{sems_of}
 use Rattle.ipc_model.specs.State.{State, is_waiting}
 use Rattle.ipc_model.specs.Step.{without}
 use Rattle.ipc_parked.specs.Parked.{waiting}
 use Rattle.ipc_parked.proofs.Listed.{any_waiting}
-use Rattle.ipc_namespace.specs.Namespace.{is_at}
+use Rattle.std.specs.Prelude.{◌==◌, not}
+use Rattle.ipc_namespace.specs.Namespace.{AreHeld, is_at}
+use Rattle.ipc_namespace.proofs.Held.{held-filter}
 use Rattle.ipc_namespace.proofs.Leaving.{Leaves, leaves}
-use Rattle.ipc_namespace.proofs.namespace.Namespace.end_refused.Goals as goal
-use Rattle.ipc_namespace.proofs.namespace.Namespace.end_refused.Goals.{After-finish-call}
+use Rattle.ipc_namespace.proofs.namespace.Namespace.end_as.Goals as goal
+use Rattle.ipc_namespace.proofs.namespace.Namespace.end_as.Goals.{After-finish-call}
 
 pub finish-call-requires : goal.finish-call-requires
 finish-call-requires c = sym (any_waiting c.args.client c.self.inside.parked) ∙ ap (λ (s : State). is_waiting s c.args.client) c.self.view_is ∙ c.requires
@@ -27,13 +30,14 @@ invariant_of-self c =
       c.self.invariant.0,
       (left b).parked,
       λ id. (left b).room id _ _ (ap (λ q. room c.release_in.new.queues id + one_if (is_at id q)) (sym c.sent_to.ensures) ∙ c.release_in.ensures.room id) (c.self.invariant.2 id),
+      subst (λ ws. AreHeld c.self.inside.sets c.self.inside.ended.items ws) (sym (left b).rest) (held-filter c.self.inside.sets c.self.inside.ended.items (λ w. not (w.client == c.args.client)) (waiting c.self.inside.parked) c.self.invariant.3),
     )
 
 pub returns-clause-state : goal.returns-clause-state
 returns-clause-state c =
     let n = c.self.inside in
     let b = (goal.at.returns-clause-state c).After-finish-call in
-    (λ i. record { limits = n.limits; clients = n.clients.items; clock = n.clock; queues = c.release_in.ensures.queues i; parked = (left b).rest i })
+    (λ i. record { limits = n.limits; clients = n.clients.items; ended = n.ended.items; clock = n.clock; queues = c.release_in.ensures.queues i; sems = sems_of n.sets; parked = (left b).rest i })
     ∙ ap (λ (s : State). without s c.args.client) c.self.view_is
 
 pub returns-clause-shorter : goal.returns-clause-shorter

@@ -1,0 +1,163 @@
+use Rattle.std.proofs.Common.{◌≡◌, ℕ, List, true, refl, sym, ap, ◌∙◌, w64, rules}
+use mir.Val.{SFits}
+use Rattle.std.proofs.lemmas.Int.{to_z-of_z}
+use Rattle.std.proofs.lemmas.Result.{on_ok_weaker}
+use Rattle.ipc_call.specs.declared.calls.Call.{Call}
+use Rattle.ipc_call.specs.declared.calls.Call.TheVariants.{MsgGet, MsgSnd, MsgRcv, SemOp, GetNcnt, GetZcnt, IpcStat, Exit}
+use Rattle.ipc_call.specs.declared.rules.Rule.TheVariants.{BadId}
+use Rattle.sem_set.specs.declared.sets.Semaphore.{Semaphore}
+use Rattle.ipc_model.specs.State.{Sems, State, caller, creds_at}
+use Rattle.ipc_model.specs.Decision.{Decision, Grant, Refuse, Wait, left_by, outcome_of}
+use Rattle.ipc_model.specs.Plan.{Plan, decision}
+use Rattle.ipc_model.specs.Semaphores.{look, set_at}
+use Rattle.ipc_model.proofs.Plans.{Ends, Ends-decision, Ends-found, IfGranted, decision-on, on_whole, outcome-on}
+use Rattle.ipc_model.specs.Decide.{OnSems, decide_alive as decide, get_waiting, is_negative, is_zero, part_plan, whole}
+use Rattle.ipc_model.specs.Step.{Moved}
+use Rattle.ipc_namespace.specs.Namespace.{is_on_sets}
+use Rattle.ipc_namespace.proofs.Calling.{put_sems}
+use Rattle.ipc_namespace.proofs.Moving.{moved-nothing, moved-to, none-ended, sets-cancel-none, state-left}
+use Rattle.ipc_namespace.proofs.namespace.Namespace.act_alive.Goals as goal
+
+pub returns-in_ok-msgget-in-MsgGet-clause-state : goal.returns-in_ok-msgget-in-MsgGet-clause-state
+returns-in_ok-msgget-in-MsgGet-clause-state c =
+    let s = c.args.self.now in
+    let same = MsgGet c.in-MsgGet.key c.in-MsgGet.flags in
+    moved-to s c.args.client c.args.call same c.in-MsgGet.is (λ new w. refl) _ same refl
+    (c.in_ok-msgget-in-MsgGet.ensures.state ∙ sym (state-left s c.args.client same (decide s c.args.client same) _ c.in_ok-msgget-in-MsgGet.ensures.outcome))
+
+pub returns-in_ok-msgget-in-MsgGet-clause-ended : goal.returns-in_ok-msgget-in-MsgGet-clause-ended
+returns-in_ok-msgget-in-MsgGet-clause-ended c =
+    c.requires.empty ∙ none-ended c.args.self.now c.args.client c.args.call (MsgGet c.in-MsgGet.key c.in-MsgGet.flags) c.in-MsgGet.is (λ new w. refl)
+
+pub returns-in-MsgSnd-clause-state : goal.returns-in-MsgSnd-clause-state
+returns-in-MsgSnd-clause-state c =
+    let n = c.in-MsgSnd in
+    let fits : SFits w64 n.mtype = search rules in
+    on_ok_weaker c.msgsnd.result (moved-to c.args.self.now c.args.client c.args.call (MsgSnd n.id n.mtype n.text n.flags) n.is (λ new w. refl) _ _
+    (ap (λ z. MsgSnd n.id z n.text n.flags) (to_z-of_z w64 n.mtype fits))) c.msgsnd.ensures.state
+
+pub returns-in-MsgSnd-clause-ended : goal.returns-in-MsgSnd-clause-ended
+returns-in-MsgSnd-clause-ended c =
+    let n = c.in-MsgSnd in
+    on_ok_weaker c.msgsnd.result (λ is. c.requires.empty ∙ none-ended c.args.self.now c.args.client c.args.call (MsgSnd n.id n.mtype n.text n.flags) n.is (λ new w. refl)) c.msgsnd.ensures.state
+
+pub returns-in-MsgRcv-clause-state : goal.returns-in-MsgRcv-clause-state
+returns-in-MsgRcv-clause-state c =
+    let n = c.in-MsgRcv in
+    let fits : SFits w64 n.msgtyp = search rules in
+    on_ok_weaker c.msgrcv.result (moved-to c.args.self.now c.args.client c.args.call (MsgRcv n.id n.size n.msgtyp n.flags) n.is (λ new w. refl) _ _
+    (ap (λ z. MsgRcv n.id n.size z n.flags) (to_z-of_z w64 n.msgtyp fits))) c.msgrcv.ensures.state
+
+pub returns-in-MsgRcv-clause-ended : goal.returns-in-MsgRcv-clause-ended
+returns-in-MsgRcv-clause-ended c =
+    let n = c.in-MsgRcv in
+    on_ok_weaker c.msgrcv.result (λ is. c.requires.empty ∙ none-ended c.args.self.now c.args.client c.args.call (MsgRcv n.id n.size n.msgtyp n.flags) n.is (λ new w. refl)) c.msgrcv.ensures.state
+
+pub returns-in-IpcStat-clause-state : goal.returns-in-IpcStat-clause-state
+returns-in-IpcStat-clause-state c =
+    sym (ap (λ (m : Moved). m.state) (moved-nothing c.args.self.now c.args.client c.args.call (IpcStat c.in-IpcStat.kind c.in-IpcStat.id) _ c.in-IpcStat.is (λ new w. refl) c.stat.ensures.outcome c.stat.ensures.same))
+
+pub returns-in-IpcStat-clause-ended : goal.returns-in-IpcStat-clause-ended
+returns-in-IpcStat-clause-ended c =
+    c.requires.empty ∙ none-ended c.args.self.now c.args.client c.args.call (IpcStat c.in-IpcStat.kind c.in-IpcStat.id) c.in-IpcStat.is (λ new w. refl)
+
+pub returns-in_ok-on_sets-in-SemGet-clause-state : goal.returns-in_ok-on_sets-in-SemGet-clause-state
+returns-in_ok-on_sets-in-SemGet-clause-state c =
+    let s = c.args.self.now in
+    let call = c.args.call in
+    let sets : is_on_sets call ≡ true = search rules in
+    moved-to s c.args.client call call refl (λ new w. sets-cancel-none new call w sets) _ call refl
+    (c.in_ok-on_sets-in-SemGet.ensures.state ∙ sym (state-left s c.args.client call (decide s c.args.client call) _ c.in_ok-on_sets-in-SemGet.ensures.outcome))
+
+pub returns-in_ok-on_sets-in-SemGet-clause-ended : goal.returns-in_ok-on_sets-in-SemGet-clause-ended
+returns-in_ok-on_sets-in-SemGet-clause-ended c =
+    let call = c.args.call in
+    let sets : is_on_sets call ≡ true = search rules in
+    c.requires.empty ∙ none-ended c.args.self.now c.args.client call call refl (λ new w. sets-cancel-none new call w sets)
+
+pub returns-in-SemOp-clause-state : goal.returns-in-SemOp-clause-state
+returns-in-SemOp-clause-state c =
+    let n = c.in-SemOp in
+    on_ok_weaker c.semop.result (moved-to c.args.self.now c.args.client c.args.call (SemOp n.id n.ops) n.is (λ new w. refl) _ (SemOp n.id n.ops) refl) c.semop.ensures.state
+
+pub returns-in-SemOp-clause-ended : goal.returns-in-SemOp-clause-ended
+returns-in-SemOp-clause-ended c =
+    let n = c.in-SemOp in
+    on_ok_weaker c.semop.result (λ is. c.requires.empty ∙ none-ended c.args.self.now c.args.client c.args.call (SemOp n.id n.ops) n.is (λ new w. refl)) c.semop.ensures.state
+
+-- a count answers as its plan says, and changes nothing
+counted : (s : State) (client : ℕ) (call : Call) (p : Plan Sems) → part_plan s (caller s client) call ≡ OnSems p → outcome_of (decide s client call) ≡ outcome_of (decision (creds_at s client) p)
+counted s client call p planned =
+    ap (λ q. outcome_of (decision (creds_at s client) (whole s q))) planned ∙ outcome-on (creds_at s client) (put_sems s) p
+
+module _ (s : State) (client id num : ℕ) where
+  counts-rise : outcome_of (decide s client (GetNcnt id num)) ≡ outcome_of (decision (creds_at s client) (get_waiting s id num (is_negative num)))
+  unfolding part_plan
+  counts-rise = counted s client (GetNcnt id num) (get_waiting s id num (is_negative num)) refl
+
+  counts-zero : outcome_of (decide s client (GetZcnt id num)) ≡ outcome_of (decision (creds_at s client) (get_waiting s id num (is_zero num)))
+  unfolding part_plan
+  counts-zero = counted s client (GetZcnt id num) (get_waiting s id num (is_zero num)) refl
+
+  look-same : (tell : List Semaphore → ℕ) → Ends (λ answer new. new ≡ s.sems) (look s.sems id num tell)
+  look-same tell = Ends-found _ (set_at s.sems id) BadId tt _ (λ set is. refl)
+
+-- what is granted with the part unchanged leaves the whole unchanged
+kept : (s : State) (d : Decision Sems) → IfGranted (λ answer new. new ≡ s.sems) d → left_by s (on_whole (put_sems s) d) ≡ s
+kept s (Refuse rule) same = refl
+kept s Wait same = refl
+kept s (Grant answer new) same = ap (λ u. put_sems s u) same
+
+left-same : (s : State) (client : ℕ) (call : Call) (p : Plan Sems) → part_plan s (caller s client) call ≡ OnSems p → Ends (λ answer new. new ≡ s.sems) p → left_by s (decide s client call) ≡ s
+left-same s client call p planned ends =
+    ap (λ q. left_by s (decision (creds_at s client) (whole s q))) planned
+    ∙ ap (λ d. left_by s d) (decision-on (creds_at s client) (put_sems s) p)
+    ∙ kept s (decision (creds_at s client) p) (Ends-decision (creds_at s client) (λ answer new. new ≡ s.sems) p ends)
+
+module _ (s : State) (client id num : ℕ) where
+  left-rise : left_by s (decide s client (GetNcnt id num)) ≡ s
+  unfolding part_plan
+  left-rise = left-same s client (GetNcnt id num) (get_waiting s id num (is_negative num)) refl (look-same s client id num _)
+
+  left-zero : left_by s (decide s client (GetZcnt id num)) ≡ s
+  unfolding part_plan
+  left-zero = left-same s client (GetZcnt id num) (get_waiting s id num (is_zero num)) refl (look-same s client id num _)
+
+pub returns-in-GetNcnt-clause-own : goal.returns-in-GetNcnt-clause-own
+returns-in-GetNcnt-clause-own c =
+    let n = c.in-GetNcnt in
+    let s = c.args.self.now in
+    sym (ap (λ (k : Call). outcome_of (decide s c.args.client k)) n.is ∙ counts-rise s c.args.client n.id n.num ∙ c.count.ensures.outcome)
+
+pub returns-in-GetNcnt-clause-state : goal.returns-in-GetNcnt-clause-state
+returns-in-GetNcnt-clause-state c =
+    let n = c.in-GetNcnt in
+    let s = c.args.self.now in
+    c.count.ensures.same ∙ sym (ap (λ (m : Moved). m.state) (moved-nothing s c.args.client c.args.call (GetNcnt n.id n.num) _ n.is (λ new w. refl) (counts-rise s c.args.client n.id n.num ∙ c.count.ensures.outcome) (left-rise s c.args.client n.id n.num)))
+
+pub returns-in-GetNcnt-clause-ended : goal.returns-in-GetNcnt-clause-ended
+returns-in-GetNcnt-clause-ended c = c.requires.empty ∙ none-ended c.args.self.now c.args.client c.args.call (GetNcnt c.in-GetNcnt.id c.in-GetNcnt.num) c.in-GetNcnt.is (λ new w. refl)
+
+pub returns-in-GetZcnt-clause-own : goal.returns-in-GetZcnt-clause-own
+returns-in-GetZcnt-clause-own c =
+    let n = c.in-GetZcnt in
+    let s = c.args.self.now in
+    sym (ap (λ (k : Call). outcome_of (decide s c.args.client k)) n.is ∙ counts-zero s c.args.client n.id n.num ∙ c.count-in-GetZcnt.ensures.outcome)
+
+pub returns-in-GetZcnt-clause-state : goal.returns-in-GetZcnt-clause-state
+returns-in-GetZcnt-clause-state c =
+    let n = c.in-GetZcnt in
+    let s = c.args.self.now in
+    c.count-in-GetZcnt.ensures.same ∙ sym (ap (λ (m : Moved). m.state) (moved-nothing s c.args.client c.args.call (GetZcnt n.id n.num) _ n.is (λ new w. refl) (counts-zero s c.args.client n.id n.num ∙ c.count-in-GetZcnt.ensures.outcome) (left-zero s c.args.client n.id n.num)))
+
+pub returns-in-GetZcnt-clause-ended : goal.returns-in-GetZcnt-clause-ended
+returns-in-GetZcnt-clause-ended c = c.requires.empty ∙ none-ended c.args.self.now c.args.client c.args.call (GetZcnt c.in-GetZcnt.id c.in-GetZcnt.num) c.in-GetZcnt.is (λ new w. refl)
+
+pub returns-in_ok-exit-in-Exit-clause-state : goal.returns-in_ok-exit-in-Exit-clause-state
+returns-in_ok-exit-in-Exit-clause-state c =
+    let s = c.args.self.now in
+    moved-to s c.args.client c.args.call Exit c.in-Exit.is (λ new w. refl) _ Exit refl
+    (c.in_ok-exit-in-Exit.ensures.state ∙ sym (state-left s c.args.client Exit (decide s c.args.client Exit) _ c.in_ok-exit-in-Exit.ensures.outcome))
+
+pub returns-in_ok-exit-in-Exit-clause-ended : goal.returns-in_ok-exit-in-Exit-clause-ended
+returns-in_ok-exit-in-Exit-clause-ended c = c.requires.empty ∙ none-ended c.args.self.now c.args.client c.args.call Exit c.in-Exit.is (λ new w. refl)

@@ -1,0 +1,152 @@
+// The calls on semaphore sets, semget(2), semop(2) and semctl(2), and exit, in a namespace.
+
+ghost use Rattle.std.specs.Prelude.{◌≡◌, ◌<◌, true, false, length, slice_get, IfOk, IfSome, OnOk, OnErr, Some};
+ghost use Rattle.std.specs.List.{count_by};
+ghost use Rattle.ipc_model.specs.State.{creds_at, has_ended, is_waiting as waits};
+ghost use Rattle.ipc_model.specs.Plan.{decision};
+ghost use Rattle.ipc_model.specs.Step.{state_by};
+ghost use Rattle.ipc_model.specs.Decision.{left_by, outcome_of};
+ghost use Rattle.ipc_model.specs.Decide.{decide_alive as decision_on, get_waiting, waits_for};
+ghost use Rattle.ipc_namespace.specs.Namespace.{is_awaited, is_on_sets};
+
+use crate::callers::caller_of;
+use crate::namespace::Namespace;
+use ipc_call::{Answer, Call, Items, Memory, Outcome, SemOper};
+
+/// What a waiting semop waits for, at the operation where it stops.
+#[derive(Clone, Copy, Debug, PartialEq, Eq)]
+pub enum Awaited {
+    /// A greater value.
+    Rise,
+    /// The value 0.
+    Zero,
+}
+
+impl Awaited {
+    /// Whether the operation waits for it at the semaphore of this number.
+    fn is_at(self, num: u32, oper: SemOper) -> bool
+        ensures { result ≡ is_awaited self num oper }
+    {
+        u32::from(oper.num) == num
+            && match self {
+                Awaited::Rise => oper.op < 0,
+                Awaited::Zero => oper.op == 0,
+            }
+    }
+}
+
+impl Namespace {
+    /// semop: None where it waits, and then it is in the list of those that do. The error comes only where an
+    /// allocation fails, and then nothing has changed.
+    #[tactic(auto, unfolding(ipc_model::specs::Decide::part_plan))]
+    pub(super) fn semop(
+        &mut self,
+        client: u32,
+        place: u64,
+        id: u32,
+        ops: Items<SemOper>,
+    ) -> Result<Option<Outcome>, Memory>
+        requires known { client < length self.old.clients }
+        requires free { waits self.old client ≡ false }
+        requires alive { has_ended self.old client ≡ false }
+        ensures outcome { IfOk result (λ own. own ≡ outcome_of (decision_on self.old client (Call.SemOp id ops))) }
+        ensures state { OnOk result (self.new ≡ state_by self.old client (Call.SemOp id ops) (decision_on self.old client (Call.SemOp id ops))) }
+        ensures parked { IfOk result (λ own. IfSome own (λ _. self.new.parked ≡ self.old.parked)) }
+        ensures err { OnErr result (self.new ≡ self.old) }
+    {
+        let who = caller_of(&self.clients, client, self.clock);
+        match self.sets.semop(&self.limits, &who, id, ops.as_slice())? {
+            Some(outcome) => Ok(Some(outcome)),
+            None => {
+                self.park(client, place, Call::SemOp { id, ops })?;
+                Ok(None)
+            }
+        }
+    }
+
+    /// How many calls wait at a semaphore for what is awaited (GETNCNT and GETZCNT of semctl(2)).
+    pub(super) fn count(&mut self, client: u32, id: u32, num: u32, awaited: Awaited) -> Outcome
+        requires known { client < length self.old.clients }
+        ensures outcome { outcome_of (decision (creds_at self.old client) (get_waiting self.old id num (is_awaited awaited num))) ≡ Some result }
+        ensures same { self.new ≡ self.old }
+    {
+        let who = caller_of(&self.clients, client, self.clock);
+        self.sets.with_semaphore(&who, id, num)?;
+        Ok(Answer::Value(self.waiting_at(id, num, awaited)))
+    }
+
+    /// How many calls wait at a semaphore, at most 64.
+    fn waiting_at(&mut self, id: u32, num: u32, awaited: Awaited) -> u32
+        ensures count { result ≡ count_by (λ w. waits_for self.old.sems id (is_awaited awaited num) w.client w.call) self.old.parked }
+        ensures same { self.new ≡ self.old }
+    {
+        let mut count = 0;
+        for index in 0..self.parked.len() {
+            if self.waits_at(index, id, num, awaited) {
+                count += 1;
+            }
+        }
+        count
+    }
+
+    /// Whether the waiting call at an index waits at the semaphore.
+    fn waits_at(&mut self, index: usize, id: u32, num: u32, awaited: Awaited) -> bool
+        requires { index < length self.old.parked }
+        ensures awaits { IfSome (slice_get self.old.parked index) (λ w. result ≡ waits_for self.old.sems id (is_awaited awaited num) w.client w.call) }
+        ensures same { self.new ≡ self.old }
+    {
+        let Some((client, Call::SemOp { id: set, ops })) = self.parked.nth(index) else {
+            return false;
+        };
+        if *set != id {
+            return false;
+        }
+        match self.sets.stopping(client, id, ops.as_slice()) {
+            None => false,
+            Some(oper) => awaited.is_at(num, oper),
+        }
+    }
+
+    /// exit: what the client's semops did with SEM_UNDO is undone, and it has ended. The error comes only where an
+    /// allocation fails, and then nothing has changed.
+    #[tactic(auto, unfolding(ipc_model::specs::Decide::part_plan))]
+    pub(super) fn exit(&mut self, client: u32) -> Result<Outcome, Memory>
+        requires known { client < length self.old.clients }
+        requires free { waits self.old client ≡ false }
+        ensures outcome { IfOk result (λ outcome. outcome_of (decision_on self.old client Call.Exit) ≡ Some outcome) }
+        ensures state { OnOk result (self.new ≡ left_by self.old (decision_on self.old client Call.Exit)) }
+        ensures parked { self.new.parked ≡ self.old.parked }
+        ensures err { OnErr result (self.new ≡ self.old) }
+    {
+        self.ended.reserve(1)?;
+        let who = caller_of(&self.clients, client, self.clock);
+        self.sets.exit(&who);
+        self.ended.push(client).unwrap();
+        Ok(Ok(Answer::Done))
+    }
+
+    /// A call on semaphore sets that doesn't wait. The error comes only where an allocation fails, and then nothing has
+    /// changed.
+    #[tactic(auto, unfolding(ipc_model::specs::Decide::part_plan))]
+    pub(super) fn on_sets(&mut self, client: u32, call: Call) -> Result<Outcome, Memory>
+        requires known { client < length self.old.clients }
+        requires sets { is_on_sets call ≡ true }
+        ensures outcome { IfOk result (λ outcome. outcome_of (decision_on self.old client call) ≡ Some outcome) }
+        ensures state { OnOk result (self.new ≡ left_by self.old (decision_on self.old client call)) }
+        ensures parked { self.new.parked ≡ self.old.parked }
+        ensures err { OnErr result (self.new ≡ self.old) }
+    {
+        let who = caller_of(&self.clients, client, self.clock);
+        match call {
+            Call::SemGet { key, nsems, flags } => self
+                .sets
+                .semget(&self.limits, &who, key, nsems, flags),
+            Call::GetVal { id, num } => Ok(self.sets.getval(&who, id, num)),
+            Call::GetPid { id, num } => Ok(self.sets.getpid(&who, id, num)),
+            Call::GetAll { id } => self.sets.getall(&who, id),
+            Call::SetVal { id, num, value } => Ok(self.sets.setval(&who, id, num, value)),
+            Call::SetAll { id, values } => Ok(self.sets.setall(&who, id, values.as_slice())),
+            _ => unreachable!(),
+        }
+    }
+}
