@@ -7,7 +7,7 @@ use Rattle.ipc_text.specs.Words.{fields_of}
 -- the fields of what is left of a list, and a number that falls from field to field
 abbrev pub fields_left : Option (Bor (List ℕ)) → List (List ℕ)
 fields_left None = []
-fields_left (Some text) = fields_of text.now
+fields_left (Some text) = fields_of 44 text.now
 
 abbrev pub bytes_left : Option (Bor (List ℕ)) → ℕ
 bytes_left None = 0
@@ -18,7 +18,7 @@ abbrev pub with_groups : List ℕ → List (List ℕ) → Option (List ℕ)
 with_groups groups fields = option_and_then at_most_32 (option_map (λ ns. groups ++ ns) (numbers_32 fields))
 
 -- the first field of what is left, and the rest
-pub fields_left-cons : (text field : List ℕ) (others : Option (Bor (List ℕ))) → MatchOption others (fields_of text ≡ field ∷ []) (λ rest. fields_of text ≡ field ∷ fields_of rest.now) → fields_of text ≡ field ∷ fields_left others
+pub fields_left-cons : (text field : List ℕ) (others : Option (Bor (List ℕ))) → MatchOption others (fields_of 44 text ≡ field ∷ []) (λ rest. fields_of 44 text ≡ field ∷ fields_of 44 rest.now) → fields_of 44 text ≡ field ∷ fields_left others
 fields_left-cons text field None h = h
 fields_left-cons text field (Some rest) h = h
 

@@ -6,15 +6,15 @@ use Rattle.std.specs.List.{position_or_len, prefix_len}
 use Rattle.std.specs.Prelude.{◌==◌, Option, Some, None, nat_lt, position}
 use Rattle.ipc_text.specs.Words.{fields_of, is_blank, onto_word, words_of}
 
--- how many blanks come first, how many bytes come before a blank, and the place of the first comma
+-- how many blanks come first, how many bytes come before a blank, and the place of the first separator
 abbrev pub blanks : List ℕ → ℕ
 blanks text = prefix_len is_blank text
 
 abbrev pub first_word_len : List ℕ → ℕ
 first_word_len text = prefix_len (λ b. not (is_blank b)) text
 
-abbrev pub first_comma : List ℕ → Option ℕ
-first_comma text = position (λ b. b == 44) text
+abbrev pub first_separator : ℕ → List ℕ → Option ℕ
+first_separator s text = position (λ b. b == s) text
 
 -- a lemma that ends in _if takes the answer of a test, so that it can go by cases
 
@@ -72,38 +72,48 @@ no_word text rest e h =
     let s : words_of text ≡ words_of rest = rw e (sym (words_of-skipped text)) in
     s ∙ words_of_none rest h
 
--- the place of the first comma
-abbrev comma_at : List ℕ → ℕ
-comma_at text = position_or_len (λ b. b == 44) text
+-- the place of the first separator
+abbrev separator_at : ℕ → List ℕ → ℕ
+separator_at s text = position_or_len (λ b. b == s) text
 
-no_comma_if : (comma : Bool) (b : ℕ) (bs : List ℕ) → (b == 44) ≡ comma → cond (not comma) (1 + comma_at bs) 0 ≡ suc (length bs) → (comma_at bs ≡ length bs → fields_of bs ≡ bs ∷ []) → cond comma ([] ∷ fields_of bs) (onto_word b (fields_of bs)) ≡ (b ∷ bs) ∷ []
-no_comma_if true b bs e h k = absurd (omega arith)
-no_comma_if false b bs e h k = rw (k (omega arith)) refl
+no_separator_if : (s : ℕ) (found : Bool) (b : ℕ) (bs : List ℕ) → (b == s) ≡ found → cond (not found) (1 + separator_at s bs) 0 ≡ suc (length bs) → (separator_at s bs ≡ length bs → fields_of s bs ≡ bs ∷ []) → cond found ([] ∷ fields_of s bs) (onto_word b (fields_of s bs)) ≡ (b ∷ bs) ∷ []
+no_separator_if s true b bs e h k = absurd (omega arith)
+no_separator_if s false b bs e h k = rw (k (omega arith)) refl
 
-no_comma : (text : List ℕ) → comma_at text ≡ length text → fields_of text ≡ text ∷ []
-no_comma [] e = refl
-no_comma (b ∷ bs) e = no_comma_if (b == 44) b bs refl e (no_comma bs)
+no_separator : (s : ℕ) (text : List ℕ) → separator_at s text ≡ length text → fields_of s text ≡ text ∷ []
+no_separator s [] e = refl
+no_separator s (b ∷ bs) e = no_separator_if s (b == s) b bs refl e (no_separator s bs)
 
-comma_if : (comma : Bool) (b : ℕ) (bs : List ℕ) → (b == 44) ≡ comma → cond (not comma) (1 + comma_at bs) 0 < suc (length bs) → (comma_at bs < length bs → fields_of bs ≡ take (comma_at bs) bs ∷ fields_of (drop (suc (comma_at bs)) bs)) →
-    cond comma ([] ∷ fields_of bs) (onto_word b (fields_of bs)) ≡ take (cond (not comma) (1 + comma_at bs) 0) (b ∷ bs) ∷ fields_of (drop (suc (cond (not comma) (1 + comma_at bs) 0)) (b ∷ bs))
-comma_if true b bs e h k = refl
-comma_if false b bs e h k = rw (one-add, k (omega arith)) refl
+separator_if : (s : ℕ) (found : Bool) (b : ℕ) (bs : List ℕ) → (b == s) ≡ found → cond (not found) (1 + separator_at s bs) 0 < suc (length bs) → (separator_at s bs < length bs → fields_of s bs ≡ take (separator_at s bs) bs ∷ fields_of s (drop (suc (separator_at s bs)) bs)) →
+    cond found ([] ∷ fields_of s bs) (onto_word b (fields_of s bs)) ≡ take (cond (not found) (1 + separator_at s bs) 0) (b ∷ bs) ∷ fields_of s (drop (suc (cond (not found) (1 + separator_at s bs) 0)) (b ∷ bs))
+separator_if s true b bs e h k = refl
+separator_if s false b bs e h k = rw (one-add, k (omega arith)) refl
 
-comma : (text : List ℕ) → comma_at text < length text → fields_of text ≡ take (comma_at text) text ∷ fields_of (drop (suc (comma_at text)) text)
-comma [] e = absurd (omega arith)
-comma (b ∷ bs) e = comma_if (b == 44) b bs refl e (comma bs)
+separator : (s : ℕ) (text : List ℕ) → separator_at s text < length text → fields_of s text ≡ take (separator_at s text) text ∷ fields_of s (drop (suc (separator_at s text)) text)
+separator s [] e = absurd (omega arith)
+separator s (b ∷ bs) e = separator_if s (b == s) b bs refl e (separator s bs)
 
--- what the first comma tells, by the answer of the search for it
-abbrev pub CommaTells : List ℕ → Option ℕ → Type 0
-CommaTells text None = fields_of text ≡ text ∷ []
-CommaTells text (Some n) = fields_of text ≡ take n text ∷ fields_of (drop (suc n) text)
+-- what the first separator tells, by the answer of the search for it
+abbrev pub SeparatorTells : ℕ → List ℕ → Option ℕ → Type 0
+SeparatorTells s text None = fields_of s text ≡ text ∷ []
+SeparatorTells s text (Some n) = fields_of s text ≡ take n text ∷ fields_of s (drop (suc n) text)
 
-comma_tells_if : (b : Bool) (text : List ℕ) → nat_lt (comma_at text) (length text) ≡ b → CommaTells text (cond b (Some (comma_at text)) None)
-comma_tells_if true text e = comma text (ltb-true _ _ e)
-comma_tells_if false text e =
-    let le : length text ≤ comma_at text = ltb-false _ _ e in
-    let ge : comma_at text ≤ length text = prefix_len-le-length (λ b. not (b == 44)) text in
-    no_comma text (omega arith)
+separator_tells_if : (s : ℕ) (b : Bool) (text : List ℕ) → nat_lt (separator_at s text) (length text) ≡ b → SeparatorTells s text (cond b (Some (separator_at s text)) None)
+separator_tells_if s true text e = separator s text (ltb-true _ _ e)
+separator_tells_if s false text e =
+    let le : length text ≤ separator_at s text = ltb-false _ _ e in
+    let ge : separator_at s text ≤ length text = prefix_len-le-length (λ b. not (b == s)) text in
+    no_separator s text (omega arith)
 
-pub comma_tells : (text : List ℕ) (place : Option ℕ) → place ≡ first_comma text → CommaTells text place
-comma_tells text place e = rw e (comma_tells_if (nat_lt (comma_at text) (length text)) text refl)
+pub separator_tells : (s : ℕ) (text : List ℕ) (place : Option ℕ) → place ≡ first_separator s text → SeparatorTells s text place
+separator_tells s text place e = rw e (separator_tells_if s (nat_lt (separator_at s text) (length text)) text refl)
+
+-- a word has a field at least
+some_field_if : (found : Bool) (b : ℕ) (fields : List (List ℕ)) → 0 < length (cond found ([] ∷ fields) (onto_word b fields))
+some_field_if true b fields = omega arith
+some_field_if false b [] = omega arith
+some_field_if false b (w ∷ ws) = omega arith
+
+pub some_field : (s : ℕ) (text : List ℕ) → 0 < length (fields_of s text)
+some_field s [] = omega arith
+some_field s (b ∷ bs) = some_field_if (b == s) b (fields_of s bs)

@@ -1,11 +1,12 @@
 -- The calls that the words behind a client's name make; None where they aren't in the grammar.
 use Rattle.std.specs.Prelude.{ℕ, List, [], ◌∷◌, codes, bytes_eq, Option, Some, None, if◌then◌else◌, option_map}
 use Rattle.ipc_call.specs.declared.calls.Call.{Call}
-use Rattle.ipc_call.specs.declared.calls.Call.TheVariants.{MsgGet, MsgSnd, MsgRcv, IpcStat, IpcSet, IpcRmid, Interrupt}
+use Rattle.ipc_call.specs.declared.calls.Call.TheVariants.{MsgGet, MsgSnd, MsgRcv, IpcStat, IpcSet, IpcRmid, Interrupt, Exit}
 use Rattle.ipc_call.specs.declared.calls.Kind.{Kind}
 use Rattle.ipc_call.specs.declared.calls.Kind.TheVariants.{Queue, Sems, Segment}
 use Rattle.ipc_text.specs.Grammar.{◌>>=◌}
 use Rattle.ipc_text.specs.Numbers.{number_32, number_64, signed_64}
+use Rattle.ipc_text.specs.Sets.{set_call_of}
 use Rattle.ipc_text.specs.Texts.{text_of}
 
 -- KEY FLAGS
@@ -93,11 +94,18 @@ interrupt_of [] = None
 interrupt_of (pid ∷ []) = option_map (λ p. Interrupt p) (number_32 pid)
 interrupt_of (pid ∷ more ∷ others) = None
 
--- the word of a call on a process, and its arguments
-abbrev pub process_of : List ℕ → List (List ℕ) → Option Call
-process_of word words = if bytes_eq word (codes "interrupt") then interrupt_of words else None
+-- without arguments
+abbrev pub exit_of : List (List ℕ) → Option Call
+exit_of [] = Some Exit
+exit_of (more ∷ others) = None
 
--- the word of a control of an object of any kind or of a process, and its arguments
+-- the word of a call on a process or on a semaphore set, and its arguments
+abbrev pub process_of : List ℕ → List (List ℕ) → Option Call
+process_of word words =
+    if bytes_eq word (codes "interrupt") then interrupt_of words
+    else (if bytes_eq word (codes "exit") then exit_of words else set_call_of word words)
+
+-- the word of a control of an object of any kind or of another call that isn't on a queue alone, and its arguments
 unfoldable pub control_of : List ℕ → List (List ℕ) → Option Call
 control_of word words =
     if bytes_eq word (codes "stat") then option_map (λ object. IpcStat object.0 object.1) (object_of words)

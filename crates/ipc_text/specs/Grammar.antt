@@ -11,20 +11,24 @@ infixl 10 ◌>>=◌
 abbrev pub ◌>>=◌ : {A B : Type 0} → Option A → (A → Option B) → Option B
 o >>= f = option_and_then f o
 
+-- what each of the words writes; None where one of them writes none
+abbrev pub each_of : {A : Type 0} → (List ℕ → Option A) → List (List ℕ) → Option (List A)
+each_of read [] = Some []
+each_of read (w ∷ ws) = do
+  x ← read w
+  xs ← each_of read ws
+  Some (x ∷ xs)
+
 -- each of the words is a number
 abbrev pub numbers_32 : List (List ℕ) → Option (List ℕ)
-numbers_32 [] = Some []
-numbers_32 (w ∷ ws) = do
-  n ← number_32 w
-  ns ← numbers_32 ws
-  Some (n ∷ ns)
+numbers_32 words = each_of number_32 words
 
 abbrev pub at_most_32 : List ℕ → Option (List ℕ)
 at_most_32 groups = if nat_le (length groups) 32 then Some groups else None
 
--- 1 to 32 groups, which commas separate
+-- 1 to 32 groups, which commas (byte 44) separate
 unfoldable pub group_list : List ℕ → Option (List ℕ)
-group_list text = numbers_32 (fields_of text) >>= at_most_32
+group_list text = numbers_32 (fields_of 44 text) >>= at_most_32
 
 unfoldable pub capability_named : List ℕ → Option ℕ
 capability_named word =
@@ -38,7 +42,7 @@ with_capabilities caps [] = Some caps
 with_capabilities caps (w ∷ ws) = capability_named w >>= λ cap. with_capabilities (bit_or caps cap) ws
 
 unfoldable pub capability_list : List ℕ → Option ℕ
-capability_list text = with_capabilities 0 (fields_of text)
+capability_list text = with_capabilities 0 (fields_of 44 text)
 
 -- what follows a prefix of the first word, and the words behind it
 abbrev pub option_text : List ℕ → List (List ℕ) → Option (List ℕ × List (List ℕ))

@@ -1,5 +1,5 @@
 -- Numbers in a script: decimal, octal after 0, hexadecimal after 0x, as C writes them (POSIX.1-2017 XSH strtoul).
-use Rattle.std.specs.Prelude.{ℕ, ℤ, pos, neg_ℤ, option_map, ◌==◌, ◌^◌, ◌-◌, List, [], ◌∷◌, Option, Some, None, if◌then◌else◌, nat_le, nat_lt, option_and_then}
+use Rattle.std.specs.Prelude.{ℕ, ℤ, pos, neg_ℤ, option_map, ◌==◌, ◌^◌, ◌-◌, ◌&&◌, int_le, int_lt, List, [], ◌∷◌, Option, Some, None, if◌then◌else◌, nat_le, nat_lt, option_and_then}
 use Rattle.std.specs.List.{list_all}
 use Rattle.std.specs.Char.{digit_value}
 use Rattle.std.specs.Str.Parse.{digits_value}
@@ -30,6 +30,9 @@ at_most most n = if nat_le n most then Some n else None
 unfoldable pub number_within : ℕ → List ℕ → Option ℕ
 number_within most word = option_and_then (at_most most) (number_of word)
 
+abbrev pub number_16 : List ℕ → Option ℕ
+number_16 word = number_within (2 ^ 16 - 1) word
+
 abbrev pub number_32 : List ℕ → Option ℕ
 number_32 word = number_within (2 ^ 32 - 1) word
 
@@ -46,3 +49,17 @@ negative word = option_map (λ n. neg_ℤ (pos n)) (number_within (2 ^ 63) word)
 abbrev pub signed_64 : List ℕ → Option ℤ
 signed_64 [] = None
 signed_64 (c ∷ cs) = if c == 45 then negative cs else (if c == 43 then positive cs else positive (c ∷ cs))
+
+-- the number, where a width of so many bits holds it with its sign
+abbrev pub fits_signed : ℕ → ℤ → Option ℤ
+fits_signed bits n =
+    if int_le (neg_ℤ (pos (2 ^ (bits - 1)))) n && int_lt n (pos (2 ^ (bits - 1))) then Some n else None
+
+abbrev pub signed_within : ℕ → List ℕ → Option ℤ
+signed_within bits word = option_and_then (fits_signed bits) (signed_64 word)
+
+abbrev pub signed_16 : List ℕ → Option ℤ
+signed_16 word = signed_within 16 word
+
+abbrev pub signed_32 : List ℕ → Option ℤ
+signed_32 word = signed_within 32 word

@@ -1,8 +1,9 @@
 -- The rows that a script prints (the project's own; the names of errors are those of errno(3)).
 use Rattle.std.specs.Prelude.{ℕ, ℤ, ◌-◌, ◌^◌, false, List, [], ◌++◌, codes, decimal, Option, Some, None, Ok, Err, unwrap_or, slice_get, flat_map}
-use Rattle.ipc_call.specs.declared.replies.Answer.TheVariants.{Id, Done, Message, Status}
-use Rattle.ipc_call.specs.declared.replies.Status.TheVariants.{Queue}
+use Rattle.ipc_call.specs.declared.replies.Answer.TheVariants.{Id, Done, Message, Status, Value, Values}
+use Rattle.ipc_call.specs.declared.replies.Status.TheVariants.{Queue, Set}
 use Rattle.ipc_call.specs.declared.replies.QueueStatus.{QueueStatus}
+use Rattle.ipc_call.specs.declared.replies.SetStatus.{SetStatus}
 use Rattle.std.specs.Fmt.{digits, format_spec, padded_integral, signed_decimal}
 use Rattle.hex.specs.Hex.{encode_lower}
 use Rattle.ipc_call.specs.declared.replies.Reply.{Reply}
@@ -14,6 +15,7 @@ use Rattle.ipc_call.specs.Rules.{error_of, name_of_rule}
 use Rattle.ipc_model.specs.Decision.{Outcome}
 use Rattle.ipc_text.specs.declared.reasons.Reason.{Reason}
 use Rattle.ipc_text.specs.declared.reasons.Reason.TheVariants as reasons
+use Rattle.ipc_text.specs.declared.rows.Access.{Access}
 
 unfoldable pub name_of_reason : Reason → List ℕ
 name_of_reason reasons.TooLong = codes "too-long"
@@ -42,15 +44,25 @@ key_text key = codes "0x" ++ padded_integral (format_spec 32 0 4 8 (2 ^ 64 - 1))
 unfoldable pub mode_text : ℕ → List ℕ
 mode_text mode = padded_integral (format_spec 32 0 4 4 (2 ^ 64 - 1)) false [] (digits 8 false mode)
 
-abbrev pub owners_text : QueueStatus → List ℕ
-owners_text q =
+abbrev pub owners_text : Access → List ℕ
+owners_text a =
     codes " uid "
-    ++ (decimal q.uid
+    ++ (decimal a.uid
     ++ (codes " gid "
-    ++ (decimal q.gid ++ (codes " cuid " ++ (decimal q.cuid ++ (codes " cgid " ++ decimal q.cgid))))))
+    ++ (decimal a.gid ++ (codes " cuid " ++ (decimal a.cuid ++ (codes " cgid " ++ decimal a.cgid))))))
 
-abbrev pub access_text : QueueStatus → List ℕ
-access_text q = codes "queue key " ++ (key_text q.key ++ (owners_text q ++ (codes " mode " ++ mode_text q.mode)))
+-- the word of a kind, and what the state of its objects begins with
+abbrev pub access_text : List ℕ → Access → List ℕ
+access_text kind a =
+    kind ++ (codes " key " ++ (key_text a.key ++ (owners_text a ++ (codes " mode " ++ mode_text a.mode))))
+
+abbrev pub access_of_queue : QueueStatus → Access
+access_of_queue q =
+    record { key = q.key; uid = q.uid; gid = q.gid; cuid = q.cuid; cgid = q.cgid; mode = q.mode }
+
+abbrev pub access_of_set : SetStatus → Access
+access_of_set s =
+    record { key = s.key; uid = s.uid; gid = s.gid; cuid = s.cuid; cgid = s.cgid; mode = s.mode }
 
 abbrev pub times_text : QueueStatus → List ℕ
 times_text q =
@@ -66,7 +78,22 @@ contents_text q =
 
 -- the state of a queue
 abbrev pub queue_text : QueueStatus → List ℕ
-queue_text q = access_text q ++ contents_text q
+queue_text q = access_text (codes "queue") (access_of_queue q) ++ contents_text q
+
+-- the state of a semaphore set
+abbrev pub set_text : SetStatus → List ℕ
+set_text s =
+    access_text (codes "set") (access_of_set s)
+    ++ (codes " nsems "
+    ++ (decimal s.nsems
+    ++ (codes " otime " ++ (decimal s.otime ++ (codes " ctime " ++ (decimal s.ctime ++ codes "\n"))))))
+
+abbrev pub value_text : ℕ → List ℕ
+value_text value = codes " " ++ decimal value
+
+-- the values of all semaphores of a set
+abbrev pub values_text : List ℕ → List ℕ
+values_text values = codes "values" ++ (flat_map value_text values ++ codes "\n")
 
 -- a message: its type and the bytes of its text
 abbrev pub message_text : ℤ → List ℕ → List ℕ
@@ -78,6 +105,9 @@ outcome_text (Ok (Id id)) = codes "id " ++ (decimal id ++ codes "\n")
 outcome_text (Ok Done) = codes "ok\n"
 outcome_text (Ok (Message mtype text)) = message_text mtype text
 outcome_text (Ok (Status (Queue status))) = queue_text status
+outcome_text (Ok (Status (Set status))) = set_text status
+outcome_text (Ok (Value value)) = codes "value " ++ (decimal value ++ codes "\n")
+outcome_text (Ok (Values values)) = values_text values
 outcome_text (Err rule) = error_text (error_of rule) (name_of_rule rule)
 
 -- PLACE.TURN NAME, with a space behind each

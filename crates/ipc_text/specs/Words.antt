@@ -28,10 +28,11 @@ words_of [] = []
 words_of (b ∷ bs) =
     if is_blank b then words_of bs else (if begins_blank bs then (b ∷ []) ∷ words_of bs else onto_word b (words_of bs))
 
--- the fields of a word, which commas (byte 44) separate: there is at least one
-abbrev pub fields_of : List ℕ → List (List ℕ)
-fields_of [] = [] ∷ []
-fields_of (b ∷ bs) = if b == 44 then [] ∷ fields_of bs else onto_word b (fields_of bs)
+-- the fields of a word, which a byte separates: there is at least one
+abbrev pub fields_of : ℕ → List ℕ → List (List ℕ)
+fields_of separator [] = [] ∷ []
+fields_of separator (b ∷ bs) =
+    if b == separator then [] ∷ fields_of separator bs else onto_word b (fields_of separator bs)
 
 -- what follows a prefix, and None where the word doesn't begin with it
 abbrev pub after_prefix : List ℕ → List ℕ → Option (List ℕ)

@@ -1,12 +1,13 @@
 // The calls that the words behind a client's name make.
 
 ghost use Rattle.std.specs.Prelude.{◌≡◌, ◌≢◌, [], ◌∷◌, length, IfOk, MatchOption};
-ghost use Rattle.ipc_text.specs.Calls.{call_of as call_words, control_of as control_words, interrupt_of as interrupt_words, process_of as process_words, kind_named as kind_word, msgget_of as msgget_words, object_of as object_words};
+ghost use Rattle.ipc_text.specs.Calls.{call_of as call_words, control_of as control_words, exit_of as exit_words, interrupt_of as interrupt_words, process_of as process_words, kind_named as kind_word, msgget_of as msgget_words, object_of as object_words};
 ghost use Rattle.ipc_text.specs.Calls.{qbytes_of as qbytes_words, set_of as set_line, set_words as set_parts};
 ghost use Rattle.ipc_text.specs.Calls.{msgrcv_of as msgrcv_line, msgrcv_words as msgrcv_parts, msgsnd_of as msgsnd_line, msgsnd_words as msgsnd_parts};
 ghost use Rattle.ipc_text.specs.Words.{words_of};
 
 use crate::numbers::{number, number_32, signed_64};
+use crate::sets::set_call_of;
 use crate::texts::text_of;
 use crate::words::split_word;
 use ipc_call::{Call, Kind};
@@ -14,7 +15,7 @@ use std::alloc::{AllocError, Global};
 
 /// The call that the words behind a client's name make; `None` where they make none. `AllocError` comes where
 /// memory was refused. The words are the project's own, with the names and the order of arguments of the man
-/// pages (msgget(2), msgop(2), msgctl(2)).
+/// pages (msgget(2), msgop(2), msgctl(2), semget(2), semop(2), semctl(2), _exit(2)).
 #[tactic(auto, unfolding(crate::specs::Calls::call_of))]
 pub fn call_of(alloc: Global, words: &[u8]) -> Result<Option<Call>, AllocError>
     ensures { IfOk result (λ call. call ≡ call_words (words_of words.now)) }
@@ -26,31 +27,33 @@ pub fn call_of(alloc: Global, words: &[u8]) -> Result<Option<Call>, AllocError>
         b"msgget" => Ok(msgget_of(words)),
         b"msgsnd" => msgsnd_of(alloc, words),
         b"msgrcv" => Ok(msgrcv_of(words)),
-        _ => Ok(control_of(word, words)),
+        _ => control_of(alloc, word, words),
     }
 }
 
-// The control of an object of any kind, or of a process.
+// The control of an object of any kind, or another call that isn't on a queue alone.
 #[tactic(auto, unfolding(crate::specs::Calls::control_of))]
-fn control_of(word: &[u8], words: &[u8]) -> Option<Call>
-    ensures { result ≡ control_words word.now (words_of words.now) }
+fn control_of(alloc: Global, word: &[u8], words: &[u8]) -> Result<Option<Call>, AllocError>
+    ensures { IfOk result (λ call. call ≡ control_words word.now (words_of words.now)) }
 {
     match word {
-        b"stat" => object_of(words).map(|(kind, id)| Call::IpcStat { kind, id }),
-        b"set" => set_of(words),
-        b"rmid" => object_of(words).map(|(kind, id)| Call::IpcRmid { kind, id }),
-        _ => process_of(word, words),
+        b"stat" => Ok(object_of(words).map(|(kind, id)| Call::IpcStat { kind, id })),
+        b"set" => Ok(set_of(words)),
+        b"rmid" => Ok(object_of(words).map(|(kind, id)| Call::IpcRmid { kind, id })),
+        _ => process_of(alloc, word, words),
     }
 }
 
-// A call on a process.
-fn process_of(word: &[u8], words: &[u8]) -> Option<Call>
-    ensures { result ≡ process_words word.now (words_of words.now) }
+// A call on a process, or on a semaphore set.
+fn process_of(alloc: Global, word: &[u8], words: &[u8]) -> Result<Option<Call>, AllocError>
+    ensures { IfOk result (λ call. call ≡ process_words word.now (words_of words.now)) }
 {
     if word == b"interrupt".as_slice() {
-        interrupt_of(words)
+        Ok(interrupt_of(words))
+    } else if word == b"exit".as_slice() {
+        Ok(exit_of(words))
     } else {
-        None
+        set_call_of(alloc, word, words)
     }
 }
 
@@ -165,6 +168,15 @@ fn interrupt_of(words: &[u8]) -> Option<Call>
     }
     let pid = number_32(pid)?;
     Some(Call::Interrupt { pid })
+}
+
+fn exit_of(words: &[u8]) -> Option<Call>
+    ensures { result ≡ exit_words (words_of words.now) }
+{
+    match split_word(words) {
+        None => Some(Call::Exit),
+        Some(_) => None,
+    }
 }
 
 #[tactic(auto, unfolding(crate::specs::Calls::set_of))]

@@ -113,7 +113,7 @@ fn group_list(alloc: Global, text: &[u8]) -> Result<Option<Vec<u32>>, AllocError
     let mut groups = Vec::new(alloc);
     let mut rest = Some(text);
     while let Some(text) = rest {
-        let (field, others) = split_field(text);
+        let (field, others) = split_field(text, b',');
         let Some(group) = number_32(field) else {
             return Ok(None);
         };
@@ -133,7 +133,7 @@ fn capability_list(text: &[u8]) -> Option<Caps>
     let mut caps = Caps::empty();
     let mut rest = Some(text);
     while let Some(text) = rest {
-        let (field, others) = split_field(text);
+        let (field, others) = split_field(text, b',');
         caps.insert(capability_named(field)?);
         rest = others;
     }

@@ -8,10 +8,12 @@
 mod calls;
 mod grammar;
 mod lines;
+mod lists;
 mod names;
 mod numbers;
 mod reasons;
 mod rows;
+mod sets;
 mod settings;
 mod texts;
 mod words;

@@ -1,8 +1,8 @@
 // Numbers in a script: decimal, octal after 0, hexadecimal after 0x.
 
 ghost use Rattle.std.specs.Prelude.{◌≡◌, ◌≤◌, IfSome, option_and_then};
-ghost use Rattle.ipc_text.specs.Numbers.{at_most, behind_zero as number_behind_zero, number_32 as word_32, number_within, numeral as digits_number};
-ghost use Rattle.ipc_text.specs.Numbers.{negative as negative_word, positive as positive_word, signed_64 as signed_word};
+ghost use Rattle.ipc_text.specs.Numbers.{at_most, behind_zero as number_behind_zero, number_16 as word_16, number_32 as word_32, number_within, numeral as digits_number};
+ghost use Rattle.ipc_text.specs.Numbers.{negative as negative_word, positive as positive_word, signed_16 as signed_word_16, signed_32 as signed_word_32, signed_64 as signed_word};
 
 /// The number that the word writes, where it is at most `most`.
 #[tactic(auto, unfolding(crate::specs::Numbers::number_within))]
@@ -29,6 +29,14 @@ fn behind_zero(rest: &[u8], most: u64) -> Option<u64>
     }
 }
 
+/// The number that the word writes, where 16 bits hold it.
+pub(crate) fn number_16(word: &[u8]) -> Option<u16>
+    ensures { result ≡ word_16 word.now }
+{
+    let value = number(word, u64::from(u16::MAX))?;
+    Some(value as u16)
+}
+
 /// The number that the word writes, where 32 bits hold it.
 pub(crate) fn number_32(word: &[u8]) -> Option<u32>
     ensures { result ≡ word_32 word.now }
@@ -47,6 +55,20 @@ pub(crate) fn signed_64(word: &[u8]) -> Option<i64>
         Some((b'+', digits)) => positive(digits),
         Some(_) => positive(word),
     }
+}
+
+/// The number that the word writes, with a sign or none before it, where 16 bits hold it.
+pub(crate) fn signed_16(word: &[u8]) -> Option<i16>
+    ensures { result ≡ signed_word_16 word.now }
+{
+    i16::try_from(signed_64(word)?).ok()
+}
+
+/// The number that the word writes, with a sign or none before it, where 32 bits hold it.
+pub(crate) fn signed_32(word: &[u8]) -> Option<i32>
+    ensures { result ≡ signed_word_32 word.now }
+{
+    i32::try_from(signed_64(word)?).ok()
 }
 
 fn positive(digits: &[u8]) -> Option<i64>

@@ -3,11 +3,23 @@
 ghost use Rattle.std.specs.Prelude.{◌≡◌, ◌++◌, OnOk, string_bytes};
 ghost use Rattle.ipc_text.specs.Rows.{bad_row, error_text, name_of_reason, outcome_text, reply_row, row_head, waits_row};
 ghost use Rattle.ipc_text.specs.Rows.{message_text, queue_text, access_text, key_text, mode_text, owners_text, contents_text, times_text};
+ghost use Rattle.ipc_text.specs.Rows.{set_text, values_text};
 
 use crate::names::Name;
 use crate::reasons::Reason;
-use ipc_call::{Answer, Errno, Memory, Outcome, QueueStatus, Reply, Status};
+use ipc_call::{Answer, Errno, Memory, Outcome, QueueStatus, Reply, SetStatus, Status};
 use std::fmt::Write;
+
+/// What the state of an object of any kind begins with: its key, its owners, and the nine bits of its mode.
+#[derive(Clone, Copy)]
+struct Access {
+    key: u32,
+    uid: u32,
+    gid: u32,
+    cuid: u32,
+    cgid: u32,
+    mode: u16,
+}
 
 /// Appends the row of a bad line, by its number from 1. `Memory` comes where a growth was refused, and a part
 /// of the row may then stand in `rows`; so with each of the printers. The rows are the project's own.
@@ -62,6 +74,9 @@ fn print_outcome(rows: &mut String, outcome: &Outcome) -> Result<(), Memory>
         Ok(Answer::Done) => rows.push_str("ok\n"),
         Ok(Answer::Message { mtype, text }) => print_message(rows, *mtype, text.as_slice()),
         Ok(Answer::Status(Status::Queue(status))) => print_queue(rows, *status),
+        Ok(Answer::Status(Status::Set(status))) => print_set(rows, *status),
+        Ok(Answer::Value(value)) => write!(rows, "value {value}\n"),
+        Ok(Answer::Values(values)) => print_values(rows, values.as_slice()),
         Err(rule) => print_error(rows, rule.error(), rule.name()),
     }
 }
@@ -74,21 +89,74 @@ fn print_message(rows: &mut String, mtype: i64, text: &[u8]) -> Result<(), Memor
     write!(rows, "{digits}\n")
 }
 
+fn print_values(rows: &mut String, values: &[u16]) -> Result<(), Memory>
+    ensures { OnOk result (string_bytes rows.new ≡ string_bytes rows.old ++ values_text values.now) }
+{
+    rows.push_str("values")?;
+    for value in values {
+        write!(rows, " {value}")?;
+    }
+    rows.push_str("\n")
+}
+
 fn print_queue(rows: &mut String, status: QueueStatus) -> Result<(), Memory>
     ensures { OnOk result (string_bytes rows.new ≡ string_bytes rows.old ++ queue_text status) }
 {
-    print_access(rows, status)?;
+    let QueueStatus {
+        key,
+        uid,
+        gid,
+        cuid,
+        cgid,
+        mode,
+        ..
+    } = status;
+    let access = Access {
+        key,
+        uid,
+        gid,
+        cuid,
+        cgid,
+        mode,
+    };
+    print_access(rows, "queue", access)?;
     print_contents(rows, status)
 }
 
-fn print_access(rows: &mut String, status: QueueStatus) -> Result<(), Memory>
-    ensures { OnOk result (string_bytes rows.new ≡ string_bytes rows.old ++ access_text status) }
+fn print_set(rows: &mut String, status: SetStatus) -> Result<(), Memory>
+    ensures { OnOk result (string_bytes rows.new ≡ string_bytes rows.old ++ set_text status) }
 {
-    rows.push_str("queue key ")?;
-    print_key(rows, status.key)?;
-    print_owners(rows, status)?;
+    let SetStatus {
+        key,
+        uid,
+        gid,
+        cuid,
+        cgid,
+        mode,
+        nsems,
+        otime,
+        ctime,
+    } = status;
+    let access = Access {
+        key,
+        uid,
+        gid,
+        cuid,
+        cgid,
+        mode,
+    };
+    print_access(rows, "set", access)?;
+    write!(rows, " nsems {nsems} otime {otime} ctime {ctime}\n")
+}
+
+fn print_access(rows: &mut String, kind: &str, access: Access) -> Result<(), Memory>
+    ensures { OnOk result (string_bytes rows.new ≡ string_bytes rows.old ++ access_text kind.now access) }
+{
+    write!(rows, "{kind} key ")?;
+    print_key(rows, access.key)?;
+    print_owners(rows, access)?;
     rows.push_str(" mode ")?;
-    print_mode(rows, status.mode)
+    print_mode(rows, access.mode)
 }
 
 #[tactic(auto, unfolding(crate::specs::Rows::key_text))]
@@ -105,16 +173,16 @@ fn print_mode(rows: &mut String, mode: u16) -> Result<(), Memory>
     write!(rows, "{mode:04o}")
 }
 
-fn print_owners(rows: &mut String, status: QueueStatus) -> Result<(), Memory>
-    ensures { OnOk result (string_bytes rows.new ≡ string_bytes rows.old ++ owners_text status) }
+fn print_owners(rows: &mut String, access: Access) -> Result<(), Memory>
+    ensures { OnOk result (string_bytes rows.new ≡ string_bytes rows.old ++ owners_text access) }
 {
-    let QueueStatus {
+    let Access {
         uid,
         gid,
         cuid,
         cgid,
         ..
-    } = status;
+    } = access;
     write!(rows, " uid {uid} gid {gid} cuid {cuid} cgid {cgid}")
 }
 

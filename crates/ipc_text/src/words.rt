@@ -46,20 +46,20 @@ fn word_len(text: &[u8]) -> usize
     text.iter().take_while(|byte| !is_blank(**byte)).count()
 }
 
-/// The first field, and what follows its comma.
-pub(crate) fn split_field(text: &[u8]) -> (&[u8], Option<&[u8]>)
-    ensures fields { MatchOption result.1 (fields_of text.now ≡ result.0.now ∷ []) (λ rest. fields_of text.now ≡ result.0.now ∷ fields_of rest.now) }
+/// The first field, and what follows its separator.
+pub(crate) fn split_field(text: &[u8], separator: u8) -> (&[u8], Option<&[u8]>)
+    ensures fields { MatchOption result.1 (fields_of separator text.now ≡ result.0.now ∷ []) (λ rest. fields_of separator text.now ≡ result.0.now ∷ fields_of separator rest.now) }
     ensures shorter { IfSome result.1 (λ rest. length rest.now < length text.now) }
 {
-    match comma_place(text) {
+    match separator_place(text, separator) {
         None => (text, None),
-        Some(comma) => (&text[..comma], Some(&text[comma + 1..])),
+        Some(place) => (&text[..place], Some(&text[place + 1..])),
     }
 }
 
-fn comma_place(text: &[u8]) -> Option<usize>
-    ensures place { result ≡ position (λ b. b == 44) text.now }
-    ensures within { IfSome result (λ comma. comma < length text.now) }
+fn separator_place(text: &[u8], separator: u8) -> Option<usize>
+    ensures place { result ≡ position (λ b. b == separator) text.now }
+    ensures within { IfSome result (λ place. place < length text.now) }
 {
-    text.iter().position(|byte| *byte == b',')
+    text.iter().position(|byte| *byte == separator)
 }

@@ -6,7 +6,7 @@ use Rattle.ipc_text.proofs.GrammarLemmas.{bytes_left, fields_left}
 use Rattle.ipc_text.proofs.grammar.capability_list.Given as goal
 
 abbrev pub invariant-loop-rest : goal.invariant-loop-rest
-invariant-loop-rest l = with_capabilities l.caps.0 (fields_left l.rest) ≡ with_capabilities 0 (fields_of l.fn.text)
+invariant-loop-rest l = with_capabilities l.caps.0 (fields_left l.rest) ≡ with_capabilities 0 (fields_of 44 l.fn.text)
 
 abbrev pub decreases-loop-rest : goal.decreases-loop-rest
 decreases-loop-rest l = bytes_left l.rest

@@ -6,7 +6,7 @@ use Rattle.ipc_text.proofs.grammar.group_list.Given as goal
 
 abbrev pub invariant-loop-rest : goal.invariant-loop-rest
 invariant-loop-rest l = record {
-  value : with_groups l.groups.items (fields_left l.rest) ≡ with_groups [] (fields_of l.fn.text);
+  value : with_groups l.groups.items (fields_left l.rest) ≡ with_groups [] (fields_of 44 l.fn.text);
   few : vec_len l.groups ≤ 32;
 }
 

@@ -1,14 +1,14 @@
 use Rattle.std.proofs.Common.{◌≡◌, ◌+◌, ◌-◌, length, take, drop, arith, add-one}
 use Rattle.std.proofs.lemmas.Grind.{common_steps}
-use Rattle.ipc_text.proofs.WordLemmas.{comma_tells}
+use Rattle.ipc_text.proofs.WordLemmas.{separator_tells}
 use Rattle.ipc_text.proofs.words.split_field.Goals as goal
 
 pub returns-in-None-clause-fields : goal.returns-in-None-clause-fields
-returns-in-None-clause-fields c = comma_tells c.args.text.now _ c.in-None.ensures.place
+returns-in-None-clause-fields c = separator_tells c.args.separator c.args.text.now _ c.in-None.ensures.place
 
 pub returns-in-Some-clause-fields : goal.returns-in-Some-clause-fields
 returns-in-Some-clause-fields c =
     let text = c.args.text.now in
-    let after = c.in-Some.comma + 1 in
+    let after = c.in-Some.place + 1 in
     let e : take (length text - after) (drop after text) ≡ drop after text = grind (arith, common_steps) in
-    rw (e, add-one) (comma_tells text _ c.in-Some.ensures.place)
+    rw (e, add-one) (separator_tells c.args.separator text _ c.in-Some.ensures.place)

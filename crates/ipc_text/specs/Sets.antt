@@ -1,0 +1,107 @@
+-- The calls on semaphore sets that words make; None where they aren't in the grammar.
+use Rattle.std.specs.Prelude.{ℕ, List, [], ◌∷◌, codes, bytes_eq, Option, Some, None, if◌then◌else◌, option_map}
+use Rattle.ipc_call.specs.declared.calls.Call.{Call}
+use Rattle.ipc_call.specs.declared.calls.Call.TheVariants.{SemGet, SemOp, GetVal, GetPid, GetNcnt, GetZcnt, GetAll, SetVal, SetAll}
+use Rattle.ipc_call.specs.declared.calls.SemOper.{SemOper}
+use Rattle.ipc_text.specs.Grammar.{◌>>=◌, each_of}
+use Rattle.ipc_text.specs.Numbers.{number_16, number_32, signed_16, signed_32}
+use Rattle.ipc_text.specs.Words.{fields_of}
+
+abbrev pub semget_words : List ℕ → List ℕ → List ℕ → Option Call
+semget_words key nsems flags = do
+  k ← number_32 key
+  n ← number_32 nsems
+  f ← number_32 flags
+  Some (SemGet k n f)
+
+abbrev pub setval_words : List ℕ → List ℕ → List ℕ → Option Call
+setval_words id num value = do
+  i ← number_32 id
+  n ← number_32 num
+  v ← signed_32 value
+  Some (SetVal i n v)
+
+-- the call of three words
+abbrev pub of_three : (List ℕ → List ℕ → List ℕ → Option Call) → List (List ℕ) → Option Call
+of_three read [] = None
+of_three read (first ∷ []) = None
+of_three read (first ∷ second ∷ []) = None
+of_three read (first ∷ second ∷ third ∷ []) = read first second third
+of_three read (first ∷ second ∷ third ∷ more ∷ others) = None
+
+-- KEY NSEMS FLAGS
+abbrev pub semget_of : List (List ℕ) → Option Call
+semget_of words = of_three semget_words words
+
+-- ID NUM VALUE
+abbrev pub setval_of : List (List ℕ) → Option Call
+setval_of words = of_three setval_words words
+
+-- ID [VALUE ..]
+abbrev pub setall_of : List (List ℕ) → Option Call
+setall_of [] = None
+setall_of (id ∷ values) = do
+  i ← number_32 id
+  vs ← each_of signed_32 values
+  Some (SetAll i vs)
+
+-- [FLAGS]
+abbrev pub oper_flags : List (List ℕ) → Option ℕ
+oper_flags [] = Some 0
+oper_flags (flags ∷ []) = number_16 flags
+oper_flags (flags ∷ more ∷ others) = None
+
+abbrev pub oper_fields : List (List ℕ) → Option SemOper
+oper_fields [] = None
+oper_fields (num ∷ []) = None
+oper_fields (num ∷ op ∷ rest) = do
+  n ← number_16 num
+  o ← signed_16 op
+  f ← oper_flags rest
+  Some (record { num = n; op = o; flags = f })
+
+-- NUM:OP or NUM:OP:FLAGS, which colons (byte 58) separate
+abbrev pub oper_of : List ℕ → Option SemOper
+oper_of word = oper_fields (fields_of 58 word)
+
+-- ID [OP ..]
+abbrev pub semop_of : List (List ℕ) → Option Call
+semop_of [] = None
+semop_of (id ∷ ops) = do
+  i ← number_32 id
+  os ← each_of oper_of ops
+  Some (SemOp i os)
+
+-- ID
+abbrev pub getall_of : List (List ℕ) → Option Call
+getall_of [] = None
+getall_of (id ∷ []) = option_map (λ i. GetAll i) (number_32 id)
+getall_of (id ∷ more ∷ others) = None
+
+-- ID NUM
+abbrev pub semaphore_of : List (List ℕ) → Option (ℕ × ℕ)
+semaphore_of [] = None
+semaphore_of (id ∷ []) = None
+semaphore_of (id ∷ num ∷ []) = number_32 id >>= λ i. option_map (λ n. (i, n)) (number_32 num)
+semaphore_of (id ∷ num ∷ more ∷ others) = None
+
+-- the word of a report on one semaphore, and its arguments
+abbrev pub report_of : List ℕ → List (List ℕ) → Option Call
+report_of word words =
+    if bytes_eq word (codes "getval") then option_map (λ s. GetVal s.0 s.1) (semaphore_of words)
+    else (if bytes_eq word (codes "getpid") then option_map (λ s. GetPid s.0 s.1) (semaphore_of words)
+    else (if bytes_eq word (codes "getncnt") then option_map (λ s. GetNcnt s.0 s.1) (semaphore_of words)
+    else (if bytes_eq word (codes "getzcnt") then option_map (λ s. GetZcnt s.0 s.1) (semaphore_of words) else None)))
+
+-- the word of a call that sets one value or reports values, and its arguments
+abbrev pub value_call_of : List ℕ → List (List ℕ) → Option Call
+value_call_of word words =
+    if bytes_eq word (codes "setval") then setval_of words
+    else (if bytes_eq word (codes "getall") then getall_of words else report_of word words)
+
+-- the word of a call on a semaphore set, and its arguments
+abbrev pub set_call_of : List ℕ → List (List ℕ) → Option Call
+set_call_of word words =
+    if bytes_eq word (codes "semget") then semget_of words
+    else (if bytes_eq word (codes "semop") then semop_of words
+    else (if bytes_eq word (codes "setall") then setall_of words else value_call_of word words))

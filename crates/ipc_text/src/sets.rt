@@ -1,0 +1,187 @@
+// The calls on semaphore sets that words make.
+
+ghost use Rattle.std.specs.Prelude.{◌≡◌, ◌≢◌, [], ◌∷◌, length, IfOk, MatchOption};
+ghost use Rattle.ipc_text.specs.Sets.{getall_of as getall_words, oper_flags as flags_fields, oper_of as oper_word, report_of as report_words, semaphore_of as semaphore_words, set_call_of as set_call_words, value_call_of as value_call_words};
+ghost use Rattle.ipc_text.specs.Sets.{semget_of as semget_line, semget_words as semget_parts, setall_of as setall_words, semop_of as semop_words, setval_of as setval_line, setval_words as setval_parts};
+ghost use Rattle.ipc_text.specs.Words.{fields_of, words_of};
+
+use crate::lists::{Item, items_of};
+use crate::numbers::{number_16, number_32, signed_16, signed_32};
+use crate::words::{split_field, split_word};
+use ipc_call::{Call, SemOper};
+use std::alloc::{AllocError, Global};
+
+/// The call on a semaphore set that this word and those behind it make; `None` where they make none.
+/// `AllocError` comes only where a growth was refused.
+pub(crate) fn set_call_of(
+    alloc: Global,
+    word: &[u8],
+    words: &[u8],
+) -> Result<Option<Call>, AllocError>
+    ensures { IfOk result (λ call. call ≡ set_call_words word.now (words_of words.now)) }
+{
+    if word == b"semget".as_slice() {
+        Ok(semget_of(words))
+    } else if word == b"semop".as_slice() {
+        semop_of(alloc, words)
+    } else if word == b"setall".as_slice() {
+        setall_of(alloc, words)
+    } else {
+        Ok(value_call_of(word, words))
+    }
+}
+
+// A call that sets one value or reports values.
+fn value_call_of(word: &[u8], words: &[u8]) -> Option<Call>
+    ensures { result ≡ value_call_words word.now (words_of words.now) }
+{
+    if word == b"setval".as_slice() {
+        setval_of(words)
+    } else if word == b"getall".as_slice() {
+        getall_of(words)
+    } else {
+        report_of(word, words)
+    }
+}
+
+// A report on one semaphore.
+fn report_of(word: &[u8], words: &[u8]) -> Option<Call>
+    ensures { result ≡ report_words word.now (words_of words.now) }
+{
+    if word == b"getval".as_slice() {
+        semaphore_of(words).map(|(id, num)| Call::GetVal { id, num })
+    } else if word == b"getpid".as_slice() {
+        semaphore_of(words).map(|(id, num)| Call::GetPid { id, num })
+    } else if word == b"getncnt".as_slice() {
+        semaphore_of(words).map(|(id, num)| Call::GetNcnt { id, num })
+    } else if word == b"getzcnt".as_slice() {
+        semaphore_of(words).map(|(id, num)| Call::GetZcnt { id, num })
+    } else {
+        None
+    }
+}
+
+fn semget_of(words: &[u8]) -> Option<Call>
+    ensures { result ≡ semget_line (words_of words.now) }
+{
+    let (key, nsems, flags) = three_words(words)?;
+    semget_words(key, nsems, flags)
+}
+
+fn semget_words(key: &[u8], nsems: &[u8], flags: &[u8]) -> Option<Call>
+    ensures { result ≡ semget_parts key.now nsems.now flags.now }
+{
+    let key = number_32(key)?;
+    let nsems = number_32(nsems)?;
+    let flags = number_32(flags)?;
+    Some(Call::SemGet { key, nsems, flags })
+}
+
+fn setval_of(words: &[u8]) -> Option<Call>
+    ensures { result ≡ setval_line (words_of words.now) }
+{
+    let (id, num, value) = three_words(words)?;
+    setval_words(id, num, value)
+}
+
+fn setval_words(id: &[u8], num: &[u8], value: &[u8]) -> Option<Call>
+    ensures { result ≡ setval_parts id.now num.now value.now }
+{
+    let id = number_32(id)?;
+    let num = number_32(num)?;
+    let value = signed_32(value)?;
+    Some(Call::SetVal { id, num, value })
+}
+
+// The words, where they are three.
+fn three_words(words: &[u8]) -> Option<(&[u8], &[u8], &[u8])>
+    ensures { MatchOption result (length (words_of words.now) ≢ 3) (λ x. words_of words.now ≡ x.0.now ∷ x.1.now ∷ x.2.now ∷ []) }
+{
+    let (first, words) = split_word(words)?;
+    let (second, words) = split_word(words)?;
+    let (third, words) = split_word(words)?;
+    if split_word(words).is_some() {
+        return None;
+    }
+    Some((first, second, third))
+}
+
+fn setall_of(alloc: Global, words: &[u8]) -> Result<Option<Call>, AllocError>
+    ensures { IfOk result (λ call. call ≡ setall_words (words_of words.now)) }
+{
+    let Some((id, values)) = split_word(words) else {
+        return Ok(None);
+    };
+    let Some(id) = number_32(id) else {
+        return Ok(None);
+    };
+    let Some(values) = items_of(alloc, values)? else {
+        return Ok(None);
+    };
+    Ok(Some(Call::SetAll { id, values }))
+}
+
+fn semop_of(alloc: Global, words: &[u8]) -> Result<Option<Call>, AllocError>
+    ensures { IfOk result (λ call. call ≡ semop_words (words_of words.now)) }
+{
+    let Some((id, ops)) = split_word(words) else {
+        return Ok(None);
+    };
+    let Some(id) = number_32(id) else {
+        return Ok(None);
+    };
+    let Some(ops) = items_of(alloc, ops)? else {
+        return Ok(None);
+    };
+    Ok(Some(Call::SemOp { id, ops }))
+}
+
+impl Item for SemOper {
+    ghost item_of = { oper_word };
+
+    fn from_word(word: &[u8]) -> Option<SemOper> {
+        let (num, rest) = split_field(word, b':');
+        let (op, rest) = split_field(rest?, b':');
+        let num = number_16(num)?;
+        let op = signed_16(op)?;
+        let flags = match rest {
+            None => 0,
+            Some(flags) => flags_of(flags)?,
+        };
+        Some(SemOper { num, op, flags })
+    }
+}
+
+// The flags of an operation, behind its second colon.
+fn flags_of(text: &[u8]) -> Option<u16>
+    ensures { result ≡ flags_fields (fields_of 58 text.now) }
+{
+    match split_field(text, b':') {
+        (flags, None) => number_16(flags),
+        (_, Some(_)) => None,
+    }
+}
+
+fn getall_of(words: &[u8]) -> Option<Call>
+    ensures { result ≡ getall_words (words_of words.now) }
+{
+    let (id, words) = split_word(words)?;
+    if split_word(words).is_some() {
+        return None;
+    }
+    let id = number_32(id)?;
+    Some(Call::GetAll { id })
+}
+
+fn semaphore_of(words: &[u8]) -> Option<(u32, u32)>
+    ensures { result ≡ semaphore_words (words_of words.now) }
+{
+    let (id, words) = split_word(words)?;
+    let (num, words) = split_word(words)?;
+    if split_word(words).is_some() {
+        return None;
+    }
+    let id = number_32(id)?;
+    let num = number_32(num)?;
+    Some((id, num))
+}
