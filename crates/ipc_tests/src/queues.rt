@@ -6,7 +6,8 @@ use ipc_call::{
     Status,
 };
 use ipc_creds::{Caps, Creds};
-use queue_calls::{Caller, Queues, status};
+use object_calls::Caller;
+use queue_calls::{Queues, status};
 use std::process::Abort;
 use std::test::Fail;
 
@@ -89,7 +90,9 @@ fn check_status(rt: &impl Abort, queues: &Queues) {
     let Some(queue) = queues.get(0) else {
         panic!(rt; "no queue");
     };
-    let Status::Queue(told) = status(queue);
+    let Status::Queue(told) = status(queue) else {
+        panic!(rt; "no status of a queue");
+    };
     assert!(rt; told.qnum == 0 && told.lspid == 5 && told.lrpid == 5);
     assert!(rt; told.stime == 7 && told.rtime == 7 && told.ctime == 7);
 }

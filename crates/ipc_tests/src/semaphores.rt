@@ -28,3 +28,51 @@ fn each_operation_sees_the_earlier_ones(rt: HostRuntime) -> Result<(), Fail> {
     assert_eq!(rt; (set.len(), set.get_pid(1)), (2, 0));
     Ok(())
 }
+
+const UP: SemOper = SemOper {
+    num: 0,
+    op: 1,
+    flags: 0,
+};
+
+const DOWN: SemOper = SemOper {
+    num: 0,
+    op: -1,
+    flags: 0,
+};
+
+#[test]
+fn values_end_at_32767(rt: HostRuntime) -> Result<(), Fail> {
+    let mut set = SemSet::new(rt.alloc(), 1)?;
+    set.set_val(0, 32767, 1);
+    assert_eq!(rt; set.trial(&[UP], &[]), Trial::Refuse(Rule::ValueRange));
+    assert_eq!(rt; set.trial(&[DOWN, UP], &[]), Trial::Go);
+    assert_eq!(rt;
+        set.trial(&[UP, DOWN], &[]),
+        Trial::Refuse(Rule::ValueRange)
+    );
+    Ok(())
+}
+
+#[test]
+fn the_first_that_stops_decides(rt: HostRuntime) -> Result<(), Fail> {
+    let mut set = SemSet::new(rt.alloc(), 2)?;
+    let undone = SemOper {
+        num: 1,
+        op: 1,
+        flags: SEM_UNDO as u16,
+    };
+    let semadj = [0, -32768];
+    assert_eq!(rt; set.trial(&[DOWN, undone], &semadj), Trial::Wait(0));
+    assert_eq!(rt;
+        set.trial(&[undone, DOWN], &semadj),
+        Trial::Refuse(Rule::UndoRange)
+    );
+    set.set_val(0, 1, 9);
+    assert_eq!(rt;
+        set.trial(&[DOWN, undone], &semadj),
+        Trial::Refuse(Rule::UndoRange)
+    );
+    assert_eq!(rt; set.trial(&[DOWN, DOWN], &[]), Trial::Wait(1));
+    Ok(())
+}

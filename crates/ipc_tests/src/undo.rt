@@ -38,6 +38,19 @@ fn operations_lower_the_semadj_of_their_client(rt: HostRuntime) -> Result<(), Fa
 }
 
 #[test]
+fn a_row_that_grows_keeps_its_semadj(rt: HostRuntime) -> Result<(), Fail> {
+    let alloc = rt.alloc();
+    let mut undo = Undo::new(alloc);
+    undo.ensure_row(alloc, 3, 7, 1)?;
+    lower(&rt, &mut undo, 3, 7, 0, 5);
+    undo.ensure_row(alloc, 3, 7, 3)?;
+    assert_eq!(rt; undo.row(3, 7), [-5, 0, 0].as_slice());
+    undo.ensure_row(alloc, 3, 7, 2)?;
+    assert_eq!(rt; undo.row(3, 7).len(), 3);
+    Ok(())
+}
+
+#[test]
 fn values_that_are_set_clear_the_semadj_of_all(rt: HostRuntime) -> Result<(), Fail> {
     let alloc = rt.alloc();
     let mut undo = Undo::new(alloc);
