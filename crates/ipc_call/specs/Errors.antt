@@ -2,7 +2,7 @@
 use Rattle.std.specs.Prelude.{ℕ, List, codes}
 use Rattle.ipc_call.specs.declared.error.Errno.{Errno}
 use Rattle.ipc_call.specs.declared.error.Errno.TheVariants.{EPERM, ENOENT, ESRCH, EINTR, E2BIG, EAGAIN, ENOMEM}
-use Rattle.ipc_call.specs.declared.error.Errno.TheVariants.{EACCES, EEXIST, EINVAL, EFBIG, ENOSPC, ERANGE, ENOMSG, EIDRM}
+use Rattle.ipc_call.specs.declared.error.Errno.TheVariants.{EACCES, EEXIST, EINVAL, EMFILE, EFBIG, ENOSPC, ERANGE, ENOMSG, EIDRM}
 
 unfoldable pub row_of : Errno → ℕ × List ℕ
 row_of EPERM = (1, codes "EPERM")
@@ -15,6 +15,7 @@ row_of ENOMEM = (12, codes "ENOMEM")
 row_of EACCES = (13, codes "EACCES")
 row_of EEXIST = (17, codes "EEXIST")
 row_of EINVAL = (22, codes "EINVAL")
+row_of EMFILE = (24, codes "EMFILE")
 row_of EFBIG = (27, codes "EFBIG")
 row_of ENOSPC = (28, codes "ENOSPC")
 row_of ERANGE = (34, codes "ERANGE")

@@ -1,4 +1,4 @@
--- The flags of calls, as Linux has them (msgget(2), msgop(2), semop(2)). C's octal numbers stand beside them.
+-- The flags of calls, as Linux has them (msgget(2), msgop(2), semop(2), shmop(2)). C's octal numbers stand beside them.
 use Rattle.std.specs.Prelude.{ℕ, ◌==◌, bit_and, Bool, not}
 
 -- 01000
@@ -24,6 +24,10 @@ msg_except = 8192
 -- 010000
 abbrev pub sem_undo : ℕ
 sem_undo = 4096
+
+-- 010000
+abbrev pub shm_rdonly : ℕ
+shm_rdonly = 4096
 
 -- the flags have this flag, or one of these bits
 abbrev pub has_flag : ℕ → ℕ → Bool

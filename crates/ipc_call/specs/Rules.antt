@@ -6,11 +6,11 @@ use Rattle.ipc_call.specs.declared.rules.Rule.TheVariants.{Interrupted, MessageT
 use Rattle.ipc_call.specs.declared.rules.Rule.TheVariants.{GroupBits, OtherBits, KeyExists, BadId, BadType}
 use Rattle.ipc_call.specs.declared.rules.Rule.TheVariants.{TextTooLong, BadArgument, NoSlot, ValueRange, UndoRange}
 use Rattle.ipc_call.specs.declared.rules.Rule.TheVariants.{NoMessage, Removed, Ended, TooManyOperations, BadSize}
-use Rattle.ipc_call.specs.declared.rules.Rule.TheVariants.{BadSem, NoOperations, SemOutOfSet}
+use Rattle.ipc_call.specs.declared.rules.Rule.TheVariants.{BadSem, NoOperations, SemOutOfSet, ReadOnly, NotAttached, OutOfSegment, TooManyAttached}
 use Rattle.ipc_call.specs.Errors as errors
 use Rattle.ipc_call.specs.declared.error.Errno.{Errno}
 use Rattle.ipc_call.specs.declared.error.Errno.TheVariants.{EPERM, ENOENT, ESRCH, EINTR, E2BIG, EAGAIN}
-use Rattle.ipc_call.specs.declared.error.Errno.TheVariants.{EACCES, EEXIST, EINVAL, EFBIG, ENOSPC, ERANGE, ENOMSG, EIDRM}
+use Rattle.ipc_call.specs.declared.error.Errno.TheVariants.{EACCES, EEXIST, EINVAL, EMFILE, EFBIG, ENOSPC, ERANGE, ENOMSG, EIDRM}
 
 unfoldable pub row_of : Rule → Errno × List ℕ
 row_of NotOwner = (EPERM, codes "not-owner")
@@ -27,6 +27,7 @@ row_of WouldWait = (EAGAIN, codes "would-wait")
 row_of OwnerBits = (EACCES, codes "owner-bits")
 row_of GroupBits = (EACCES, codes "group-bits")
 row_of OtherBits = (EACCES, codes "other-bits")
+row_of ReadOnly = (EACCES, codes "read-only")
 row_of KeyExists = (EEXIST, codes "key-exists")
 row_of BadId = (EINVAL, codes "bad-id")
 row_of BadType = (EINVAL, codes "bad-type")
@@ -35,6 +36,9 @@ row_of BadSize = (EINVAL, codes "bad-size")
 row_of BadSem = (EINVAL, codes "bad-sem")
 row_of BadArgument = (EINVAL, codes "bad-argument")
 row_of NoOperations = (EINVAL, codes "no-operations")
+row_of NotAttached = (EINVAL, codes "not-attached")
+row_of OutOfSegment = (EINVAL, codes "out-of-segment")
+row_of TooManyAttached = (EMFILE, codes "too-many-attached")
 row_of SemOutOfSet = (EFBIG, codes "sem-out-of-set")
 row_of NoSlot = (ENOSPC, codes "no-slot")
 row_of ValueRange = (ERANGE, codes "value-range")

@@ -26,6 +26,8 @@ pub enum Errno {
     EEXIST = 17,
     /// Invalid argument.
     EINVAL = 22,
+    /// Too many open files: a client has as many attachments as it may have.
+    EMFILE = 24,
     /// File too large: a set has no such semaphore.
     EFBIG = 27,
     /// No space left on device: no slot is usable.
@@ -63,6 +65,7 @@ impl Errno {
             Errno::EACCES => "EACCES",
             Errno::EEXIST => "EEXIST",
             Errno::EINVAL => "EINVAL",
+            Errno::EMFILE => "EMFILE",
             Errno::EFBIG => "EFBIG",
             Errno::ENOSPC => "ENOSPC",
             Errno::ERANGE => "ERANGE",

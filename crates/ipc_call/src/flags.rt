@@ -9,6 +9,7 @@ ghost use Rattle.ipc_call.specs.Flags.{
   msg_except,
   msg_noerror,
   sem_undo,
+  shm_rdonly,
 };
 
 /// Of a get: create an object where none has the key (msgget(2)).
@@ -28,6 +29,9 @@ pub const MSG_EXCEPT: u32 = 0o20000;
 
 /// Of an operation of semop: exit undoes it (semop(2)).
 pub const SEM_UNDO: u32 = 0o10000;
+
+/// Of shmat: attach to read, and not to write (shmop(2)).
+pub const SHM_RDONLY: u32 = 0o10000;
 
 /// Whether the flags of a get have `IPC_CREAT`.
 pub fn creates(flags: u32) -> bool
@@ -69,4 +73,11 @@ pub fn undoes(flags: u32) -> bool
     ensures { result ≡ has_flag flags sem_undo }
 {
     flags & SEM_UNDO != 0
+}
+
+/// Whether the flags of shmat have `SHM_RDONLY`.
+pub fn is_read_only(flags: u32) -> bool
+    ensures { result ≡ has_flag flags shm_rdonly }
+{
+    flags & SHM_RDONLY != 0
 }

@@ -8,6 +8,7 @@ mod error;
 mod flags;
 mod items;
 mod limits;
+mod perms;
 mod replies;
 mod rules;
 mod settings;
@@ -15,11 +16,12 @@ mod settings;
 pub use calls::{Call, Kind, SemOper};
 pub use error::Errno;
 pub use flags::{
-    IPC_CREAT, IPC_EXCL, IPC_NOWAIT, MSG_EXCEPT, MSG_NOERROR, SEM_UNDO, creates, cuts_text,
-    is_exclusive, may_wait, takes_other_types, undoes,
+    IPC_CREAT, IPC_EXCL, IPC_NOWAIT, MSG_EXCEPT, MSG_NOERROR, SEM_UNDO, SHM_RDONLY, creates,
+    cuts_text, is_exclusive, is_read_only, may_wait, takes_other_types, undoes,
 };
 pub use items::Items;
 pub use limits::{Limit, Limits};
+pub use perms::{Mode, Perm};
 pub use replies::{
     Answer, Ended, JournalRow, Memory, Outcome, QueueStatus, Reply, SetStatus, Status, Waiting,
 };

@@ -2,6 +2,7 @@
 
 use crate::calls::Call;
 use crate::items::Items;
+use crate::perms::Perm;
 use crate::rules::Rule;
 use std::alloc::AllocError;
 
@@ -11,13 +12,7 @@ pub type Memory = AllocError;
 /// The state of a queue (msqid_ds of msgctl(2)).
 #[derive(Clone, Copy, Debug, PartialEq, Eq)]
 pub struct QueueStatus {
-    pub key: u32,
-    pub uid: u32,
-    pub gid: u32,
-    pub cuid: u32,
-    pub cgid: u32,
-    /// The nine bits.
-    pub mode: u16,
+    pub perm: Perm,
     /// The bytes of the texts of all messages.
     pub cbytes: u64,
     /// How many messages there are.
@@ -39,13 +34,7 @@ pub struct QueueStatus {
 /// The state of a semaphore set (semid_ds of semctl(2)).
 #[derive(Clone, Copy, Debug, PartialEq, Eq)]
 pub struct SetStatus {
-    pub key: u32,
-    pub uid: u32,
-    pub gid: u32,
-    pub cuid: u32,
-    pub cgid: u32,
-    /// The nine bits.
-    pub mode: u16,
+    pub perm: Perm,
     /// How many semaphores it has.
     pub nsems: u64,
     /// When a semop was granted last, in seconds, 0 where none was.

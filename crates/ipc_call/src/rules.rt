@@ -5,8 +5,8 @@ ghost use Rattle.ipc_call.specs.Rules.{error_of, name_of_rule, number_of};
 
 use crate::error::Errno;
 
-/// Why a call was refused. Each error is that of POSIX.1-2017 XSH msgget, msgsnd, msgrcv, msgctl, semget, semop or semctl, and of
-/// Linux.
+/// Why a call was refused. Each error is that of POSIX.1-2017 XSH msgget, msgsnd, msgrcv, msgctl, semget, semop, semctl, shmat or
+/// shmdt, and of Linux.
 #[derive(Clone, Copy, Debug, PartialEq, Eq)]
 pub enum Rule {
     /// The caller neither owns nor created the object, and lacks CAP_SYS_ADMIN.
@@ -37,6 +37,8 @@ pub enum Rule {
     GroupBits,
     /// The caller is in neither class, and the others' permission bits lack one that is asked.
     OtherBits,
+    /// The attachment is read-only: it was made with `SHM_RDONLY`.
+    ReadOnly,
     /// The key has an object, and both `IPC_CREAT` and `IPC_EXCL` are given.
     KeyExists,
     /// The identifier names no object, or names none any more. For one that was removed POSIX allows EIDRM too.
@@ -56,6 +58,12 @@ pub enum Rule {
     NoOperations,
     /// An operation names a semaphore that the set doesn't have.
     SemOutOfSet,
+    /// The client has no attachment of this number.
+    NotAttached,
+    /// The offset and the length that are asked for together are above the size of the segment.
+    OutOfSegment,
+    /// The client has SHMSEG attachments, 4096.
+    TooManyAttached,
     /// Each slot of the kind holds an object or is retired.
     NoSlot,
     /// The value of a semaphore would rise above SEMVMX, 32767, or one that isn't 0 to SEMVMX is given.
@@ -103,6 +111,7 @@ impl Rule {
             Rule::OwnerBits => (Errno::EACCES, "owner-bits"),
             Rule::GroupBits => (Errno::EACCES, "group-bits"),
             Rule::OtherBits => (Errno::EACCES, "other-bits"),
+            Rule::ReadOnly => (Errno::EACCES, "read-only"),
             Rule::KeyExists => (Errno::EEXIST, "key-exists"),
             Rule::BadId => (Errno::EINVAL, "bad-id"),
             Rule::BadType => (Errno::EINVAL, "bad-type"),
@@ -111,6 +120,9 @@ impl Rule {
             Rule::BadSem => (Errno::EINVAL, "bad-sem"),
             Rule::BadArgument => (Errno::EINVAL, "bad-argument"),
             Rule::NoOperations => (Errno::EINVAL, "no-operations"),
+            Rule::NotAttached => (Errno::EINVAL, "not-attached"),
+            Rule::OutOfSegment => (Errno::EINVAL, "out-of-segment"),
+            Rule::TooManyAttached => (Errno::EMFILE, "too-many-attached"),
             Rule::SemOutOfSet => (Errno::EFBIG, "sem-out-of-set"),
             Rule::NoSlot => (Errno::ENOSPC, "no-slot"),
             Rule::ValueRange => (Errno::ERANGE, "value-range"),

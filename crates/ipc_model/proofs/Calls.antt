@@ -12,6 +12,7 @@ use Rattle.ipc_call.specs.declared.replies.Answer.{Answer}
 use Rattle.ipc_call.specs.declared.replies.Answer.TheVariants.{Done, Id, Status as StatusAnswer}
 use Rattle.ipc_call.specs.declared.replies.Waiting.{Waiting}
 use Rattle.ipc_call.specs.declared.rules.Rule.TheVariants.{BadArgument, BadId, BadType, Ended, NoKey, NoOperations, NoProcess, NoSlot, SemOutOfSet, TextTooLong, TooManyOperations}
+use Rattle.ipc_creds.specs.Credentials.{Credentials}
 use Rattle.ipc_perm.specs.Access.{Control, Need, Permission, Resource, to_read}
 use Rattle.ipc_ids.specs.Table.{Table, next_id, without_object}
 use Rattle.ipc_objects.specs.declared.object.Object.{Object}
@@ -35,7 +36,7 @@ use Rattle.ipc_model.proofs.Growing.{Follows-queues, Follows-sems, Grows, Grows-
 use Rattle.ipc_model.proofs.Plans.{never-found, never-on, never_waits, proceeds-never, Ends, Ends-decision, Ends-found, Ends-on, Ends-order}
 use Rattle.std.specs.FinMap as finite
 use Rattle.std.proofs.lemmas.Option.{none-some}
-use Rattle.ipc_perm.specs.declared.perms.Perm.{Perm}
+use Rattle.ipc_call.specs.declared.perms.Perm.{Perm}
 
 -- a get: nothing in it waits, where nothing waits in the checks of its kind
 module _ {X : Type 0} (t : Table (Object X)) (getting : Getting X) (make : (p : Plan (Table (Object X))) → never_waits p ≡ true → never_waits (in_order getting.to_make p) ≡ true)
@@ -125,19 +126,15 @@ never-plan s client (IpcSet kind id uid gid mode qbytes) never =
 never-plan s client (IpcRmid kind id) never = never-found (perm_of s kind id) BadId tt _ (λ perm. refl)
 never-plan s client (Interrupt pid) never = never-found (process s pid) NoProcess tt _ (λ target. refl)
 
-can-wait : (b : Bool) (s : State) (client : ℕ) (call : Call) → can_wait call ≡ b → proceeds (decide s client call) ≡ false → b ≡ true
-can-wait true s client call is waits = refl
-can-wait false s client call is waits = absurd (true≢false (sym (proceeds-never (creds_at s client) (plan s client call) (never-plan s client call is)) ∙ waits))
-
-can-wait-alive : (b : Bool) (s : State) (client : ℕ) (call : Call) → can_wait call ≡ b → proceeds (decide_alive s client call) ≡ false → b ≡ true
-can-wait-alive true s client call is waits = refl
-can-wait-alive false s client call is waits = absurd (true≢false (sym (proceeds-never (creds_at s client) (plan_alive s client call) (never-plan s client call is)) ∙ waits))
+can-wait : (b : Bool) (call : Call) (c : Credentials) (p : Plan State) → (can_wait call ≡ false → never_waits p ≡ true) → can_wait call ≡ b → proceeds (decision c p) ≡ false → b ≡ true
+can-wait true call c p never is waits = refl
+can-wait false call c p never is waits = absurd (true≢false (sym (proceeds-never c p (never is)) ∙ waits))
 
 pub only_parkable_alive : (s : State) (client : ℕ) (call : Call) → proceeds (decide_alive s client call) ≡ false → can_wait call ≡ true
-only_parkable_alive s client call waits = can-wait-alive (can_wait call) s client call refl waits
+only_parkable_alive s client call waits = can-wait (can_wait call) call (creds_at s client) (plan_alive s client call) (never-plan s client call) refl waits
 
 pub only_parkable : (s : State) (client : ℕ) (call : Call) → proceeds (decide s client call) ≡ false → can_wait call ≡ true
-only_parkable s client call waits = can-wait (can_wait call) s client call refl waits
+only_parkable s client call waits = can-wait (can_wait call) call (creds_at s client) (plan s client call) (never-plan s client call) refl waits
 
 -- a call that waits on some list, at some time, waits on any list and at each time
 module _ (s t : State) (client : ℕ) (call : Call) (creds : creds_at t client ≡ creds_at s client) (alike : can_wait call ≡ true → blank (plan t client call) ≡ blank (plan s client call)) where

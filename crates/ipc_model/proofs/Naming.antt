@@ -83,14 +83,10 @@ module _ {X : Type 0} (table : State → Table X) (grows : (s t : State) → Fol
       → AllByRecursion (λ id. (WasUsed (table s) id → ⊥) × WasUsed (table (settled (cancelled_by (state_by s client call d) call d).state).state) id) (id_in (outcome_of d))
   named-in s (Grant (Id id) new) client call names keeps sound =
       let cancelled = (cancel new call).state in
-      let later = grows cancelled (settled cancelled).state (Follows-settled cancelled) in (
-        (
-          fresh-unused (table s) id names.0,
-          later.used ((grows new cancelled (Follows-cancelled_by new call (Grant (Id id) new))).sound ((grows s new keeps.1).sound sound)) id
-              ((grows new cancelled (Follows-cancelled_by new call (Grant (Id id) new))).used ((grows s new keeps.1).sound sound) id names.1),
-        ),
-        tt,
-      )
+      let granted = (grows s new keeps.1).sound sound in
+      let left = grows new cancelled (Follows-cancelled_by new call (Grant (Id id) new)) in
+      let later = grows cancelled (settled cancelled).state (Follows-settled cancelled) in
+      ((fresh-unused (table s) id names.0, later.used (left.sound granted) id (left.used granted id names.1)), tt)
   named-in s d client call names keeps sound = tt
 
 pub record AreSound (s : State) : Type 0 where

@@ -10,7 +10,7 @@ use Rattle.ipc_call.specs.declared.replies.Answer.TheVariants.{Done, Status as S
 use Rattle.ipc_call.specs.declared.settings.Settings.{Settings}
 use Rattle.ipc_call.specs.declared.replies.Status.{Status}
 use Rattle.ipc_call.specs.declared.replies.Status.TheVariants as statuses
-use Rattle.ipc_perm.specs.declared.perms.Perm.{Perm}
+use Rattle.ipc_call.specs.declared.perms.Perm.{Perm}
 use Rattle.ipc_perm.specs.Access.{Permission, Control, Resource, to_read}
 use Rattle.ipc_ids.specs.Table.{Table, without_object}
 use Rattle.ipc_objects.specs.declared.object.Object.{Object}
@@ -47,12 +47,7 @@ remove_object s kind id =
 -- IPC_STAT: msg_cbytes and msg_qnum are counted anew
 abbrev pub status_of_queue : Object Queue → Status
 status_of_queue queue = statuses.Queue (record {
-  key = queue.perm.key;
-  mode = queue.perm.mode;
-  uid = queue.perm.uid;
-  gid = queue.perm.gid;
-  cuid = queue.perm.cuid;
-  cgid = queue.perm.cgid;
+  perm = queue.perm;
   cbytes = bytes_of queue.contents.messages;
   qnum = length queue.contents.messages;
   qbytes = queue.contents.qbytes;
@@ -65,12 +60,7 @@ status_of_queue queue = statuses.Queue (record {
 
 abbrev pub status_of_set : Object SemSet → Status
 status_of_set set = statuses.Set (record {
-  key = set.perm.key;
-  mode = set.perm.mode;
-  uid = set.perm.uid;
-  gid = set.perm.gid;
-  cuid = set.perm.cuid;
-  cgid = set.perm.cgid;
+  perm = set.perm;
   nsems = length set.contents.semaphores;
   otime = set.contents.op_time;
   ctime = set.change_time;

@@ -7,7 +7,7 @@ use Rattle.ipc_call.specs.declared.limits.Limits.{Limits}
 use Rattle.ipc_call.specs.declared.rules.Rule.TheVariants.{NoKey, KeyExists, NoSlot, BadSize}
 use Rattle.ipc_call.specs.declared.replies.Answer.TheVariants.{Id}
 use Rattle.ipc_creds.specs.Credentials.{Credentials}
-use Rattle.ipc_perm.specs.declared.perms.Perm.{Perm}
+use Rattle.ipc_call.specs.declared.perms.Perm.{Perm}
 use Rattle.ipc_perm.specs.Access.{Permission, asked_of}
 use Rattle.ipc_ids.specs.Table.{Table, find_object, next_id, with_object}
 use Rattle.ipc_objects.specs.declared.object.Object.{Object}

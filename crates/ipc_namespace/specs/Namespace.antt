@@ -15,7 +15,7 @@ use Rattle.ipc_perm.specs.Access.{Need, Permission}
 use Rattle.ipc_perm.specs.declared.access.Verdict.{Verdict}
 use Rattle.ipc_perm.specs.declared.access.Verdict.TheVariants.{Allowed, Denied}
 use Rattle.ipc_perm.specs.declared.access.Want.{Want}
-use Rattle.ipc_perm.specs.declared.perms.Perm.{Perm}
+use Rattle.ipc_call.specs.declared.perms.Perm.{Perm}
 use Rattle.ipc_model.specs.State.{Sems, State, creds_at, pid_of}
 use Rattle.ipc_model.specs.Semaphores.{set_at}
 use Rattle.sem_set.specs.Trials.{are_in}

@@ -6,7 +6,7 @@ ghost use Rattle.ipc_model.specs.State.{creds_at};
 ghost use Rattle.ipc_model.specs.Decision.{left_by, outcome_of};
 ghost use Rattle.ipc_model.specs.Plan.{decision};
 ghost use Rattle.ipc_model.specs.Decide.{decide_alive as decision_on};
-ghost use Rattle.ipc_model.specs.Controls.{is_within as is_within_limit, perm_of as perm_in, remove_object, set_object};
+ghost use Rattle.ipc_model.specs.Controls.{is_within as is_within_limit, perm_of as perm_in, remove_object, set_object, status_of as status_in};
 ghost use Rattle.ipc_model.specs.Processes.{interrupt as interrupt_by, process as process_of};
 ghost use Rattle.ipc_namespace.specs.Namespace.{allowed_by, moved_alive as moved_by};
 ghost use Rattle.ipc_model.specs.Decision.{without_answer};
@@ -14,7 +14,7 @@ ghost use Rattle.ipc_model.specs.Decision.{without_answer};
 use crate::cancelling::Cancelling;
 use crate::namespace::Namespace;
 use bitflags::Flags;
-use ipc_call::{Answer, Call, Ended, Kind, Outcome, Rule, Settings};
+use ipc_call::{Answer, Call, Ended, Kind, Outcome, Rule, Settings, Status};
 use ipc_creds::{Caps, Creds};
 use ipc_perm::{Perm, TO_READ, Verdict, decide, may_control, may_interrupt};
 
@@ -36,23 +36,27 @@ impl Namespace {
         ensures outcome { outcome_of (decision_on self.now client (Call.IpcStat kind id)) ≡ Some result }
         ensures same { left_by self.now (decision_on self.now client (Call.IpcStat kind id)) ≡ self.now }
     {
-        let creds = &self.clients[client as usize];
+        let Some((perm, status)) = self.status_of(kind, id) else {
+            return Err(Rule::BadId);
+        };
+        allowed(decide(&self.clients[client as usize], &perm, TO_READ))?;
+        Ok(Answer::Status(status))
+    }
+
+    /// The permissions and the state of the object of an identifier.
+    fn status_of(&self, kind: Kind, id: u32) -> Option<(Perm, Status)>
+        ensures { result ≡ status_in self.now kind id }
+    {
         match kind {
             Kind::Queue => {
-                let Some(queue) = self.queues.get(id) else {
-                    return Err(Rule::BadId);
-                };
-                allowed(decide(creds, &queue.perm, TO_READ))?;
-                Ok(Answer::Status(queue_calls::status(queue)))
+                let queue = self.queues.get(id)?;
+                Some((queue.perm, queue_calls::status(queue)))
             }
             Kind::Sems => {
-                let Some(set) = self.sets.get(id) else {
-                    return Err(Rule::BadId);
-                };
-                allowed(decide(creds, &set.perm, TO_READ))?;
-                Ok(Answer::Status(set_calls::status(set)))
+                let set = self.sets.get(id)?;
+                Some((set.perm, set_calls::status(set)))
             }
-            Kind::Segment => Err(Rule::BadId),
+            Kind::Segment => None,
         }
     }
 

@@ -8,7 +8,7 @@ use Rattle.ipc_call.specs.declared.rules.Rule.TheVariants.{NotOwner, NeedsResour
 use Rattle.ipc_call.specs.Flags.{has_flag}
 use Rattle.ipc_creds.specs.Credentials.{Credentials, is_in_group, has_capability}
 use Rattle.ipc_creds.specs.Credentials.{cap_ipc_owner, cap_sys_admin, cap_sys_resource}
-use Rattle.ipc_perm.specs.declared.perms.Perm.{Perm}
+use Rattle.ipc_call.specs.declared.perms.Perm.{Perm}
 use Rattle.ipc_perm.specs.declared.access.Class.{Class}
 use Rattle.ipc_perm.specs.declared.access.Class.TheVariants.{Owner, Group, Other}
 use Rattle.ipc_perm.specs.declared.access.Want.{Want}

@@ -24,9 +24,8 @@ ghost use Rattle.ipc_perm.specs.Access.{
   SameUser,
 };
 
-use crate::perms::Perm;
 use bitflags::Flags;
-use ipc_call::Rule;
+use ipc_call::{Perm, Rule};
 use ipc_creds::{Caps, Creds};
 
 /// The read permissions of owner, group and others.

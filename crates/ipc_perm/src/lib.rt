@@ -3,10 +3,9 @@
 #![tactic(auto)]
 
 mod access;
-mod perms;
 
 pub use access::{
     Class, Ground, TO_ALTER, TO_READ, Verdict, Want, asked_of_flags, decide, may_control,
     may_interrupt,
 };
-pub use perms::{Mode, Perm};
+pub use ipc_call::{Mode, Perm};

@@ -4,6 +4,7 @@ use Rattle.ipc_call.specs.declared.replies.Answer.TheVariants.{Id, Done, Message
 use Rattle.ipc_call.specs.declared.replies.Status.TheVariants.{Queue, Set}
 use Rattle.ipc_call.specs.declared.replies.QueueStatus.{QueueStatus}
 use Rattle.ipc_call.specs.declared.replies.SetStatus.{SetStatus}
+use Rattle.ipc_call.specs.declared.perms.Perm.{Perm}
 use Rattle.std.specs.Fmt.{digits, format_spec, padded_integral, signed_decimal}
 use Rattle.hex.specs.Hex.{encode_lower}
 use Rattle.ipc_call.specs.declared.replies.Reply.{Reply}
@@ -15,7 +16,6 @@ use Rattle.ipc_call.specs.Rules.{error_of, name_of_rule}
 use Rattle.ipc_model.specs.Decision.{Outcome}
 use Rattle.ipc_text.specs.declared.reasons.Reason.{Reason}
 use Rattle.ipc_text.specs.declared.reasons.Reason.TheVariants as reasons
-use Rattle.ipc_text.specs.declared.rows.Access.{Access}
 
 unfoldable pub name_of_reason : Reason → List ℕ
 name_of_reason reasons.TooLong = codes "too-long"
@@ -44,7 +44,7 @@ key_text key = codes "0x" ++ padded_integral (format_spec 32 0 4 8 (2 ^ 64 - 1))
 unfoldable pub mode_text : ℕ → List ℕ
 mode_text mode = padded_integral (format_spec 32 0 4 4 (2 ^ 64 - 1)) false [] (digits 8 false mode)
 
-abbrev pub owners_text : Access → List ℕ
+abbrev pub owners_text : Perm → List ℕ
 owners_text a =
     codes " uid "
     ++ (decimal a.uid
@@ -52,17 +52,9 @@ owners_text a =
     ++ (decimal a.gid ++ (codes " cuid " ++ (decimal a.cuid ++ (codes " cgid " ++ decimal a.cgid))))))
 
 -- the word of a kind, and what the state of its objects begins with
-abbrev pub access_text : List ℕ → Access → List ℕ
-access_text kind a =
+abbrev pub perm_text : List ℕ → Perm → List ℕ
+perm_text kind a =
     kind ++ (codes " key " ++ (key_text a.key ++ (owners_text a ++ (codes " mode " ++ mode_text a.mode))))
-
-abbrev pub access_of_queue : QueueStatus → Access
-access_of_queue q =
-    record { key = q.key; uid = q.uid; gid = q.gid; cuid = q.cuid; cgid = q.cgid; mode = q.mode }
-
-abbrev pub access_of_set : SetStatus → Access
-access_of_set s =
-    record { key = s.key; uid = s.uid; gid = s.gid; cuid = s.cuid; cgid = s.cgid; mode = s.mode }
 
 abbrev pub times_text : QueueStatus → List ℕ
 times_text q =
@@ -78,12 +70,12 @@ contents_text q =
 
 -- the state of a queue
 abbrev pub queue_text : QueueStatus → List ℕ
-queue_text q = access_text (codes "queue") (access_of_queue q) ++ contents_text q
+queue_text q = perm_text (codes "queue") q.perm ++ contents_text q
 
 -- the state of a semaphore set
 abbrev pub set_text : SetStatus → List ℕ
 set_text s =
-    access_text (codes "set") (access_of_set s)
+    perm_text (codes "set") s.perm
     ++ (codes " nsems "
     ++ (decimal s.nsems
     ++ (codes " otime " ++ (decimal s.otime ++ (codes " ctime " ++ (decimal s.ctime ++ codes "\n"))))))

@@ -2,24 +2,13 @@
 
 ghost use Rattle.std.specs.Prelude.{◌≡◌, ◌++◌, OnOk, string_bytes};
 ghost use Rattle.ipc_text.specs.Rows.{bad_row, error_text, name_of_reason, outcome_text, reply_row, row_head, waits_row};
-ghost use Rattle.ipc_text.specs.Rows.{message_text, queue_text, access_text, key_text, mode_text, owners_text, contents_text, times_text};
+ghost use Rattle.ipc_text.specs.Rows.{message_text, queue_text, perm_text, key_text, mode_text, owners_text, contents_text, times_text};
 ghost use Rattle.ipc_text.specs.Rows.{set_text, values_text};
 
 use crate::names::Name;
 use crate::reasons::Reason;
-use ipc_call::{Answer, Errno, Memory, Outcome, QueueStatus, Reply, SetStatus, Status};
+use ipc_call::{Answer, Errno, Memory, Outcome, Perm, QueueStatus, Reply, SetStatus, Status};
 use std::fmt::Write;
-
-/// What the state of an object of any kind begins with: its key, its owners, and the nine bits of its mode.
-#[derive(Clone, Copy)]
-struct Access {
-    key: u32,
-    uid: u32,
-    gid: u32,
-    cuid: u32,
-    cgid: u32,
-    mode: u16,
-}
 
 /// Appends the row of a bad line, by its number from 1. `Memory` comes where a growth was refused, and a part
 /// of the row may then stand in `rows`; so with each of the printers. The rows are the project's own.
@@ -102,24 +91,7 @@ fn print_values(rows: &mut String, values: &[u16]) -> Result<(), Memory>
 fn print_queue(rows: &mut String, status: QueueStatus) -> Result<(), Memory>
     ensures { OnOk result (string_bytes rows.new ≡ string_bytes rows.old ++ queue_text status) }
 {
-    let QueueStatus {
-        key,
-        uid,
-        gid,
-        cuid,
-        cgid,
-        mode,
-        ..
-    } = status;
-    let access = Access {
-        key,
-        uid,
-        gid,
-        cuid,
-        cgid,
-        mode,
-    };
-    print_access(rows, "queue", access)?;
+    print_perm(rows, "queue", &status.perm)?;
     print_contents(rows, status)
 }
 
@@ -127,36 +99,23 @@ fn print_set(rows: &mut String, status: SetStatus) -> Result<(), Memory>
     ensures { OnOk result (string_bytes rows.new ≡ string_bytes rows.old ++ set_text status) }
 {
     let SetStatus {
-        key,
-        uid,
-        gid,
-        cuid,
-        cgid,
-        mode,
+        perm,
         nsems,
         otime,
         ctime,
     } = status;
-    let access = Access {
-        key,
-        uid,
-        gid,
-        cuid,
-        cgid,
-        mode,
-    };
-    print_access(rows, "set", access)?;
+    print_perm(rows, "set", &perm)?;
     write!(rows, " nsems {nsems} otime {otime} ctime {ctime}\n")
 }
 
-fn print_access(rows: &mut String, kind: &str, access: Access) -> Result<(), Memory>
-    ensures { OnOk result (string_bytes rows.new ≡ string_bytes rows.old ++ access_text kind.now access) }
+fn print_perm(rows: &mut String, kind: &str, perm: &Perm) -> Result<(), Memory>
+    ensures { OnOk result (string_bytes rows.new ≡ string_bytes rows.old ++ perm_text kind.now perm.now) }
 {
     write!(rows, "{kind} key ")?;
-    print_key(rows, access.key)?;
-    print_owners(rows, access)?;
+    print_key(rows, perm.key)?;
+    print_owners(rows, perm)?;
     rows.push_str(" mode ")?;
-    print_mode(rows, access.mode)
+    print_mode(rows, perm.mode.bits())
 }
 
 #[tactic(auto, unfolding(crate::specs::Rows::key_text))]
@@ -173,16 +132,16 @@ fn print_mode(rows: &mut String, mode: u16) -> Result<(), Memory>
     write!(rows, "{mode:04o}")
 }
 
-fn print_owners(rows: &mut String, access: Access) -> Result<(), Memory>
-    ensures { OnOk result (string_bytes rows.new ≡ string_bytes rows.old ++ owners_text access) }
+fn print_owners(rows: &mut String, perm: &Perm) -> Result<(), Memory>
+    ensures { OnOk result (string_bytes rows.new ≡ string_bytes rows.old ++ owners_text perm.now) }
 {
-    let Access {
+    let Perm {
         uid,
         gid,
         cuid,
         cgid,
         ..
-    } = access;
+    } = *perm;
     write!(rows, " uid {uid} gid {gid} cuid {cuid} cgid {cgid}")
 }
 

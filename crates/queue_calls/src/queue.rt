@@ -180,12 +180,7 @@ pub fn status(queue: &Object<Queue>) -> Status
         contents,
     } = queue;
     Status::Queue(QueueStatus {
-        key: perm.key,
-        uid: perm.uid,
-        gid: perm.gid,
-        cuid: perm.cuid,
-        cgid: perm.cgid,
-        mode: perm.mode.bits(),
+        perm: *perm,
         cbytes: contents.messages.bytes(),
         qnum: contents.messages.count() as u64,
         qbytes: contents.messages.qbytes(),

@@ -7,5 +7,5 @@ mod exits;
 mod sets;
 mod trials;
 
-pub use sets::{SemSet, Semaphore};
+pub use sets::{SemSet, Semaphore, is_value};
 pub use trials::Trial;

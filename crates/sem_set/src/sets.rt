@@ -3,11 +3,11 @@
 ghost use Rattle.std.specs.Prelude.{◌≡◌, ◌<◌, true, length, map, replicate, slice_set, IfOk};
 ghost use Rattle.std.specs.List.{list_all};
 ghost use Rattle.sem_set.specs.Exits.{any_from, undone_from};
-ghost use Rattle.sem_set.specs.Sets.{is_value, pid_of, set_to, value_of, zeroed};
+ghost use Rattle.sem_set.specs.Sets.{is_value as is_value_in, pid_of, set_to, value_of, zeroed};
 ghost use Rattle.sem_set.specs.Trials.{adj_in, are_in, trial_on, GoAtSome, committed};
 
 use crate::exits::undo;
-use crate::trials::{Met, Trial, apply, run};
+use crate::trials::{Met, SEMVMX, Trial, apply, run};
 use ipc_call::{Memory, SemOper};
 use std::alloc::Global;
 use std::marker::Model;
@@ -19,6 +19,13 @@ pub struct Semaphore {
     pub value: u16,
     /// The process that set it last, 0 where none has (sempid).
     pub pid: u32,
+}
+
+/// Whether it is a value of a semaphore: 0 to SEMVMX, 32767 (semctl(2), SETVAL).
+pub fn is_value(value: i32) -> bool
+    ensures { result ≡ is_value_in value }
+{
+    (0..=SEMVMX).contains(&i64::from(value))
 }
 
 /// A semaphore set (semctl(2)). Contracts see its semaphores by number, from 0.
@@ -84,7 +91,7 @@ impl SemSet {
     /// Sets a semaphore to a value of 0 to SEMVMX, 32767 (semctl(2), SETVAL).
     pub fn set_val(&mut self, num: usize, value: i32, pid: u32)
         requires number { num < length self.old }
-        requires value { is_value value ≡ true }
+        requires value { is_value_in value ≡ true }
         ensures { self.new ≡ slice_set self.old num (set_to pid value) }
     {
         self.semaphores[num] = Semaphore {
@@ -96,7 +103,7 @@ impl SemSet {
     /// Sets each semaphore to its value of 0 to SEMVMX, 32767 (semctl(2), SETALL).
     pub fn set_all(&mut self, values: &[i32], pid: u32)
         requires count { length values.now ≡ length self.old }
-        requires values { list_all is_value values.now ≡ true }
+        requires values { list_all is_value_in values.now ≡ true }
         ensures { self.new ≡ map (set_to pid) values.now }
     {
         for (num, value) in values.iter().enumerate() {

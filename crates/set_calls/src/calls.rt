@@ -40,10 +40,7 @@ use ipc_call::{Answer, Items, Limits, Memory, Outcome, Rule, creates};
 use ipc_objects::Object;
 use ipc_perm::{TO_ALTER, TO_READ, Verdict, decide};
 use object_calls::{Caller, may_open, new_object};
-use sem_set::SemSet;
-
-/// The greatest value of a semaphore.
-const SEMVMX: i32 = 32767;
+use sem_set::{SemSet, is_value};
 
 impl Sets {
     /// The set of a key, or a new one of `nsems` semaphores (semget(2)). Memory comes where a growth was refused, and
@@ -235,13 +232,6 @@ fn are_values(values: &[i32]) -> bool
     ensures { result ≡ list_all is_value_in values.now }
 {
     values.iter().all(|value| is_value(*value))
-}
-
-/// Whether it is a value of a semaphore: 0 to SEMVMX, 32767.
-fn is_value(value: i32) -> bool
-    ensures { result ≡ is_value_in value }
-{
-    (0..=SEMVMX).contains(&value)
 }
 
 /// semget with a key that a set has.

@@ -48,12 +48,7 @@ pub fn status(set: &Object<Set>) -> Status
         contents,
     } = set;
     Status::Set(SetStatus {
-        key: perm.key,
-        uid: perm.uid,
-        gid: perm.gid,
-        cuid: perm.cuid,
-        cgid: perm.cgid,
-        mode: perm.mode.bits(),
+        perm: *perm,
         nsems: contents.semaphores.len() as u64,
         otime: contents.op_time,
         ctime: *change_time,
