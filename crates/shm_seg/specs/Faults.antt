@@ -1,0 +1,8 @@
+-- Why a read gives no bytes.
+use Rattle.shm_seg.specs.declared.segments.ReadFault.{ReadFault}
+use Rattle.shm_seg.specs.declared.segments.ReadFault.TheVariants.{Refused, Memory}
+
+-- an allocation failed
+abbrev pub IsMemory : ReadFault → Type 0
+IsMemory (Refused rule) = ⊥
+IsMemory (Memory memory) = Unit {0}
