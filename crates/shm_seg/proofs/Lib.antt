@@ -1,0 +1,6 @@
+pub mod Counts
+pub mod Firsts
+pub mod Handles
+pub mod Kept
+pub mod Least
+pub mod Maps

@@ -1,2 +1,5 @@
+pub mod Attachments
+pub mod Codes
 pub mod Faults
+pub mod Inside
 pub mod Segments

@@ -1,0 +1,50 @@
+-- The attachments of clients to segments, each by its client and a number (shmop(2)).
+use Rattle.std.specs.Prelude.{ℕ, zero, suc, ◌+◌, ◌==◌, Bool, Option, Some, None, is_none, is_some, if◌then◌else◌}
+use Rattle.std.specs.List.{count_by}
+use Rattle.std.specs.declared.cmp.Ordering.{Ordering}
+use Rattle.std.specs.Ordering.{nat_cmp, ordering_then}
+use Rattle.std.specs.FinMap as finite
+pub use Rattle.shm_seg.specs.declared.attachments.Attachment.{Attachment}
+pub use Rattle.shm_seg.specs.declared.attachments.Handle.{Handle}
+
+abbrev pub handle_cmp : Handle → Handle → Ordering
+handle_cmp a b = ordering_then (nat_cmp a.client b.client) (nat_cmp a.number b.number)
+
+-- the attachments there are
+abbrev pub Attached : Type 0
+Attached = finite.FinMap handle_cmp Attachment
+
+abbrev pub none_attached : Attached
+none_attached = finite.empty
+
+-- SHMSEG: a client's attachments have the numbers below it
+abbrev pub shmseg : ℕ
+shmseg = 4096
+
+-- what a client has attached under a number
+abbrev pub attachment_at : Attached → ℕ → ℕ → Option Attachment
+attachment_at attached client number = finite.get attached (record { client = client; number = number })
+
+abbrev pub with_attachment : Attached → ℕ → ℕ → Attachment → Attached
+with_attachment attached client number attachment =
+    finite.insert attached (record { client = client; number = number }) attachment
+
+abbrev pub without_attachment : Attached → ℕ → ℕ → Attached
+without_attachment attached client number = finite.remove attached (record { client = client; number = number })
+
+-- the least of `left` numbers from a start that passes
+unfoldable pub least_from : (ℕ → Bool) → ℕ → ℕ → Option ℕ
+least_from test zero start = None
+least_from test (suc left) start = if test start then Some start else least_from test left (start + 1)
+
+-- the least number under which a client has nothing attached
+abbrev pub free_number : Attached → ℕ → Option ℕ
+free_number attached client = least_from (λ number. is_none (attachment_at attached client number)) shmseg 0
+
+-- the least number under which it has something attached
+abbrev pub first_number : Attached → ℕ → Option ℕ
+first_number attached client = least_from (λ number. is_some (attachment_at attached client number)) shmseg 0
+
+-- how many attachments are to a segment
+abbrev pub attach_count : Attached → ℕ → ℕ
+attach_count attached segment = count_by (λ a. a.segment == segment) (finite.values attached)

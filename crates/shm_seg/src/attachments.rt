@@ -1,0 +1,180 @@
+//! Who has which segment attached.
+
+ghost use Rattle.std.specs.Prelude.{◌≡◌, ◌==◌, ◌<◌, ◌+◌, ◌^◌, ℕ, None, IfNone, OnErr, OnOk};
+ghost use Rattle.std.specs.Prelude.{if◌then◌else◌};
+ghost use Rattle.shm_seg.specs.Attachments.{attach_count, attachment_at, first_number};
+ghost use Rattle.shm_seg.specs.Attachments.{free_number as least_free, none_attached};
+ghost use Rattle.shm_seg.specs.Attachments.{with_attachment, without_attachment};
+ghost use Rattle.shm_seg.specs.Inside.{counted_at};
+
+use ipc_call::Memory;
+use std::alloc::Global;
+use std::collections::BTreeMap;
+use std::marker::Model;
+
+/// The most attachments of a client (shmget(2), SHMSEG).
+const SHMSEG: u32 = 4096;
+
+/// Where an attachment stands: a number of a client.
+#[derive(Clone, Copy, Debug, PartialEq, Eq, PartialOrd, Ord)]
+pub(crate) struct Handle {
+    pub(crate) client: u32,
+    pub(crate) number: u32,
+}
+
+/// What is attached (shmop(2)).
+#[derive(Clone, Copy, Debug, PartialEq, Eq)]
+pub struct Attachment {
+    /// The segment.
+    pub segment: u32,
+    /// Whether it is attached for reading alone (SHM_RDONLY).
+    pub is_read_only: bool,
+}
+
+/// The attachments of all clients. Contracts see them by client and number; a number is below 4096 (SHMSEG).
+#[derive(Debug, Drop)]
+pub struct Attachments {
+    attached: BTreeMap<Handle, Attachment>,
+    // How many attachments are to each segment, where there are any.
+    counts: BTreeMap<u32, u64>,
+}
+
+impl Model for Attachments {
+    ghost use Rattle.shm_seg.specs.Attachments.{Attached};
+    ghost use Rattle.shm_seg.specs.Codes.{attached_code};
+
+    ghost Value = { Attached };
+
+    ghost coded = { attached_code };
+
+    ghost use Rattle.shm_seg.specs.Inside.{AreKept, attached_in};
+
+    ghost view = { λ a. attached_in a.attached.entries };
+
+    ghost invariant = { λ a. AreKept a.attached.entries a.counts.entries };
+}
+
+impl Attachments {
+    /// No attachment.
+    pub fn new(alloc: Global) -> Attachments
+        ensures { result ≡ none_attached }
+    {
+        Attachments {
+            attached: BTreeMap::new(alloc),
+            counts: BTreeMap::new(alloc),
+        }
+    }
+
+    /// What a client has attached under a number.
+    pub fn get(&self, client: u32, number: u32) -> Option<Attachment>
+        ensures { result ≡ attachment_at self.now client number }
+    {
+        self.attached.get(&Handle { client, number }).copied()
+    }
+
+    /// The least number below 4096 under which a client has nothing attached; None where it has 4096 attachments.
+    pub fn free_number(&self, client: u32) -> Option<u32>
+        ensures { result ≡ least_free self.now client }
+    {
+        for number in 0..SHMSEG {
+            if self.get(client, number).is_none() {
+                return Some(number);
+            }
+        }
+        None
+    }
+
+    /// Attaches under a number that is free. The error comes only where an allocation fails.
+    pub fn attach(&mut self, client: u32, number: u32, attachment: Attachment) -> Result<(), Memory>
+        requires number { number < 4096 }
+        requires free { attachment_at self.old client number ≡ None }
+        ensures ok { OnOk result (self.new ≡ with_attachment self.old client number attachment) }
+        ensures err { OnErr result (self.new ≡ self.old) }
+    {
+        // So many that a count can't overflow don't fit into memory.
+        prove!(self.attached.len() < usize::MAX);
+        let handle = Handle { client, number };
+        self.attached.insert(handle, attachment)?;
+        match raise(&mut self.counts, attachment.segment) {
+            Ok(()) => Ok(()),
+            Err(memory) => {
+                self.attached.remove(&handle);
+                Err(memory)
+            }
+        }
+    }
+
+    /// Detaches what a client has attached under a number, and gives it.
+    pub fn detach(&mut self, client: u32, number: u32) -> Option<Attachment>
+        ensures told { result ≡ attachment_at self.old client number }
+        ensures left { self.new ≡ without_attachment self.old client number }
+    {
+        match self.attached.remove(&Handle { client, number }) {
+            None => None,
+            Some(attachment) => {
+                lower(&mut self.counts, attachment.segment);
+                Some(attachment)
+            }
+        }
+    }
+
+    /// The least number under which a client has something attached; None where it has no attachment.
+    pub fn first(&self, client: u32) -> Option<u32>
+        ensures first { result ≡ first_number self.now client }
+        ensures none { IfNone result ((number : ℕ) → attachment_at self.now client number ≡ None) }
+    {
+        match self.attached.range(Handle { client, number: 0 }..).next() {
+            None => None,
+            Some((handle, _)) => {
+                if handle.client == client {
+                    Some(handle.number)
+                } else {
+                    None
+                }
+            }
+        }
+    }
+
+    /// How many attachments are to a segment (shmctl(2), shm_nattch).
+    pub fn count_of(&self, segment: u32) -> u64
+        ensures { result ≡ attach_count self.now segment }
+    {
+        count_in(&self.counts, segment)
+    }
+}
+
+/// The count of a segment, 0 where there is none.
+fn count_in(counts: &BTreeMap<u32, u64>, segment: u32) -> u64
+    ensures { result ≡ counted_at counts.now.entries segment }
+{
+    match counts.get(&segment) {
+        None => 0,
+        Some(count) => *count,
+    }
+}
+
+/// Counts one more of a segment. The error comes only where an allocation fails.
+fn raise(counts: &mut BTreeMap<u32, u64>, segment: u32) -> Result<(), Memory>
+    requires { counted_at counts.old.entries segment < 2 ^ 63 }
+    ensures ok { OnOk result ((s : ℕ) → counted_at counts.new.entries s
+        ≡ counted_at counts.old.entries s + (if segment == s then 1 else 0)) }
+    ensures err { OnErr result (counts.new.entries ≡ counts.old.entries) }
+{
+    let count = count_in(counts, segment);
+    counts.insert(segment, count + 1)?;
+    Ok(())
+}
+
+/// Counts one fewer of a segment; with the last its count goes.
+fn lower(counts: &mut BTreeMap<u32, u64>, segment: u32)
+    requires { 0 < counted_at counts.old.entries segment }
+    ensures { (s : ℕ) → counted_at counts.old.entries s
+        ≡ counted_at counts.new.entries s + (if segment == s then 1 else 0) }
+{
+    if count_in(counts, segment) == 1 {
+        counts.remove(&segment);
+    } else {
+        let count = counts.get_mut(&segment).unwrap();
+        *count -= 1;
+    }
+}
