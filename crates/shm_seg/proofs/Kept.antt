@@ -8,7 +8,7 @@ use Rattle.std.specs.Map.{keys_of, values_of}
 use Rattle.std.specs.FinMap as finite
 use Rattle.std.proofs.lemmas.List.Sums.{count_by-le-length}
 use Rattle.std.proofs.lemmas.Map.Entries.{length-values_of}
-use Rattle.shm_seg.specs.Attachments.{Attachment, Handle, attach_count, handle_cmp}
+use Rattle.shm_seg.specs.Attachments.{Attachment, Handle, attach_count, none_attached, handle_cmp}
 use Rattle.shm_seg.specs.Inside.{AreKept, attached_in, counted_at, entry_at}
 use Rattle.shm_seg.proofs.Counts.{count_in, count_inserted, count_positive, count_removed, remove_insert}
 use Rattle.shm_seg.proofs.Maps.{gone_in, numbered_after, put_in}
@@ -17,12 +17,12 @@ use Rattle.shm_seg.proofs.Maps.{gone_in, numbered_after, put_in}
 abbrev pub Puts : List (Handle × Attachment) → List (Handle × Attachment) → Handle → Option Attachment → Type 0
 Puts es es' h w = (q : Handle) → entry_at es' q ≡ cond (is_eq (handle_cmp h q)) w (entry_at es q)
 
-pub none_kept : AreKept [] []
+pub count_of_none : (segment : ℕ) → attach_count none_attached segment ≡ 0
 unfolding IsStrictlySortedBy
-none_kept = record {
-  numbered = λ h far. refl;
-  counted = λ segment. sym (count_in [] segment tt);
-}
+count_of_none segment = count_in [] segment tt
+
+pub none_kept : AreKept [] []
+none_kept = record { numbered = λ h far. refl; counted = λ segment. sym (count_of_none segment) }
 
 module _ (es : List (Handle × Attachment)) (counts : List (ℕ × ℕ)) (kept : AreKept es counts) where
   -- no more are to a segment than there are

@@ -1,6 +1,6 @@
 -- The map that entries stand for.
-use Rattle.std.proofs.Common.{◌≡◌, ◌∙◌, ℕ, ◌<◌, ◌≤◌, ap, arith, refl, sym, Bool, true, false, cond, List, [], ◌∷◌, ◌⊎◌, inl, inr}
-use Rattle.std.specs.Prelude.{Option, Some, None, is_some}
+use Rattle.std.proofs.Common.{◌≡◌, ◌∙◌, ℕ, ◌<◌, ◌≤◌, ap, arith, subst, refl, sym, Bool, true, false, cond, List, [], ◌∷◌, ◌⊎◌, inl, inr}
+use Rattle.std.specs.Prelude.{Option, Some, None, is_some, IsSome}
 use Rattle.std.specs.Ordering.{is_eq}
 use Rattle.std.specs.Cmp.{eq_by_cmp_equiv}
 use Rattle.std.specs.FinMap as finite
@@ -65,3 +65,8 @@ module _ (es : List (Handle × Attachment)) (m : Attached) (is : attached_in es 
       few : (h.number < 4096) ⊎ (4096 ≤ h.number) → h.number < 4096
       few (inl l) = l
       few (inr g) = absurd (is_there a (sym there ∙ are h g))
+
+  pub there_in : (h : Handle) (a : Attachment) → h.client ≡ client → entry_at es h ≡ Some a → IsSome (attachment_at m client h.number)
+  there_in h a same there =
+      let e : handle client h.number ≡ h = λ i. handle (sym same i) h.number in
+      subst (λ (o : Option Attachment). IsSome o) (sym (at_in h.number ∙ ap (entry_at es) e ∙ there)) refl

@@ -4,7 +4,7 @@ use Rattle.std.specs.BTreeMap as tree
 use Rattle.std.specs.FinMap as finite
 use Rattle.std.specs.Map.{lookup}
 use Rattle.std.specs.Ordering.{nat_cmp}
-use Rattle.shm_seg.specs.Attachments.{Attached, Attachment, Handle, attach_count, handle_cmp}
+use Rattle.shm_seg.specs.Attachments.{Attached, Attachment, Handle, attach_count, handle_cmp, shmseg}
 
 abbrev pub attached_in : List (Handle × Attachment) → Attached
 attached_in es = finite.from_entries es
@@ -14,7 +14,7 @@ entry_at es h = lookup (tree.is_at (handle_cmp h)) es
 
 -- each number is one of a client's
 abbrev pub AreNumbered : List (Handle × Attachment) → Type 0
-AreNumbered es = (h : Handle) → 4096 ≤ h.number → entry_at es h ≡ None
+AreNumbered es = (h : Handle) → shmseg ≤ h.number → entry_at es h ≡ None
 
 -- the count kept for a segment
 abbrev pub counted_at : List (ℕ × ℕ) → ℕ → ℕ

@@ -1,6 +1,6 @@
 //! Who has which segment attached.
 
-ghost use Rattle.std.specs.Prelude.{◌≡◌, ◌==◌, ◌<◌, ◌+◌, ◌^◌, ℕ, None, IfNone, OnErr, OnOk};
+ghost use Rattle.std.specs.Prelude.{◌≡◌, ◌==◌, ◌<◌, ◌+◌, ◌^◌, ℕ, None, IfNone, IfSome, IsSome, OnErr, OnOk};
 ghost use Rattle.std.specs.Prelude.{if◌then◌else◌};
 ghost use Rattle.shm_seg.specs.Attachments.{attach_count, attachment_at, first_number};
 ghost use Rattle.shm_seg.specs.Attachments.{free_number as least_free, none_attached};
@@ -12,7 +12,7 @@ use std::alloc::Global;
 use std::collections::BTreeMap;
 use std::marker::Model;
 
-/// The most attachments of a client (shmget(2), SHMSEG).
+/// The most attachments of a client (shmget(2), SHMSEG), a limit of the project's own.
 const SHMSEG: u32 = 4096;
 
 /// Where an attachment stands: a number of a client.
@@ -31,7 +31,8 @@ pub struct Attachment {
     pub is_read_only: bool,
 }
 
-/// The attachments of all clients. Contracts see them by client and number; a number is below 4096 (SHMSEG).
+/// The attachments of all clients (shmop(2)). Contracts see them by client and number; a number is below 4096
+/// (SHMSEG). A client or a segment is any number.
 #[derive(Debug, Drop)]
 pub struct Attachments {
     attached: BTreeMap<Handle, Attachment>,
@@ -55,7 +56,7 @@ impl Model for Attachments {
 }
 
 impl Attachments {
-    /// No attachment.
+    /// No attachment. It doesn't allocate; what comes later is taken from this allocator.
     pub fn new(alloc: Global) -> Attachments
         ensures { result ≡ none_attached }
     {
@@ -65,7 +66,7 @@ impl Attachments {
         }
     }
 
-    /// What a client has attached under a number.
+    /// What a client has attached under a number, None where that is nothing.
     pub fn get(&self, client: u32, number: u32) -> Option<Attachment>
         ensures { result ≡ attachment_at self.now client number }
     {
@@ -74,7 +75,9 @@ impl Attachments {
 
     /// The least number below 4096 under which a client has nothing attached; None where it has 4096 attachments.
     pub fn free_number(&self, client: u32) -> Option<u32>
-        ensures { result ≡ least_free self.now client }
+        ensures least { result ≡ least_free self.now client }
+        ensures number { IfSome result (λ number. number < 4096) }
+        ensures free { IfSome result (λ number. attachment_at self.now client number ≡ None) }
     {
         for number in 0..SHMSEG {
             if self.get(client, number).is_none() {
@@ -84,7 +87,8 @@ impl Attachments {
         None
     }
 
-    /// Attaches under a number that is free. The error comes only where an allocation fails.
+    /// Attaches under a number below 4096 that is free for the client. The error comes only where an allocation fails,
+    /// and then nothing has changed. The time is logarithmic in the attachments.
     pub fn attach(&mut self, client: u32, number: u32, attachment: Attachment) -> Result<(), Memory>
         requires number { number < 4096 }
         requires free { attachment_at self.old client number ≡ None }
@@ -104,7 +108,8 @@ impl Attachments {
         }
     }
 
-    /// Detaches what a client has attached under a number, and gives it.
+    /// Detaches what a client has attached under a number, and gives it; None where that is nothing. The time is
+    /// logarithmic in the attachments.
     pub fn detach(&mut self, client: u32, number: u32) -> Option<Attachment>
         ensures told { result ≡ attachment_at self.old client number }
         ensures left { self.new ≡ without_attachment self.old client number }
@@ -121,6 +126,7 @@ impl Attachments {
     /// The least number under which a client has something attached; None where it has no attachment.
     pub fn first(&self, client: u32) -> Option<u32>
         ensures first { result ≡ first_number self.now client }
+        ensures there { IfSome result (λ number. IsSome (attachment_at self.now client number)) }
         ensures none { IfNone result ((number : ℕ) → attachment_at self.now client number ≡ None) }
     {
         match self.attached.range(Handle { client, number: 0 }..).next() {
@@ -135,7 +141,8 @@ impl Attachments {
         }
     }
 
-    /// How many attachments are to a segment (shmctl(2), shm_nattch).
+    /// How many attachments are to a segment, those of all clients (shmctl(2), shm_nattch). The time is logarithmic in
+    /// the segments that have any.
     pub fn count_of(&self, segment: u32) -> u64
         ensures { result ≡ attach_count self.now segment }
     {

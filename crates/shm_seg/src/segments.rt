@@ -20,7 +20,7 @@ pub enum ReadFault {
     Memory(Memory),
 }
 
-/// A segment (shmget(2)). Contracts see its bytes, and whether it is marked for removal.
+/// A segment (shmget(2)). Contracts see its bytes by offset, from 0, and whether it is marked for removal.
 #[derive(Debug, Drop)]
 pub struct Segment {
     bytes: Vec<u8>,
@@ -47,7 +47,7 @@ impl Segment {
         })
     }
 
-    /// Its size in bytes (shmctl(2), shm_segsz).
+    /// Its size in bytes (shmctl(2), shm_segsz), which never changes.
     pub fn len(&self) -> u64
         ensures { result ≡ length self.now.bytes }
     {
@@ -61,7 +61,7 @@ impl Segment {
         self.is_marked
     }
 
-    /// Marks it for removal (shmctl(2), IPC_RMID).
+    /// Marks it for removal (shmctl(2), IPC_RMID). Its bytes stay, and a mark isn't taken back.
     pub fn mark(&mut self)
         ensures { self.new ≡ marked self.old }
     {
