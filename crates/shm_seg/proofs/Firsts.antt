@@ -33,16 +33,16 @@ above m n h = ap is_gt (sym (nat_cmp_is n m Greater h))
 abbrev pub From : ℕ → BTreeMap Handle Attachment → List (Handle × Attachment) → Type 0
 From client m es = IsRangeOf handle_cmp (Included (handle client 0)) Unbounded m es
 
-from_start : (client n : ℕ) → is_gt (handle_cmp (handle client 0) (handle client n)) ≡ false
-from_start client n = first_same client client (nat_cmp 0 n) refl ∙ not_below n
+pub least_handle : (client n : ℕ) → is_gt (handle_cmp (handle client 0) (handle client n)) ≡ false
+least_handle client n = first_same client client (nat_cmp 0 n) refl ∙ not_below n
 
 module _ (m : BTreeMap Handle Attachment) (client : ℕ) where
   pub none_from : From client m [] → (n : ℕ) → tree.get handle_cmp m (handle client n) ≡ None
-  none_from r n = r.5 refl (handle client n) (from_start client n, tt)
+  none_from r n = r.5 refl (handle client n) (least_handle client n, tt)
 
   module _ (h : Handle × Attachment) (t : List (Handle × Attachment)) (r : From client m (h ∷ t)) where
     head_below : (n : ℕ) → IsSome (tree.get handle_cmp m (handle client n)) → is_gt (handle_cmp h.0 (handle client n)) ≡ false
-    head_below n there = r.2 (handle client n) (from_start client n, tt) there
+    head_below n there = r.2 (handle client n) (least_handle client n, tt) there
 
     absent : (n : ℕ) (o : Option Attachment) → tree.get handle_cmp m (handle client n) ≡ o → is_gt (handle_cmp h.0 (handle client n)) ≡ true → o ≡ None
     absent n None e g = refl

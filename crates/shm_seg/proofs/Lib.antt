@@ -5,3 +5,4 @@ pub mod Handles
 pub mod Kept
 pub mod Least
 pub mod Maps
+pub mod Runs

@@ -1,11 +1,11 @@
 -- The map that entries stand for.
 use Rattle.std.proofs.Common.{◌≡◌, ◌∙◌, ℕ, ◌<◌, ◌≤◌, ap, arith, subst, refl, sym, Bool, true, false, cond, List, [], ◌∷◌, ◌⊎◌, inl, inr}
-use Rattle.std.specs.Prelude.{Option, Some, None, is_some, IsSome}
+use Rattle.std.specs.Prelude.{Option, Some, None, not, is_none, is_some, IsSome}
 use Rattle.std.specs.Ordering.{is_eq}
 use Rattle.std.specs.Cmp.{eq_by_cmp_equiv}
 use Rattle.std.specs.FinMap as finite
 use Rattle.std.proofs.lemmas.Bool.{cases_lt}
-use Rattle.shm_seg.specs.Attachments.{Attached, Attachment, Handle, attachment_at, first_number, handle_cmp}
+use Rattle.shm_seg.specs.Attachments.{Attached, Attachment, Handle, attachment_at, first_number, free_number, handle_cmp}
 use Rattle.shm_seg.specs.Inside.{AreNumbered, attached_in, entry_at}
 use Rattle.shm_seg.proofs.Handles.{handle, handle_total, handles_equal, is_there, same_attached}
 use Rattle.shm_seg.proofs.Least.{least_is, least_is_none}
@@ -70,3 +70,12 @@ module _ (es : List (Handle × Attachment)) (m : Attached) (is : attached_in es 
   there_in h a same there =
       let e : handle client h.number ≡ h = λ i. handle (sym same i) h.number in
       subst (λ (o : Option Attachment). IsSome o) (sym (at_in h.number ∙ ap (entry_at es) e ∙ there)) refl
+
+  -- the least number that is free, where those before it are taken
+  pub free_is_least : (n : ℕ) → n < 4096 → ((k : ℕ) → k < n → IsSome (entry_at es (handle client k))) → entry_at es (handle client n) ≡ None → Some n ≡ free_number m client
+  free_is_least n few taken free =
+      sym (least_is (λ k. is_none (attachment_at m client k)) 4096 0 n (omega arith) (omega arith) (ap is_none (at_in n ∙ free)) (λ k l h. ap is_none (at_in k) ∙ ap not (taken k h)))
+
+  pub free_is_none : (n : ℕ) → 4096 ≤ n → ((k : ℕ) → k < n → IsSome (entry_at es (handle client k))) → None ≡ free_number m client
+  free_is_none n all taken =
+      sym (least_is_none (λ k. is_none (attachment_at m client k)) 4096 0 (λ k l h. ap is_none (at_in k) ∙ ap not (taken k (omega arith))))

@@ -5,7 +5,7 @@ ghost use Rattle.std.specs.Prelude.{if◌then◌else◌};
 ghost use Rattle.shm_seg.specs.Attachments.{attach_count, attachment_at, first_number};
 ghost use Rattle.shm_seg.specs.Attachments.{free_number as least_free, none_attached};
 ghost use Rattle.shm_seg.specs.Attachments.{with_attachment, without_attachment};
-ghost use Rattle.shm_seg.specs.Inside.{counted_at};
+ghost use Rattle.shm_seg.specs.Inside.{counted_at, entry_at, AreNumbered};
 
 use ipc_call::Memory;
 use std::alloc::Global;
@@ -73,18 +73,15 @@ impl Attachments {
         self.attached.get(&Handle { client, number }).copied()
     }
 
-    /// The least number below 4096 under which a client has nothing attached; None where it has 4096 attachments.
+    /// The least number below 4096 under which a client has nothing attached; None where it has 4096 attachments. The
+    /// time is linear in the number.
     pub fn free_number(&self, client: u32) -> Option<u32>
         ensures least { result ≡ least_free self.now client }
         ensures number { IfSome result (λ number. number < 4096) }
         ensures free { IfSome result (λ number. attachment_at self.now client number ≡ None) }
     {
-        for number in 0..SHMSEG {
-            if self.get(client, number).is_none() {
-                return Some(number);
-            }
-        }
-        None
+        let number = leading(&self.attached, client);
+        if number < SHMSEG { Some(number) } else { None }
     }
 
     /// Attaches under a number below 4096 that is free for the client. The error comes only where an allocation fails,
@@ -148,6 +145,23 @@ impl Attachments {
     {
         count_in(&self.counts, segment)
     }
+}
+
+/// How many numbers a client has in use from 0 on, up to the first that is free.
+fn leading(attached: &BTreeMap<Handle, Attachment>, client: u32) -> u32
+    requires { AreNumbered attached.now.entries }
+    ensures taken { (n : ℕ) → n < result
+        → IsSome (entry_at attached.now.entries (record { client = client; number = n })) }
+    ensures free { entry_at attached.now.entries (record { client = client; number = result }) ≡ None }
+{
+    let mut number = 0;
+    for (handle, _) in attached.range(Handle { client, number: 0 }..) {
+        if handle.client != client || handle.number != number {
+            return number;
+        }
+        number += 1;
+    }
+    number
 }
 
 /// The count of a segment, 0 where there is none.

@@ -1,16 +1,15 @@
-use Rattle.std.proofs.Common.{◌≡◌, ◌∙◌, ℕ, ap, arith, sym, Bool, true}
-use Rattle.std.specs.Prelude.{is_none, not}
-use Rattle.shm_seg.specs.Attachments.{attachment_at}
-use Rattle.shm_seg.proofs.Least.{least_is, least_is_none}
+use Rattle.std.proofs.Common.{◌∙◌}
+use Rattle.shm_seg.proofs.Maps.{at_in, free_is_least, free_is_none}
 use Rattle.shm_seg.proofs.attachments.Attachments.free_number.Goals as goal
 
-pub returns-then-is_none-clause-least : goal.returns-then-is_none-clause-least
-returns-then-is_none-clause-least c =
-    let test = λ (k : ℕ). is_none (attachment_at c.args.self.now c.args.client k) in
-    let free : is_none (attachment_at c.args.self.now c.args.client c.loop-number.number) ≡ true = ap is_none (sym c.get.ensures) ∙ ap not c.is_none.ensures ∙ ap (λ (b : Bool). not (not b)) c.if-is_none.true in
-    sym (least_is test 4096 0 c.loop-number.number (omega arith) (omega arith) free (λ k l h. c.loop-number.invariant k h))
+pub returns-then-number-lt-SHMSEG-clause-least : goal.returns-then-number-lt-SHMSEG-clause-least
+returns-then-number-lt-SHMSEG-clause-least c =
+    free_is_least c.self.inside.attached.entries c.args.self.now c.self.view_is c.args.client c.leading-number.result c.if-number-lt-SHMSEG.true c.leading-number.ensures.taken c.leading-number.ensures.free
 
-pub returns-clause-least : goal.returns-clause-least
-returns-clause-least c =
-    let test = λ (k : ℕ). is_none (attachment_at c.args.self.now c.args.client k) in
-    sym (least_is_none test 4096 0 (λ k l h. c.loop-number.invariant k (omega arith)))
+pub returns-then-number-lt-SHMSEG-clause-free : goal.returns-then-number-lt-SHMSEG-clause-free
+returns-then-number-lt-SHMSEG-clause-free c =
+    at_in c.self.inside.attached.entries c.args.self.now c.self.view_is c.args.client c.leading-number.result ∙ c.leading-number.ensures.free
+
+pub returns-else-number-lt-SHMSEG-clause-least : goal.returns-else-number-lt-SHMSEG-clause-least
+returns-else-number-lt-SHMSEG-clause-least c =
+    free_is_none c.self.inside.attached.entries c.args.self.now c.self.view_is c.args.client c.leading-number.result c.if-number-lt-SHMSEG.false c.leading-number.ensures.taken
