@@ -74,7 +74,7 @@ impl Attachments {
     }
 
     /// The least number below 4096 under which a client has nothing attached; None where it has 4096 attachments. The
-    /// time is linear in the number.
+    /// time is logarithmic in the attachments, and linear in the number.
     pub fn free_number(&self, client: u32) -> Option<u32>
         ensures least { result ≡ least_free self.now client }
         ensures number { IfSome result (λ number. number < 4096) }
@@ -92,7 +92,7 @@ impl Attachments {
         ensures ok { OnOk result (self.new ≡ with_attachment self.old client number attachment) }
         ensures err { OnErr result (self.new ≡ self.old) }
     {
-        // So many that a count can't overflow don't fit into memory.
+        // Memory holds fewer than 2^63 attachments, so that no count overflows.
         prove!(self.attached.len() < usize::MAX);
         let handle = Handle { client, number };
         self.attached.insert(handle, attachment)?;
@@ -120,7 +120,8 @@ impl Attachments {
         }
     }
 
-    /// The least number under which a client has something attached; None where it has no attachment.
+    /// The least number under which a client has something attached; None where it has no attachment. The time is
+    /// logarithmic in the attachments.
     pub fn first(&self, client: u32) -> Option<u32>
         ensures first { result ≡ first_number self.now client }
         ensures there { IfSome result (λ number. IsSome (attachment_at self.now client number)) }
