@@ -1,6 +1,6 @@
-// What a client asks for in a measurement of many: the same call again and again, or a message to and fro.
+//! What a client asks for in a measurement of many: the same call again and again, or a message to and fro.
 
-use crate::spaces::answer_in;
+use bench_runs::spaces::answer_in;
 use ipc_call::{Answer, Call, IPC_CREAT, IPC_NOWAIT, Items, Reply};
 use std::alloc::{AllocError, Global};
 use std::mem;

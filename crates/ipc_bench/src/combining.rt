@@ -1,9 +1,9 @@
-// Measurements of a publication list that serves a counter.
+//! Measurements of a publication list that serves a counter.
 ghost use Rattle.std.specs.Prelude.{◌≡◌, ◌≤◌, false, All, IfOk, IfSome};
 ghost use Rattle.pub_list.specs.Clients.{view, BelongsTo, IsFreshOf};
 ghost use Rattle.pub_counter.specs.Service.{IsResting};
 
-use crate::measuring::Run;
+use bench_runs::measuring::{Run, unanswered};
 use pub_counter::Counter;
 use pub_counter::service::reply_of;
 use pub_list::{Fresh, Joined, List, OpenGate, Serves, Took, WordState};
@@ -12,11 +12,6 @@ use std::time::Instant;
 
 /// How many steps a client alone takes to be served.
 pub const STEPS: usize = 6;
-
-/// A client that isn't served.
-fn unserved() -> io::Error {
-    io::Error::from(io::ErrorKind::Other)
-}
 
 /// So many clients join, and one of them is there.
 fn joined_one(list: &List<Counter>, mut clients: Vec<Fresh<Counter>>) -> Option<Joined<Counter>>
@@ -48,11 +43,11 @@ fn steps(
     joined.post(list, 1);
     let posted = Instant::now(rt)?;
     let Ok(state) = joined.seize(list) else {
-        return Err(unserved());
+        return Err(unanswered());
     };
     let seized = Instant::now(rt)?;
     let Took::FromPosted(amount) = joined.take(list, own, WordState::Posted) else {
-        return Err(unserved());
+        return Err(unanswered());
     };
     let taken = Instant::now(rt)?;
     let state = Counter::serve(joined, list, own, amount, state);
@@ -69,7 +64,7 @@ fn steps(
             released,
             Instant::now(rt)?,
         ]),
-        None => Err(unserved()),
+        None => Err(unanswered()),
     }
 }
 
@@ -83,14 +78,14 @@ fn ask_alone(joined: &mut Joined<Counter>, list: &List<Counter>) -> io::Result<u
     let own = joined.client();
     joined.post(list, 1);
     let Ok(state) = joined.seize(list) else {
-        return Err(unserved());
+        return Err(unanswered());
     };
     let Took::FromPosted(amount) = joined.take(list, own, WordState::Posted) else {
-        return Err(unserved());
+        return Err(unanswered());
     };
     let state = Counter::serve(joined, list, own, amount, state);
     joined.release(list, state);
-    reply_of(joined, list).ok_or(unserved())
+    reply_of(joined, list).ok_or(unanswered())
 }
 
 /// The same, and the client serves whoever has joined.
@@ -102,9 +97,9 @@ fn ask_by_pass(joined: &mut Joined<Counter>, list: &List<Counter>) -> io::Result
 {
     joined.post(list, 1);
     if joined.combine_with(list, &OpenGate).is_err() {
-        return Err(unserved());
+        return Err(unanswered());
     }
-    reply_of(joined, list).ok_or(unserved())
+    reply_of(joined, list).ok_or(unanswered())
 }
 
 /// A list of so many clients, all joined, and one of them.
@@ -116,7 +111,7 @@ fn opened(rt: &HostRuntime, clients: u32) -> io::Result<(List<Counter>, Joined<C
     let (list, fresh) = List::new(rt.alloc(), clients, Counter::new(rt.alloc()))?;
     match joined_one(&list, fresh) {
         Some(joined) => Ok((list, joined)),
-        None => Err(unserved()),
+        None => Err(unanswered()),
     }
 }
 

@@ -1,8 +1,8 @@
-// Measurements of a namespace alone, and of a mutex round one, beside those of the service.
+//! Measurements of a namespace alone, and of a mutex round one, beside those of the service.
 
 use crate::asking::{Asker, Task};
-use crate::measuring::Run;
-use crate::spaces::opened;
+use bench_runs::measuring::Run;
+use bench_runs::spaces::opened;
 use ipc_call::{Call, Reply};
 use ipc_space::{Effects, Space};
 use std::alloc::AllocError;
@@ -97,13 +97,13 @@ fn time_alone(rt: &HostRuntime, space: &mut Space, task: Task, calls: u32) -> io
 
 /// One client of a namespace makes so many calls.
 pub fn of_space(rt: &HostRuntime, task: Task, calls: u32) -> io::Result<Run> {
-    let mut space = opened(rt, 1)?;
+    let mut space = opened(rt.alloc(), 1)?;
     time_alone(rt, &mut space, task, calls)
 }
 
 /// A namespace of so many clients under a mutex, in which each has made its queue.
 fn shared(rt: &HostRuntime, task: Task, clients: u32) -> io::Result<(Mutex<Space>, Vec<Worker>)> {
-    let mut space = opened(rt, clients)?;
+    let mut space = opened(rt.alloc(), clients)?;
     let workers = begun(rt, &mut space, task, clients)?;
     Ok((Mutex::new(space), workers))
 }

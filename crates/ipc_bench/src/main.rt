@@ -5,17 +5,14 @@
 
 mod asking;
 mod combining;
-mod keys;
 mod locked;
-mod measuring;
-mod messages;
 mod service;
-mod slots;
-mod spaces;
 
 use asking::Task;
-use measuring::Run;
-use messages::Way;
+use bench_runs::measuring::Run;
+use bench_runs::messages::Way;
+use bench_runs::semops::AtExit;
+use bench_runs::{keys, measuring, messages, semops, slots, spaces};
 use std::process::ExitCode;
 use std::sync::Wait;
 use std::thread::Threads;
@@ -32,6 +29,12 @@ const MESSAGES: [u32; 3] = [1, 100, 1_000];
 
 /// How many clients wait.
 const WAITING: [u32; 3] = [1, 16, 63];
+
+/// How many operations a semop has.
+const SEMOPS: [u32; 4] = [1, 2, 10, 500];
+
+/// How many clients wait on another set.
+const WAITING_BESIDE: [u32; 2] = [16, 63];
 
 /// One client.
 const ONE: [u32; 1] = [1];
@@ -57,6 +60,8 @@ enum Operation {
     Pass(Way),
     ReceiveLast,
     WhileOthersWait,
+    Operate(AtExit),
+    OperateBesideWaiting,
     Readings,
     EachStep,
     Alone,
@@ -67,7 +72,7 @@ enum Operation {
     AmongIdle,
 }
 
-const OPERATIONS: [Operation; 24] = [
+const OPERATIONS: [Operation; 27] = [
     Operation::Find,
     Operation::UnbindAndBind,
     Operation::Get,
@@ -78,6 +83,9 @@ const OPERATIONS: [Operation; 24] = [
     Operation::ReceiveLast,
     Operation::Pass(Way::Receiver),
     Operation::WhileOthersWait,
+    Operation::Operate(AtExit::Keeps),
+    Operation::Operate(AtExit::Undoes),
+    Operation::OperateBesideWaiting,
     Operation::Readings,
     Operation::EachStep,
     Operation::Alone,
@@ -118,6 +126,9 @@ impl Operation {
             Operation::ReceiveLast => &["Space::apply, msgrcv of the last"],
             Operation::Pass(Way::Receiver) => &["Space::apply, a waiting receiver"],
             Operation::WhileOthersWait => &["Space::apply, while others wait"],
+            Operation::Operate(AtExit::Keeps) => &["Space::apply, semop"],
+            Operation::Operate(AtExit::Undoes) => &["Space::apply, semop with SEM_UNDO"],
+            Operation::OperateBesideWaiting => &["Space::apply, semop beside waiting"],
             Operation::Readings => &["reading the time"],
             Operation::EachStep => &["post", "seize", "take", "answer", "release", "collect"],
             Operation::Alone => &["post to collect"],
@@ -141,6 +152,8 @@ impl Operation {
             Operation::Pass(_) => (&BYTES, "bytes"),
             Operation::ReceiveLast => (&MESSAGES, "messages"),
             Operation::WhileOthersWait => (&WAITING, "waiting"),
+            Operation::Operate(_) => (&SEMOPS, "operations"),
+            Operation::OperateBesideWaiting => (&WAITING_BESIDE, "waiting"),
             Operation::Readings | Operation::EachStep | Operation::Alone | Operation::OfSpace(_) =>
                 (&ONE, "clients"),
             Operation::OneOf | Operation::AmongIdle => (&CLIENTS, "clients"),
@@ -167,6 +180,8 @@ impl Operation {
             Operation::Pass(way) => alone(rt, messages::pass(rt, way, size, calls)?),
             Operation::ReceiveLast => alone(rt, messages::receive_last(rt, size, calls)?),
             Operation::WhileOthersWait => alone(rt, messages::while_others_wait(rt, size, calls)?),
+            Operation::Operate(at_exit) => alone(rt, semops::operate(rt, at_exit, size, calls)?),
+            Operation::OperateBesideWaiting => alone(rt, semops::beside_waiting(rt, size, calls)?),
             Operation::Readings => alone(rt, combining::readings(rt, calls)?),
             Operation::EachStep => listed(rt, &combining::each_step(rt, calls)?),
             Operation::Alone => alone(rt, combining::alone(rt, calls)?),
@@ -244,7 +259,7 @@ fn print_row(
     let (whole, part) = (tenths / 10, tenths % 10);
     let hundredths = tenths.saturating_mul(100) / first.max(1);
     let (times, rest) = (hundredths / 100, hundredths % 100);
-    eprintln!(rt; "{name:<32}{size:>7} {unit:<8}{whole:>8}.{part}{times:>8}.{rest:02}")?;
+    eprintln!(rt; "{name:<35}{size:>7} {unit:<10}{whole:>8}.{part}{times:>8}.{rest:02}")?;
     println!(rt; "{name}, {size} {unit}: {}", run.sum)
 }
 
@@ -262,7 +277,7 @@ fn calls_asked(rt: &HostRuntime) -> io::Result<u32> {
 
 fn main(rt: HostRuntime) -> io::Result<ExitCode> {
     let calls = calls_asked(&rt)?;
-    eprintln!(rt; "operation                          size          ns a call      ratio")?;
+    eprintln!(rt; "operation                             size            ns a call      ratio")?;
     for operation in OPERATIONS {
         print_rows(&rt, &rt, operation, calls)?;
     }

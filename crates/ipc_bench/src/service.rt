@@ -1,10 +1,10 @@
-// Measurements of the service, whose clients combine.
+//! Measurements of the service, whose clients combine.
 ghost use Rattle.std.specs.Prelude.{All, IfOk, IfSome};
 ghost use Rattle.ipc_bench.specs.Service.{IsClientOf, IsNewOf};
 
 use crate::asking::{Asker, Task};
-use crate::measuring::Run;
-use crate::spaces::{limits, users};
+use bench_runs::measuring::Run;
+use bench_runs::spaces::{limits, users};
 use crossbeam_utils::Backoff;
 use ipc_call::{Call, Reply};
 use ipc_combiner::{Idle, Pass, Polled, Service, Unjoined};
@@ -127,7 +127,7 @@ fn asked<R: Threads + Sync>(
 fn started(rt: &HostRuntime, clients: u32) -> io::Result<(Service, Vec<Unjoined>)>
     ensures { IfOk result (λ m. All (λ u. IsNewOf m.0 u) m.1.items) }
 {
-    let all = users(rt, clients)?;
+    let all = users(rt.alloc(), clients)?;
     if all.is_empty() || all.len() > 64 {
         return Err(io::Error::from(io::ErrorKind::InvalidInput));
     }

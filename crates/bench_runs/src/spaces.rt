@@ -1,16 +1,16 @@
-// Measurements of a whole namespace.
+//! A whole namespace: its clients, their calls and the answers, and what a msgget of them takes.
 
 ghost use Rattle.std.specs.Prelude.{IsTrue};
 ghost use Rattle.ipc_call.specs.Limits.{are_in_range};
 
-use crate::measuring::{Numbers, Run, key_of};
+use crate::measuring::{Numbers, Run, key_of, unanswered};
 use bitflags::Flags;
 use ipc_call::{Answer, Call, IPC_CREAT, Limit, Limits, Reply};
 use ipc_creds::{Caps, Creds};
 use ipc_space::{Effects, Space};
-use std::alloc::AllocError;
+use std::alloc::{AllocError, Global};
 use std::io;
-use std::time::Instant;
+use std::time::{Clock, Instant};
 
 /// The default limits, but for as many slots as there may be.
 pub fn limits() -> Limits
@@ -20,8 +20,7 @@ pub fn limits() -> Limits
 }
 
 /// So many clients of one user.
-pub fn users(rt: &HostRuntime, clients: u32) -> Result<Vec<Creds>, AllocError> {
-    let alloc = rt.alloc();
+pub fn users(alloc: Global, clients: u32) -> Result<Vec<Creds>, AllocError> {
     let mut all = Vec::new(alloc);
     for _ in 0..clients {
         all.push(Creds::new(100, 10, Vec::new(alloc), Caps::empty()))?;
@@ -30,8 +29,8 @@ pub fn users(rt: &HostRuntime, clients: u32) -> Result<Vec<Creds>, AllocError> {
 }
 
 /// A namespace of so many clients of one user, 1 to 64, with as many slots as there may be.
-pub fn opened(rt: &HostRuntime, clients: u32) -> io::Result<Space> {
-    let all = users(rt, clients)?;
+pub fn opened(alloc: Global, clients: u32) -> io::Result<Space> {
+    let all = users(alloc, clients)?;
     if all.is_empty() || all.len() > 64 {
         return Err(io::Error::from(io::ErrorKind::InvalidInput));
     }
@@ -55,6 +54,24 @@ pub fn answer(space: &mut Space, call: Call) -> io::Result<Option<Answer>> {
     Ok(own.and_then(answer_in))
 }
 
+/// Client 0 makes a call that is answered with nothing.
+pub fn done(space: &mut Space, call: Call) -> io::Result<()> {
+    match answer(space, call)? {
+        Some(Answer::Done) => Ok(()),
+        _ => Err(unanswered()),
+    }
+}
+
+/// A client makes a call that waits.
+pub fn wait(space: &mut Space, client: u32, call: Call) -> io::Result<()> {
+    effects(space, client, call)?;
+    if space.is_waiting(client) {
+        Ok(())
+    } else {
+        Err(unanswered())
+    }
+}
+
 /// The answer in a reply, None where it is a refusal.
 pub fn answer_in(reply: Reply) -> Option<Answer> {
     match reply {
@@ -75,7 +92,12 @@ pub fn msgget(space: &mut Space, key: u32, flags: u32) -> io::Result<u32> {
 }
 
 /// Makes so many queues, and gets them by their keys.
-fn get_each(rt: &HostRuntime, space: &mut Space, size: u32, calls: u32) -> io::Result<Run> {
+fn get_each<R: Clock + AllocGlobal>(
+    rt: &R,
+    space: &mut Space,
+    size: u32,
+    calls: u32,
+) -> io::Result<Run> {
     for number in 0..size {
         msgget(space, key_of(number), IPC_CREAT | 0o600)?;
     }
@@ -90,7 +112,7 @@ fn get_each(rt: &HostRuntime, space: &mut Space, size: u32, calls: u32) -> io::R
 }
 
 /// Gets the queues of keys that are there.
-pub fn get_of_a_key(rt: &HostRuntime, size: u32, calls: u32) -> io::Result<Run> {
-    let mut space = opened(rt, 1)?;
+pub fn get_of_a_key<R: Clock + AllocGlobal>(rt: &R, size: u32, calls: u32) -> io::Result<Run> {
+    let mut space = opened(rt.alloc(), 1)?;
     get_each(rt, &mut space, size, calls)
 }

@@ -1,14 +1,12 @@
-// Measurements of messages and of calls that wait for them, through a whole namespace and its journal.
+//! Measurements of messages and of calls that wait for them, through a whole namespace and its journal.
 
-use crate::measuring::{BATCH, Run};
-use crate::spaces::{answer, answer_in, effects, msgget, opened};
+use crate::measuring::{BATCH, KEPT, Run, unanswered};
+use crate::spaces::{answer, answer_in, done, effects, msgget, opened, wait};
 use ipc_call::{Answer, Call, IPC_NOWAIT, Items};
 use ipc_space::{Effects, Space};
+use std::alloc::Global;
 use std::io;
-use std::time::Instant;
-
-/// How many texts are passed in one namespace, since its journal keeps each that was sent.
-const PASSES: u32 = 1_024;
+use std::time::{Clock, Instant};
 
 /// The type of the messages that are received.
 const LAST: i64 = 2;
@@ -25,11 +23,6 @@ pub enum Way {
     Receiver,
 }
 
-/// A call of a measurement had another answer than it must have.
-fn unanswered() -> io::Error {
-    io::Error::from(io::ErrorKind::Other)
-}
-
 /// Sends a text to a queue.
 fn send(space: &mut Space, id: u32, mtype: i64, text: Items<u8>) -> io::Result<()> {
     let call = Call::MsgSnd {
@@ -38,10 +31,7 @@ fn send(space: &mut Space, id: u32, mtype: i64, text: Items<u8>) -> io::Result<(
         text,
         flags: IPC_NOWAIT,
     };
-    match answer(space, call)? {
-        Some(Answer::Done) => Ok(()),
-        _ => Err(unanswered()),
-    }
+    done(space, call)
 }
 
 /// Receives the first text of a type from a queue.
@@ -59,19 +49,14 @@ fn receive(space: &mut Space, id: u32, msgtyp: i64) -> io::Result<Items<u8>> {
 }
 
 /// A client begins to wait for a message of a queue.
-fn wait(space: &mut Space, client: u32, id: u32) -> io::Result<()> {
+fn wait_for_any(space: &mut Space, client: u32, id: u32) -> io::Result<()> {
     let call = Call::MsgRcv {
         id,
         size: u64::MAX,
         msgtyp: 0,
         flags: 0,
     };
-    effects(space, client, call)?;
-    if space.is_waiting(client) {
-        Ok(())
-    } else {
-        Err(unanswered())
-    }
+    wait(space, client, call)
 }
 
 /// Client 0 sends a text for which another client waits: the text that it gets.
@@ -114,15 +99,15 @@ fn wait_and_send(
     passes: u32,
 ) -> io::Result<Items<u8>> {
     for _ in 0..passes {
-        wait(space, 1, id)?;
+        wait_for_any(space, 1, id)?;
         text = hand_over(space, id, text)?;
     }
     Ok(text)
 }
 
 /// Counts the times for which a text of so many bytes is passed in a namespace.
-fn add_passes(
-    rt: &HostRuntime,
+fn add_passes<R: Clock + AllocGlobal>(
+    rt: &R,
     space: &mut Space,
     run: &mut Run,
     way: Way,
@@ -144,8 +129,8 @@ fn add_passes(
 }
 
 /// The same in a namespace of its own.
-fn add_passes_apart(
-    rt: &HostRuntime,
+fn add_passes_apart<R: Clock + AllocGlobal>(
+    rt: &R,
     run: &mut Run,
     way: Way,
     bytes: u32,
@@ -155,25 +140,29 @@ fn add_passes_apart(
         Way::Queue => 1,
         Way::Receiver => 2,
     };
-    let mut space = opened(rt, clients)?;
+    let mut space = opened(rt.alloc(), clients)?;
     add_passes(rt, &mut space, run, way, bytes, passes)
 }
 
 /// Passes a text of so many bytes: the two calls that pass it count as one.
-pub fn pass(rt: &HostRuntime, way: Way, bytes: u32, calls: u32) -> io::Result<Run> {
+pub fn pass<R: Clock + AllocGlobal>(rt: &R, way: Way, bytes: u32, calls: u32) -> io::Result<Run> {
     let mut run = Run::new(calls);
-    for _ in 0..calls / PASSES {
-        add_passes_apart(rt, &mut run, way, bytes, PASSES)?;
+    for _ in 0..calls / KEPT {
+        add_passes_apart(rt, &mut run, way, bytes, KEPT)?;
     }
-    add_passes_apart(rt, &mut run, way, bytes, calls % PASSES)?;
+    add_passes_apart(rt, &mut run, way, bytes, calls % KEPT)?;
     Ok(run)
 }
 
 /// Client 0 passes an empty message, while all others wait for one of another queue.
-fn pass_beside_waiting(rt: &HostRuntime, space: &mut Space, calls: u32) -> io::Result<Run> {
+fn pass_beside_waiting<R: Clock + AllocGlobal>(
+    rt: &R,
+    space: &mut Space,
+    calls: u32,
+) -> io::Result<Run> {
     let busy = msgget(space, 0, 0o600)?;
     for client in 1..space.clients() {
-        wait(space, client, busy)?;
+        wait_for_any(space, client, busy)?;
     }
     let mut run = Run::new(calls);
     add_passes(rt, space, &mut run, Way::Queue, 0, calls)?;
@@ -182,26 +171,30 @@ fn pass_beside_waiting(rt: &HostRuntime, space: &mut Space, calls: u32) -> io::R
 
 /// Sends an empty message to a queue and receives it, while so many clients wait on another queue: a pair of
 /// calls counts as one.
-pub fn while_others_wait(rt: &HostRuntime, waiting: u32, calls: u32) -> io::Result<Run> {
-    let mut space = opened(rt, waiting.saturating_add(1))?;
+pub fn while_others_wait<R: Clock + AllocGlobal>(
+    rt: &R,
+    waiting: u32,
+    calls: u32,
+) -> io::Result<Run> {
+    let mut space = opened(rt.alloc(), waiting.saturating_add(1))?;
     pass_beside_waiting(rt, &mut space, calls)
 }
 
 /// Makes a queue with so many messages, of which the last alone has its type.
-fn filled_queue(rt: &HostRuntime, space: &mut Space, messages: u32) -> io::Result<u32> {
+fn filled_queue(alloc: Global, space: &mut Space, messages: u32) -> io::Result<u32> {
     let id = msgget(space, 0, 0o600)?;
     for _ in 1..messages {
-        send(space, id, BEFORE, Items::new(Vec::new(rt.alloc())))?;
+        send(space, id, BEFORE, Items::new(Vec::new(alloc)))?;
     }
-    send(space, id, LAST, Items::new(Vec::new(rt.alloc())))?;
+    send(space, id, LAST, Items::new(Vec::new(alloc)))?;
     Ok(id)
 }
 
 /// A batch of queues, each with so many messages.
-fn filled_queues(rt: &HostRuntime, space: &mut Space, messages: u32) -> io::Result<Vec<u32>> {
-    let mut ids = Vec::new(rt.alloc());
+fn filled_queues(alloc: Global, space: &mut Space, messages: u32) -> io::Result<Vec<u32>> {
+    let mut ids = Vec::new(alloc);
     for _ in 0..BATCH {
-        ids.push(filled_queue(rt, space, messages)?)?;
+        ids.push(filled_queue(alloc, space, messages)?)?;
     }
     Ok(ids)
 }
@@ -215,34 +208,34 @@ fn receive_from_each(space: &mut Space, ids: &[u32]) -> io::Result<()> {
 }
 
 /// Sends it to each queue again.
-fn send_to_each(rt: &HostRuntime, space: &mut Space, run: &mut Run, ids: &[u32]) -> io::Result<()> {
+fn send_to_each(alloc: Global, space: &mut Space, run: &mut Run, ids: &[u32]) -> io::Result<()> {
     for id in ids {
-        send(space, *id, LAST, Items::new(Vec::new(rt.alloc())))?;
+        send(space, *id, LAST, Items::new(Vec::new(alloc)))?;
         run.add_answer(*id);
     }
     Ok(())
 }
 
 /// Receives the last message of each queue of a batch, and sends it again.
-fn receive_batches(
-    rt: &HostRuntime,
+fn receive_batches<R: Clock + AllocGlobal>(
+    rt: &R,
     space: &mut Space,
     messages: u32,
     calls: u32,
 ) -> io::Result<Run> {
-    let ids = filled_queues(rt, space, messages)?;
+    let ids = filled_queues(rt.alloc(), space, messages)?;
     let mut run = Run::new(calls / BATCH * BATCH);
     for _ in 0..calls / BATCH {
         let start = Instant::now(rt)?;
         receive_from_each(space, ids.as_slice())?;
         run.add_time(rt, start)?;
-        send_to_each(rt, space, &mut run, ids.as_slice())?;
+        send_to_each(rt.alloc(), space, &mut run, ids.as_slice())?;
     }
     Ok(run)
 }
 
 /// Receives the last of so many messages, which alone has the type that is asked for.
-pub fn receive_last(rt: &HostRuntime, messages: u32, calls: u32) -> io::Result<Run> {
-    let mut space = opened(rt, 1)?;
+pub fn receive_last<R: Clock + AllocGlobal>(rt: &R, messages: u32, calls: u32) -> io::Result<Run> {
+    let mut space = opened(rt.alloc(), 1)?;
     receive_batches(rt, &mut space, messages, calls)
 }

@@ -1,13 +1,16 @@
-// Measurements: how long some calls took, and a sum over what they answered.
+//! Measurements: how long some calls took, and a sum over what they answered.
 
 use std::io;
-use std::time::Instant;
+use std::time::{Clock, Instant};
 
 /// How often each measurement is made. The median counts.
 pub const RUNS: u32 = 5;
 
 /// How many calls stand between two readings of the time, where each is undone by another.
 pub const BATCH: u32 = 16;
+
+/// How many calls are made in one namespace, or pairs of calls, since its journal keeps each: whole batches.
+pub const KEPT: u32 = 1_024;
 
 /// One measurement.
 #[derive(Clone, Copy, Debug)]
@@ -30,7 +33,7 @@ impl Run {
     }
 
     /// So many calls of each of some clients, all made since a moment, and what each client's came to.
-    pub fn of_each(rt: &HostRuntime, start: Instant, each: u32, sums: &[u32]) -> io::Result<Run> {
+    pub fn of_each(rt: &impl Clock, start: Instant, each: u32, sums: &[u32]) -> io::Result<Run> {
         let clients = u32::try_from(sums.len()).unwrap_or(u32::MAX);
         let mut run = Run::new(each.saturating_mul(clients));
         run.add_time(rt, start)?;
@@ -50,7 +53,7 @@ impl Run {
     }
 
     /// Counts the time since a moment.
-    pub fn add_time(&mut self, rt: &HostRuntime, start: Instant) -> io::Result<()> {
+    pub fn add_time(&mut self, rt: &impl Clock, start: Instant) -> io::Result<()> {
         self.add_time_between(start, Instant::now(rt)?);
         Ok(())
     }
@@ -74,6 +77,11 @@ pub fn add_batch(runs: &mut [Run; 2], start: Instant, middle: Instant, end: Inst
     for run in runs {
         run.add_answer(answer);
     }
+}
+
+/// A call of a measurement had another answer than it must have.
+pub fn unanswered() -> io::Error {
+    io::Error::from(io::ErrorKind::Other)
 }
 
 /// The run of median time.

@@ -1,11 +1,11 @@
-// Measurements of the table of slots.
+//! Measurements of the table of slots.
 
 use crate::measuring::{BATCH, Numbers, Run, add_batch};
 use ipc_call::Limit;
 use ipc_ids::{InsertFault, Slots};
-use std::alloc::AllocError;
+use std::alloc::{AllocError, Global};
 use std::io;
-use std::time::Instant;
+use std::time::{Clock, Instant};
 
 /// Puts a number into the lowest usable slot, and gives its identifier.
 fn insert_number(table: &mut Slots<u32>, number: u32) -> Result<u32, AllocError> {
@@ -23,8 +23,7 @@ struct Filled {
 }
 
 impl Filled {
-    fn new(rt: &HostRuntime, size: u32) -> Result<Filled, AllocError> {
-        let alloc = rt.alloc();
+    fn new(alloc: Global, size: u32) -> Result<Filled, AllocError> {
         let mut table = Slots::new(alloc, Limit::Slots.most(), 0);
         let mut ids = Vec::new(alloc);
         for number in 0..size {
@@ -61,8 +60,8 @@ impl Filled {
 }
 
 /// Looks up the objects of identifiers.
-pub fn get(rt: &HostRuntime, size: u32, calls: u32) -> io::Result<Run> {
-    let filled = Filled::new(rt, size)?;
+pub fn get<R: Clock + AllocGlobal>(rt: &R, size: u32, calls: u32) -> io::Result<Run> {
+    let filled = Filled::new(rt.alloc(), size)?;
     let mut numbers = Numbers::new();
     let mut run = Run::new(calls);
     let start = Instant::now(rt)?;
@@ -76,8 +75,8 @@ pub fn get(rt: &HostRuntime, size: u32, calls: u32) -> io::Result<Run> {
 }
 
 /// Asks for the next identifier, with a batch of slots vacant.
-pub fn next_id(rt: &HostRuntime, size: u32, calls: u32) -> io::Result<Run> {
-    let mut filled = Filled::new(rt, size)?;
+pub fn next_id<R: Clock + AllocGlobal>(rt: &R, size: u32, calls: u32) -> io::Result<Run> {
+    let mut filled = Filled::new(rt.alloc(), size)?;
     filled.remove_batch(0, size);
     let mut run = Run::new(calls);
     let start = Instant::now(rt)?;
@@ -90,8 +89,12 @@ pub fn next_id(rt: &HostRuntime, size: u32, calls: u32) -> io::Result<Run> {
 
 /// Removes objects batch by batch, and fills the lowest usable slots, which are theirs: what the first took,
 /// and what the second.
-pub fn remove_and_insert(rt: &HostRuntime, size: u32, calls: u32) -> io::Result<[Run; 2]> {
-    let mut filled = Filled::new(rt, size)?;
+pub fn remove_and_insert<R: Clock + AllocGlobal>(
+    rt: &R,
+    size: u32,
+    calls: u32,
+) -> io::Result<[Run; 2]> {
+    let mut filled = Filled::new(rt.alloc(), size)?;
     let mut numbers = Numbers::new();
     let mut runs = [Run::new(calls / BATCH * BATCH); 2];
     for _ in 0..calls / BATCH {
