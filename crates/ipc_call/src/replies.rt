@@ -12,6 +12,7 @@ pub type Memory = AllocError;
 /// The state of a queue (msqid_ds of msgctl(2)).
 #[derive(Clone, Copy, Debug, PartialEq, Eq)]
 pub struct QueueStatus {
+    /// Its ipc_perm.
     pub perm: Perm,
     /// The bytes of the texts of all messages.
     pub cbytes: u64,
@@ -34,6 +35,7 @@ pub struct QueueStatus {
 /// The state of a semaphore set (semid_ds of semctl(2)).
 #[derive(Clone, Copy, Debug, PartialEq, Eq)]
 pub struct SetStatus {
+    /// Its ipc_perm.
     pub perm: Perm,
     /// How many semaphores it has.
     pub nsems: u64,

@@ -10,8 +10,8 @@ mod spaces;
 pub use bitflags::Flags;
 pub use ipc_call::{
     Answer, Call, Errno, IPC_CREAT, IPC_EXCL, IPC_NOWAIT, Items, JournalRow, Kind, Limits,
-    MSG_EXCEPT, MSG_NOERROR, Memory, Outcome, QueueStatus, Reply, Rule, SEM_UNDO, SemOper,
-    SetStatus, Status, errno,
+    MSG_EXCEPT, MSG_NOERROR, Memory, Mode, Outcome, Perm, QueueStatus, Reply, Rule, SEM_UNDO,
+    SemOper, SetStatus, Status, errno,
 };
 pub use ipc_creds::{Caps, Creds, GROUPS_MAX};
 pub use spaces::{Effects, Space};
