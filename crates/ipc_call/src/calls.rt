@@ -103,6 +103,35 @@ pub enum Call {
         id: u32,
         values: Items<i32>,
     },
+    /// The segment of a key (shmget(2)), of at least `size` bytes. Key 0 is IPC_PRIVATE and creates a segment of `size`
+    /// bytes each time, at least 1 and at most SHMMAX. The flags are those of `MsgGet`.
+    ShmGet {
+        key: u32,
+        size: u64,
+        flags: u32,
+    },
+    /// Attaches a segment under the least number that the client has free (shmat of shmop(2)). Of the flags
+    /// `SHM_RDONLY` is known.
+    ShmAt {
+        id: u32,
+        flags: u32,
+    },
+    /// Detaches what the client has attached under a number (shmdt of shmop(2)).
+    ShmDt {
+        att: u32,
+    },
+    /// Reads `len` bytes from an offset on of what is attached. It stands for mapped memory.
+    ShmRead {
+        att: u32,
+        offset: u64,
+        len: u64,
+    },
+    /// Writes bytes from an offset on of what is attached. It stands for mapped memory.
+    ShmWrite {
+        att: u32,
+        offset: u64,
+        bytes: Items<u8>,
+    },
     /// Reports the state of an object (IPC_STAT of msgctl(2)).
     IpcStat {
         kind: Kind,
@@ -118,7 +147,8 @@ pub enum Call {
         mode: u32,
         qbytes: Option<u64>,
     },
-    /// Removes an object (IPC_RMID of msgctl(2), semctl(2) and shmctl(2)).
+    /// Removes an object (IPC_RMID of msgctl(2), semctl(2) and shmctl(2)). A segment that is attached goes with its
+    /// last attachment.
     IpcRmid {
         kind: Kind,
         id: u32,
@@ -129,7 +159,7 @@ pub enum Call {
         pid: u32,
     },
     /// Ends the process of the client (_exit(2)). What its semops with `SEM_UNDO` left to undo is added to the
-    /// values (semadj of semop(2)).
+    /// values (semadj of semop(2)), and what it has attached is detached.
     Exit,
 }
 
@@ -179,6 +209,18 @@ impl Call {
             Call::SetAll { id, ref values } => {
                 let values = values.copy()?;
                 Call::SetAll { id, values }
+            }
+            Call::ShmGet { key, size, flags } => Call::ShmGet { key, size, flags },
+            Call::ShmAt { id, flags } => Call::ShmAt { id, flags },
+            Call::ShmDt { att } => Call::ShmDt { att },
+            Call::ShmRead { att, offset, len } => Call::ShmRead { att, offset, len },
+            Call::ShmWrite {
+                att,
+                offset,
+                ref bytes,
+            } => {
+                let bytes = bytes.copy()?;
+                Call::ShmWrite { att, offset, bytes }
             }
             Call::IpcStat { kind, id } => Call::IpcStat { kind, id },
             Call::IpcSet {

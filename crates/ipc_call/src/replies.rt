@@ -45,16 +45,41 @@ pub struct SetStatus {
     pub ctime: u64,
 }
 
-/// The state of an object, by its kind (msgctl(2), semctl(2)).
+/// The state of a segment (shmid_ds of shmctl(2)).
+#[derive(Clone, Copy, Debug, PartialEq, Eq)]
+pub struct SegmentStatus {
+    /// Its ipc_perm.
+    pub perm: Perm,
+    /// Whether it was removed and goes with its last attachment (SHM_DEST).
+    pub is_marked: bool,
+    /// Its size in bytes (shm_segsz).
+    pub size: u64,
+    /// How many attachments are to it.
+    pub nattch: u64,
+    /// The process that created it, the number of its client plus 1.
+    pub cpid: u32,
+    /// The process that attached or detached it last, 0 where none did.
+    pub lpid: u32,
+    /// When a client attached it last, in seconds, 0 where none did.
+    pub atime: u64,
+    /// When a client detached it last.
+    pub dtime: u64,
+    /// When the segment was created or set last.
+    pub ctime: u64,
+}
+
+/// The state of an object, by its kind (msgctl(2), semctl(2), shmctl(2)).
 #[derive(Clone, Copy, Debug, PartialEq, Eq)]
 pub enum Status {
     /// Of a message queue.
     Queue(QueueStatus),
     /// Of a semaphore set.
     Set(SetStatus),
+    /// Of a shared memory segment.
+    Segment(SegmentStatus),
 }
 
-/// What a granted call returns (msgget(2), msgop(2), msgctl(2), semget(2), semctl(2)).
+/// What a granted call returns (msgget(2), msgop(2), msgctl(2), semget(2), semctl(2), shmop(2)).
 #[derive(Debug, Drop, PartialEq)]
 pub enum Answer {
     /// The identifier of an object, at most 2147483647.
@@ -69,6 +94,10 @@ pub enum Answer {
     Value(u32),
     /// The values of all semaphores of a set.
     Values(Items<u16>),
+    /// The number under which the client has attached the segment, below 4096.
+    Attached(u32),
+    /// The bytes that were read.
+    Bytes(Items<u8>),
 }
 
 /// How a call ended: granted with an answer, or refused by a rule.

@@ -5,8 +5,8 @@ ghost use Rattle.ipc_call.specs.Rules.{error_of, name_of_rule, number_of};
 
 use crate::error::Errno;
 
-/// Why a call was refused. Each error is that of POSIX.1-2017 XSH msgget, msgsnd, msgrcv, msgctl, semget, semop, semctl, shmat or
-/// shmdt, and of Linux.
+/// Why a call was refused. Each error is that of POSIX.1-2017 XSH msgget, msgsnd, msgrcv, msgctl, semget, semop,
+/// semctl, shmget, shmat, shmdt or shmctl, and of Linux.
 #[derive(Clone, Copy, Debug, PartialEq, Eq)]
 pub enum Rule {
     /// The caller neither owns nor created the object, and lacks CAP_SYS_ADMIN.
@@ -48,7 +48,8 @@ pub enum Rule {
     /// The text of a message is longer than MSGMAX.
     TextTooLong,
     /// The number of semaphores is none for a new set, above SEMMSL, or above that of the set; or as many values as the
-    /// set has semaphores aren't given.
+    /// set has semaphores aren't given; or the size is 0 or above SHMMAX for a new segment, or above that of the
+    /// segment.
     BadSize,
     /// The set has no semaphore of this number.
     BadSem,

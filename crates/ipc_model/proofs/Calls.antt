@@ -1,41 +1,45 @@
 -- The calls, a line for each in three tables: on what a plan doesn't depend, which plans wait, and what a grant keeps.
 use Rattle.std.proofs.Common.{◌≡◌, ℕ, Bool, true, false, List, [], ◌∷◌, length, refl, sym, ap, ◌∙◌, Option, Some, None, ℤ}
-use Rattle.std.specs.Prelude.{if◌then◌else◌, not, ◌==◌, ◌||◌, pos, int_le, nat_le, nat_lt, option_map}
+use Rattle.std.specs.Prelude.{if◌then◌else◌, not, ◌==◌, ◌||◌, pos, int_le, nat_le, nat_lt, option_and_then, option_map}
 use Rattle.std.proofs.lemmas.Bool.{true≢false}
 use Rattle.ipc_call.specs.Flags.{has_flag, ipc_creat, msg_except}
 use Rattle.ipc_call.specs.declared.calls.Call.{Call}
-use Rattle.ipc_call.specs.declared.calls.Call.TheVariants.{MsgGet, MsgSnd, MsgRcv, SemGet, SemOp, GetVal, GetPid, GetNcnt, GetZcnt, GetAll, SetVal, SetAll, Exit, IpcStat, IpcSet, IpcRmid, Interrupt}
+use Rattle.ipc_call.specs.declared.calls.Call.TheVariants.{MsgGet, MsgSnd, MsgRcv, SemGet, SemOp, GetVal, GetPid, GetNcnt, GetZcnt, GetAll, SetVal, SetAll, ShmGet, ShmAt, ShmDt, ShmRead, ShmWrite, Exit, IpcStat, IpcSet, IpcRmid, Interrupt}
 use Rattle.ipc_call.specs.declared.calls.Kind.{Kind}
 use Rattle.ipc_call.specs.declared.calls.Kind.TheVariants as kinds
 use Rattle.ipc_call.specs.declared.settings.Settings.{Settings}
 use Rattle.ipc_call.specs.declared.replies.Answer.{Answer}
 use Rattle.ipc_call.specs.declared.replies.Answer.TheVariants.{Done, Id, Status as StatusAnswer}
 use Rattle.ipc_call.specs.declared.replies.Waiting.{Waiting}
-use Rattle.ipc_call.specs.declared.rules.Rule.TheVariants.{BadArgument, BadId, BadType, Ended, NoKey, NoOperations, NoProcess, NoSlot, SemOutOfSet, TextTooLong, TooManyOperations}
+use Rattle.ipc_call.specs.declared.rules.Rule.TheVariants.{BadArgument, BadId, BadType, Ended, NoKey, NoOperations, NoProcess, NoSlot, NotAttached, SemOutOfSet, TextTooLong, TooManyAttached, TooManyOperations}
 use Rattle.ipc_creds.specs.Credentials.{Credentials}
 use Rattle.ipc_perm.specs.Access.{Control, Need, Permission, Resource, to_read}
-use Rattle.ipc_ids.specs.Table.{Table, next_id, without_object}
+use Rattle.ipc_ids.specs.Table.{Table, next_id, with_object, without_object}
 use Rattle.ipc_objects.specs.declared.object.Object.{Object}
 use Rattle.msg_queue.specs.declared.messages.Message.{Message}
-use Rattle.ipc_model.specs.State.{Caller, Queue, Queues, SemSet, Sems, State, caller, creds_at, has_ended}
+use Rattle.ipc_model.specs.State.{Caller, Queue, Queues, Segment, SemSet, Sems, Shared, State, caller, creds_at, has_ended}
 use Rattle.ipc_model.specs.Decision.{proceeds}
-use Rattle.ipc_model.specs.Plan.{Needs, Passes, Plan, decision, found, in_order, ◌⨾◌}
+use Rattle.ipc_model.specs.Plan.{Needs, Passes, Plan, decision, found, in_order, on_part, ◌⨾◌}
 use Rattle.ipc_model.specs.Plan as plans
-use Rattle.ipc_model.specs.Gets.{Getting, get, get_found, get_queue, get_set, getting_queue, getting_set, new_object, object_of_key}
+use Rattle.ipc_model.specs.Gets.{Getting, get, get_found, get_queue, get_segment, get_set, getting_queue, getting_segment, getting_set, new_object, object_of_key}
 use Rattle.ipc_model.specs.Messages.{chosen, queue_at, receive_message, send_found, send_message, take_chosen, receive_found}
 use Rattle.ipc_model.specs.Semaphores.{exited, get_all, get_pid, get_value, operate, operated, set_all, set_at, set_value, trial_checks, wanted_by}
+use Rattle.ipc_model.specs.Segments.{attach, behind, detach, read_bytes, segment_at, wanted_to_attach, with_attached, with_bytes, without_number, write_bytes}
+use Rattle.shm_seg.specs.Attachments.{attachment_at, free_number, shmseg}
 use Rattle.sem_set.specs.Trials.{are_in}
 use Rattle.sem_undo.specs.Entries.{adj_of}
 use Rattle.ipc_objects.specs.Objects.{changed}
 use Rattle.ipc_model.specs.Processes.{process}
-use Rattle.ipc_model.specs.Controls.{is_within, perm_of, removed, status_of, with_new_owner, with_set, with_settings, without_set}
-use Rattle.ipc_model.specs.Decide.{OnQueues, OnSems, can_wait, get_waiting, is_negative, is_zero, decide, decide_alive, part_plan, plan, plan_alive, whole}
+use Rattle.ipc_model.specs.Controls.{is_within, perm_of, removed, status_of, with_new_owner, with_set, with_settings, without_segment, without_set}
+use Rattle.ipc_model.specs.Decide.{OnQueues, OnSems, OnShared, can_wait, get_waiting, is_negative, is_zero, decide, decide_alive, part_plan, plan, plan_alive, whole}
 use Rattle.ipc_model.specs.Step.{at_time}
 use Rattle.ipc_model.proofs.Alike.{blank, blank-found, blank-on, blank-order, proceeds-alike}
-use Rattle.ipc_model.proofs.Growing.{Follows-queues, Follows-sems, Grows, Grows-changed, Grows-gone, Grows-mapped, Grows-new, Grows-same, Keeps, Succeeds, Succeeds-same}
+use Rattle.ipc_model.proofs.Growing.{Follows-queues, Follows-sems, Follows-shared, Grows, Grows-changed, Grows-gone, Grows-mapped, Grows-new, Grows-same, Keeps, Leads, Leads-same, Succeeds, Succeeds-same}
+use Rattle.ipc_model.proofs.Leading.{Leads-attached, Leads-changed, Leads-detached, Leads-each, Leads-new, Leads-removed, Leads-written}
 use Rattle.ipc_model.proofs.Plans.{never-found, never-on, never_waits, proceeds-never, Ends, Ends-decision, Ends-found, Ends-on, Ends-order}
 use Rattle.std.specs.FinMap as finite
-use Rattle.std.proofs.lemmas.Option.{none-some}
+use Rattle.std.proofs.lemmas.Option.{none-some, same_Some}
+use Rattle.shm_seg.specs.declared.attachments.Attachment.{Attachment}
 use Rattle.ipc_call.specs.declared.perms.Perm.{Perm}
 
 -- a get: nothing in it waits, where nothing waits in the checks of its kind
@@ -96,6 +100,9 @@ module _ (s : State) (parked : List Waiting) (clock : ℕ) where
 never-sems : (s : State) (p : Plan Sems) → never_waits p ≡ true → never_waits (whole s (OnSems p)) ≡ true
 never-sems s p never = never-on (λ sems. record s { sems = sems }) p never
 
+never-shared : (s : State) (p : Plan Shared) → never_waits p ≡ true → never_waits (whole s (OnShared p)) ≡ true
+never-shared s p never = never-on (λ shared. record s { shared = shared }) p never
+
 never-plan : (s : State) (client : ℕ) (call : Call) → can_wait call ≡ false → never_waits (plan s client call) ≡ true
 unfolding part_plan
 never-plan s client (MsgGet key flags) never =
@@ -119,6 +126,18 @@ never-plan s client (GetPid id num) never = never-sems s (get_pid s.sems id num)
 never-plan s client (GetAll id) never = never-sems s (get_all s.sems id) (never-found (set_at s.sems id) BadId tt _ (λ set. refl))
 never-plan s client (SetVal id num value) never = never-sems s (set_value s.sems (caller s client) id num value) (never-found (set_at s.sems id) BadId tt _ (λ set. refl))
 never-plan s client (SetAll id values) never = never-sems s (set_all s.sems (caller s client) id values) (never-found (set_at s.sems id) BadId tt _ (λ set. refl))
+never-plan s client (ShmGet key size flags) never =
+    let who = caller s client in
+    let segments = s.shared.segments in
+    let getting = getting_segment s.limits client size in
+    never-shared s (get_segment s.limits s.shared who key size flags)
+    (never-on (λ segments. record s.shared { segments = segments }) (get segments who key flags getting)
+    (never-get segments getting (λ p waits. waits) (λ x p waits. waits) who key flags (object_of_key segments key)))
+never-plan s client (ShmAt id flags) never =
+    never-shared s (attach s.shared (caller s client) id flags) (never-found (segment_at s.shared id) BadId tt _ (λ segment. never-found (free_number s.shared.attached client) TooManyAttached tt _ (λ number. refl)))
+never-plan s client (ShmDt att) never = never-shared s (detach s.shared (caller s client) att) (never-found (attachment_at s.shared.attached client att) NotAttached tt _ (λ a. refl))
+never-plan s client (ShmRead att offset len) never = never-shared s (read_bytes s.shared (caller s client) att offset len) (never-found (behind s.shared client att) NotAttached tt _ (λ there. refl))
+never-plan s client (ShmWrite att offset bytes) never = never-shared s (write_bytes s.shared (caller s client) att offset bytes) (never-found (behind s.shared client att) NotAttached tt _ (λ there. refl))
 never-plan s client (IpcStat kind id) never = never-found (status_of s kind id) BadId tt _ (λ told. refl)
 never-plan s client (IpcSet kind id uid gid mode qbytes) never =
     let set : Settings = record { uid = uid; gid = gid; mode = mode; qbytes = qbytes } in
@@ -149,11 +168,16 @@ pub clock_alike : (s : State) (now client : ℕ) (call : Call) → proceeds (dec
 clock_alike s now client call = either s (at_time s now) client call refl (plan-alike s s.parked (at_time s now).clock client call) (can_wait call) refl
 
 module _ {X : Type 0} where
-  -- a get, of any kind
+  -- a get, of any kind: what holds of the table as it is, and with the new object, holds of what is left
+  module _ (t : Table (Object X)) (who : Caller) (key flags : ℕ) (getting : Getting X) (P : Table (Object X) → Type 0) (same : P t)
+      (new : (id : ℕ) → next_id t ≡ Some id → P (with_object t id (new_object who key flags getting.new))) where
+    Ends-getting : (there : Option (ℕ × Object X)) → Ends (λ answer u. P u) (get_found t who key flags getting there)
+    Ends-getting None = Ends-order (λ answer u. P u) getting.to_make _ (Ends-found (λ answer u. P u) (next_id t) NoSlot tt _ new)
+    Ends-getting (Some there) = Ends-order (λ answer u. P u) (getting.to_find there.1.contents) (plans.Grant (Id there.0) t) same
+
   Ends-get : (t : Table (Object X)) (who : Caller) (key flags : ℕ) (getting : Getting X) (there : Option (ℕ × Object X)) → Ends (λ answer u. Grows t u) (get_found t who key flags getting there)
-  Ends-get t who key flags getting None = Ends-order (λ answer u. Grows t u) getting.to_make _
-      (Ends-found (λ answer u. Grows t u) (next_id t) NoSlot tt _ (λ id is. Grows-new t id (new_object who key flags getting.new) is))
-  Ends-get t who key flags getting (Some there) = Ends-order (λ answer u. Grows t u) (getting.to_find there.1.contents) (plans.Grant (Id there.0) t) (Grows-same t)
+  Ends-get t who key flags getting there =
+      Ends-getting t who key flags getting (λ u. Grows t u) (Grows-same t) (λ id is. Grows-new t id (new_object who key flags getting.new) is) there
 
 -- the calls on messages
 Ends-send : (queues : Queues) (who : Caller) (id flags : ℕ) (message : Message) (queue : Option (Object Queue)) → Ends (λ answer u. Grows queues u) (send_found queues who id flags message queue)
@@ -180,35 +204,52 @@ Ends-removed s kinds.Queue id perm is =
 Ends-removed s kinds.Sems id perm is =
     let there = with_perm_of (finite.get s.sems.sets.objects id) perm is in
     (refl, Follows-sems s (without_set s.sems id) (Grows-gone s.sems.sets id there.0 there.1))
-Ends-removed s kinds.Segment id perm is = absurd (none-some perm is)
+Ends-removed s kinds.Segment id perm is =
+    let there = with_perm_of (segment_at s.shared id) perm is in
+    (refl, Follows-shared s (without_segment s.shared id) (Leads-removed s.shared id there.0 there.1))
 
 Succeeds-set : (s : State) (kind : Kind) (id : ℕ) (new : Settings) → Succeeds s Done (with_set s kind id new)
 Succeeds-set s kinds.Queue id new = (refl, Follows-queues s (changed s.queues id (with_settings s.clock new)) (Grows-changed s.queues id _))
 Succeeds-set s kinds.Sems id new = (refl, Follows-sems s (record s.sems { sets = changed s.sems.sets id (with_new_owner s.clock new) }) (Grows-changed s.sems.sets id _))
-Succeeds-set s kinds.Segment id new = Succeeds-same s Done
+Succeeds-set s kinds.Segment id new = (refl, Follows-shared s (record s.shared { segments = changed s.shared.segments id (with_new_owner s.clock new) }) (Leads-changed s.shared id (with_new_owner s.clock new) (λ x is. refl)))
 
 Ends-set : (s : State) (kind : Kind) (id : ℕ) (new : Settings) (within : Bool) → Ends (Succeeds s) (in_order (if within then [] else Needs Resource ∷ []) (plans.Grant Done (with_set s kind id new)))
 Ends-set s kind id new true = Succeeds-set s kind id new
 Ends-set s kind id new false = Succeeds-set s kind id new
 
 -- the plan of a part that keeps its part
+module _ {X : Type 0} (s : State) (put : X → State) (P : X → Type 0) (keeps : (x : X) → P x → Succeeds s Done (put x)) where
+  kept : (p : Plan X) → Ends (λ answer x. P x) p → Ends (λ answer x. Succeeds s answer (put x)) p
+  kept (check ⨾ rest) ends = kept rest ends
+  kept (plans.Refuse rule plain) ends = tt
+  kept plans.Wait ends = tt
+  kept (plans.Grant answer new) ends = keeps new ends
+
+  Ends-part : (p : Plan X) → Ends (λ answer x. P x) p → Ends (Succeeds s) (on_part put p)
+  Ends-part p ends = Ends-on put (Succeeds s) p (kept p ends)
+
 Ends-queues : (s : State) (p : Plan Queues) → Ends (λ answer u. Grows s.queues u) p → Ends (Succeeds s) (whole s (OnQueues p))
-Ends-queues s p ends = Ends-on (λ queues. record s { queues = queues }) (Succeeds s) p (kept p ends)
-  where
-    kept : (p : Plan Queues) → Ends (λ answer u. Grows s.queues u) p → Ends (λ answer u. Succeeds s answer (record s { queues = u })) p
-    kept (check ⨾ rest) ends = kept rest ends
-    kept (plans.Refuse rule plain) ends = tt
-    kept plans.Wait ends = tt
-    kept (plans.Grant answer new) ends = (refl, Follows-queues s new ends)
+Ends-queues s p ends = Ends-part s (λ queues. record s { queues = queues }) (λ u. Grows s.queues u) (λ u grows. (refl, Follows-queues s u grows)) p ends
 
 Ends-sems : (s : State) (p : Plan Sems) → Ends (λ answer u. Grows s.sems.sets u.sets) p → Ends (Succeeds s) (whole s (OnSems p))
-Ends-sems s p ends = Ends-on (λ sems. record s { sems = sems }) (Succeeds s) p (kept p ends)
+Ends-sems s p ends = Ends-part s (λ sems. record s { sems = sems }) (λ u. Grows s.sems.sets u.sets) (λ u grows. (refl, Follows-sems s u grows)) p ends
+
+Ends-shared : (s : State) (p : Plan Shared) → Ends (λ answer u. Leads s.shared u) p → Ends (Succeeds s) (whole s (OnShared p))
+Ends-shared s p ends = Ends-part s (λ shared. record s { shared = shared }) (λ u. Leads s.shared u) (λ u leads. (refl, Follows-shared s u leads)) p ends
+
+-- the segment behind an attachment is there
+behind-there : (a : Shared) (client number : ℕ) (of : Attachment) (segment : Object Segment) → behind a client number ≡ Some (of, segment) → segment_at a of.segment ≡ Some segment
+behind-there a client number of segment is = by (attachment_at a.attached client number) is
   where
-    kept : (p : Plan Sems) → Ends (λ answer u. Grows s.sems.sets u.sets) p → Ends (λ answer u. Succeeds s answer (record s { sems = u })) p
-    kept (check ⨾ rest) ends = kept rest ends
-    kept (plans.Refuse rule plain) ends = tt
-    kept plans.Wait ends = tt
-    kept (plans.Grant answer new) ends = (refl, Follows-sems s new ends)
+    there : (x : Attachment) (o : Option (Object Segment)) → segment_at a x.segment ≡ o → option_map {U = Attachment × Object Segment} (λ segment. (x, segment)) o ≡ Some (of, segment) → segment_at a of.segment ≡ Some segment
+    there x None at is = absurd (none-some (of, segment) is)
+    there x (Some y) at is =
+        let same = same_Some (x, y) (of, segment) is in
+        ap (λ (p : Attachment × Object Segment). segment_at a p.0.segment) (sym same) ∙ at ∙ ap (λ (p : Attachment × Object Segment). Some p.1) same
+
+    by : (o : Option Attachment) → option_and_then (λ x. option_map {U = Attachment × Object Segment} (λ segment. (x, segment)) (segment_at a x.segment)) o ≡ Some (of, segment) → segment_at a of.segment ≡ Some segment
+    by None is = absurd (none-some (of, segment) is)
+    by (Some x) is = there x (segment_at a x.segment) refl is
 
 -- each call
 Ends-plan : (s : State) (client : ℕ) (call : Call) → Ends (Succeeds s) (plan s client call)
@@ -231,12 +272,29 @@ Ends-plan s client (SemOp id ops) =
     Ends-order (λ answer u. Grows s.sems.sets u.sets) (trial_checks set.contents.semaphores (adj_of s.sems.undo client id) [] ops) (plans.Grant Done (operated s.sems who id ops set.contents)) (Grows-changed s.sems.sets id _)))
 Ends-plan s client (GetNcnt id num) = Ends-sems s (get_waiting s id num (is_negative num)) (Ends-found _ (set_at s.sems id) BadId tt _ (λ set is. Grows-same s.sems.sets))
 Ends-plan s client (GetZcnt id num) = Ends-sems s (get_waiting s id num (is_zero num)) (Ends-found _ (set_at s.sems id) BadId tt _ (λ set is. Grows-same s.sems.sets))
-Ends-plan s client Exit = (refl, record { queues = Grows-same s.queues; sets = Grows-mapped (exited s.sems (caller s client)) s.sems.sets; clients = refl; limits = refl })
+Ends-plan s client Exit = (refl, record { queues = Grows-same s.queues; sets = Grows-mapped (exited s.sems (caller s client)) s.sems.sets; shared = Leads-each shmseg 0 (caller s client) s.shared; clients = refl; limits = refl })
 Ends-plan s client (GetVal id num) = Ends-sems s (get_value s.sems id num) (Ends-found _ (set_at s.sems id) BadId tt _ (λ set is. Grows-same s.sems.sets))
 Ends-plan s client (GetPid id num) = Ends-sems s (get_pid s.sems id num) (Ends-found _ (set_at s.sems id) BadId tt _ (λ set is. Grows-same s.sems.sets))
 Ends-plan s client (GetAll id) = Ends-sems s (get_all s.sems id) (Ends-found _ (set_at s.sems id) BadId tt _ (λ set is. Grows-same s.sems.sets))
 Ends-plan s client (SetVal id num value) = Ends-sems s (set_value s.sems (caller s client) id num value) (Ends-found _ (set_at s.sems id) BadId tt _ (λ set is. Grows-changed s.sems.sets id _))
 Ends-plan s client (SetAll id values) = Ends-sems s (set_all s.sems (caller s client) id values) (Ends-found _ (set_at s.sems id) BadId tt _ (λ set is. Grows-changed s.sems.sets id _))
+Ends-plan s client (ShmGet key size flags) =
+    let who = caller s client in
+    let a = s.shared in
+    let put : Table (Object Segment) → Shared = λ segments. record a { segments = segments } in
+    let getting = getting_segment s.limits client size in
+    Ends-shared s (get_segment s.limits a who key size flags)
+    (Ends-on put (λ answer u. Leads a u) (get a.segments who key flags getting)
+    (Ends-getting a.segments who key flags getting (λ t. Leads a (put t)) (Leads-same a) (λ id is. Leads-new a id (new_object who key flags getting.new) refl is) (object_of_key a.segments key)))
+Ends-plan s client (ShmAt id flags) =
+    let who = caller s client in
+    Ends-shared s (attach s.shared who id flags) (Ends-found _ (segment_at s.shared id) BadId tt _ (λ segment there. Ends-found _ (free_number s.shared.attached client) TooManyAttached tt _ (λ number free. Leads-attached s.shared who id flags number segment there free)))
+Ends-plan s client (ShmDt att) =
+    let who = caller s client in
+    Ends-shared s (detach s.shared who att) (Ends-found _ (attachment_at s.shared.attached client att) NotAttached tt _ (λ a there. Leads-detached s.shared who att a there))
+Ends-plan s client (ShmRead att offset len) = Ends-shared s (read_bytes s.shared (caller s client) att offset len) (Ends-found _ (behind s.shared client att) NotAttached tt _ (λ there is. Leads-same s.shared))
+Ends-plan s client (ShmWrite att offset bytes) =
+    Ends-shared s (write_bytes s.shared (caller s client) att offset bytes) (Ends-found _ (behind s.shared client att) NotAttached tt _ (λ there is. Leads-written s.shared there.0.segment there.1 offset bytes (behind-there s.shared client att there.0 there.1 is)))
 Ends-plan s client (IpcStat kind id) = Ends-found (Succeeds s) (status_of s kind id) BadId tt _ (λ told is. Succeeds-same s (StatusAnswer told.1))
 Ends-plan s client (IpcSet kind id uid gid mode qbytes) =
     let new : Settings = record { uid = uid; gid = gid; mode = mode; qbytes = qbytes } in

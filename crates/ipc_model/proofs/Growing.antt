@@ -11,7 +11,8 @@ use Rattle.ipc_ids.specs.Table.{Table, IsSound, WasUsed, next_id, seq_of, with_o
 use Rattle.ipc_ids.proofs.Sound.{IsSound-change, IsSound-new, IsSound-without, WasUsed-with, WasUsed-without, next_id-fresh}
 use Rattle.ipc_objects.specs.declared.object.Object.{Object}
 use Rattle.ipc_objects.specs.Objects.{changed, with_perm}
-use Rattle.ipc_model.specs.State.{Queues, Sems, State}
+use Rattle.ipc_model.specs.State.{Queues, Sems, Shared, State}
+use Rattle.ipc_model.specs.Attached.{AreAttached}
 use Rattle.ipc_model.specs.Decision.{Decision}
 use Rattle.ipc_model.proofs.Plans.{IfGranted}
 
@@ -76,17 +77,33 @@ module _ {X : Type 0} where
   pub Grows-changed : (t : Table (Object X)) (id : ℕ) (change : Object X → Object X) → Grows t (changed t id change)
   Grows-changed t id change = Grows-perm t id change (finite.get t.objects id) refl
 
+-- the second segments with their attachments may come after the first
+pub record Leads (a b : Shared) : Type 0 where
+  pub grows : Grows a.segments b.segments
+  pub attached : AreAttached a → AreAttached b
+
+pub Leads-same : (a : Shared) → Leads a a
+Leads-same a = record { grows = Grows-same a.segments; attached = λ are. are }
+
+pub Leads-on : (a b c : Shared) → Leads a b → Leads b c → Leads a c
+Leads-on a b c first second = record {
+  grows = Grows-on a.segments b.segments c.segments first.grows second.grows;
+  attached = λ are. second.attached (first.attached are);
+}
+
 -- the second state may come after the first
 pub record Follows (s t : State) : Type 0 where
   pub queues : Grows s.queues t.queues
   pub sets : Grows s.sems.sets t.sems.sets
+  pub shared : Leads s.shared t.shared
   pub clients : t.clients ≡ s.clients
   pub limits : t.limits ≡ s.limits
 
-pub Follows-same : (s t : State) → t.queues ≡ s.queues → t.sems ≡ s.sems → t.clients ≡ s.clients → t.limits ≡ s.limits → Follows s t
-Follows-same s t queues sems clients limits = record {
+pub Follows-same : (s t : State) → t.queues ≡ s.queues → t.sems ≡ s.sems → t.shared ≡ s.shared → t.clients ≡ s.clients → t.limits ≡ s.limits → Follows s t
+Follows-same s t queues sems shared clients limits = record {
   queues = subst (λ (q : Queues). Grows s.queues q) (sym queues) (Grows-same s.queues);
   sets = subst (λ (u : Sems). Grows s.sems.sets u.sets) (sym sems) (Grows-same s.sems.sets);
+  shared = subst (λ (u : Shared). Leads s.shared u) (sym shared) (Leads-same s.shared);
   clients = clients;
   limits = limits;
 }
@@ -95,16 +112,20 @@ pub Follows-on : (s t u : State) → Follows s t → Follows t u → Follows s u
 Follows-on s t u first second = record {
   queues = Grows-on s.queues t.queues u.queues first.queues second.queues;
   sets = Grows-on s.sems.sets t.sems.sets u.sems.sets first.sets second.sets;
+  shared = Leads-on s.shared t.shared u.shared first.shared second.shared;
   clients = second.clients ∙ first.clients;
   limits = second.limits ∙ first.limits;
 }
 
--- the queues grow, or the sets, and nothing else
+-- the queues grow, or the sets, or the segments, and nothing else
 pub Follows-queues : (s : State) (q : Queues) → Grows s.queues q → Follows s (record s { queues = q })
-Follows-queues s q grows = record { queues = grows; sets = Grows-same s.sems.sets; clients = refl; limits = refl }
+Follows-queues s q grows = record { queues = grows; sets = Grows-same s.sems.sets; shared = Leads-same s.shared; clients = refl; limits = refl }
 
 pub Follows-sems : (s : State) (u : Sems) → Grows s.sems.sets u.sets → Follows s (record s { sems = u })
-Follows-sems s u grows = record { queues = Grows-same s.queues; sets = grows; clients = refl; limits = refl }
+Follows-sems s u grows = record { queues = Grows-same s.queues; sets = grows; shared = Leads-same s.shared; clients = refl; limits = refl }
+
+pub Follows-shared : (s : State) (u : Shared) → Leads s.shared u → Follows s (record s { shared = u })
+Follows-shared s u leads = record { queues = Grows-same s.queues; sets = Grows-same s.sems.sets; shared = leads; clients = refl; limits = refl }
 
 -- what is granted leaves the calls that wait, and its state may follow
 abbrev pub Succeeds : State → Answer → State → Type 0
@@ -114,4 +135,4 @@ abbrev pub Keeps : State → Decision State → Type 0
 Keeps s d = IfGranted (Succeeds s) d
 
 pub Succeeds-same : (s : State) (answer : Answer) → Succeeds s answer s
-Succeeds-same s answer = (refl, Follows-same s s refl refl refl refl)
+Succeeds-same s answer = (refl, Follows-same s s refl refl refl refl refl)

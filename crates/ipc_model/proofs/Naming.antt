@@ -4,7 +4,7 @@ use Rattle.std.specs.Prelude.{if◌then◌else◌, is_none}
 use Rattle.std.specs.List.{AllByRecursion, IsDistinct}
 use Rattle.std.proofs.lemmas.Bool.{true≢false, ne_eqb}
 use Rattle.ipc_call.specs.declared.calls.Call.{Call}
-use Rattle.ipc_call.specs.declared.calls.Call.TheVariants.{MsgGet, SemGet}
+use Rattle.ipc_call.specs.declared.calls.Call.TheVariants.{MsgGet, SemGet, ShmGet}
 use Rattle.ipc_call.specs.declared.calls.Kind.{Kind}
 use Rattle.ipc_call.specs.declared.calls.Kind.TheVariants as kinds
 use Rattle.ipc_call.specs.declared.replies.Answer.{Answer}
@@ -13,11 +13,11 @@ use Rattle.ipc_call.specs.declared.rules.Rule.TheVariants.{NoSlot}
 use Rattle.ipc_ids.specs.Table.{IsSound, Table, WasUsed, next_id, with_object}
 use Rattle.ipc_ids.proofs.Sound.{IsFresh, IsSound-empty, WasUsed-there, fresh-unused, get-insert-same, next_id-fresh}
 use Rattle.ipc_objects.specs.declared.object.Object.{Object}
-use Rattle.ipc_model.specs.State.{Caller, Queues, SemSet, Sems, State, caller, creds_at, opening}
+use Rattle.ipc_model.specs.State.{Caller, Queues, Segment, SemSet, Sems, Shared, State, caller, creds_at, opening}
 use Rattle.ipc_model.specs.Decision.{Decision, Grant, Outcome, outcome_of}
 use Rattle.ipc_model.specs.Plan.{found, on_part}
 use Rattle.ipc_model.specs.Plan as plans
-use Rattle.ipc_model.specs.Gets.{Getting, get, get_found, get_queue, get_set, getting_queue, getting_set, new_object, object_of_key}
+use Rattle.ipc_model.specs.Gets.{Getting, get, get_found, get_queue, get_segment, get_set, getting_queue, getting_segment, getting_set, new_object, object_of_key}
 use Rattle.ipc_model.specs.Decide.{decide, part_plan, plan}
 use Rattle.ipc_model.specs.Step.{Event, at_time, cancel, cancelled_by, settled, state_by, step}
 use Rattle.ipc_model.specs.History.{History}
@@ -31,7 +31,7 @@ use Rattle.ipc_model.proofs.Keeping.{Follows-cancelled_by, Follows-settled, Foll
 abbrev pub IsUsed : State → Kind → ℕ → Type 0
 IsUsed s kinds.Queue id = WasUsed s.queues id
 IsUsed s kinds.Sems id = WasUsed s.sems.sets id
-IsUsed s kinds.Segment id = ⊥
+IsUsed s kinds.Segment id = WasUsed s.shared.segments id
 
 -- an identifier that is answered with a new table is fresh, and names an object of it
 abbrev pub IsNew : {X : Type 0} → Table X → Answer → Table X → Type 0
@@ -69,6 +69,19 @@ Names-set s client key nsems flags few absent =
     (Ends-on put (λ answer new. IsNew s.sems.sets answer new.sems.sets) (get_set s.limits s.sems who key nsems flags)
     (Ends-on put_sets (λ answer u. IsNew s.sems.sets answer u.sets) p (Ends-get s.sems.sets few who key flags (getting_set nsems) (object_of_key s.sems.sets key) absent)))
 
+-- shmget, among the segments
+Names-segment : (s : State) (client key size flags : ℕ) → s.shared.segments.slots ≤ 32768 → is_none (object_of_key s.shared.segments key) ≡ true → IfGranted (λ answer new. IsNew s.shared.segments answer new.shared.segments) (decide s client (ShmGet key size flags))
+unfolding part_plan
+Names-segment s client key size flags few absent =
+    let put : Shared → State = λ shared. record s { shared = shared } in
+    let put_segments : Table (Object Segment) → Shared = λ segments. record s.shared { segments = segments } in
+    let who = caller s client in
+    let t = s.shared.segments in
+    let getting = getting_segment s.limits client size in
+    Ends-decision (creds_at s client) (λ answer new. IsNew t answer new.shared.segments) (plan s client (ShmGet key size flags))
+    (Ends-on put (λ answer new. IsNew t answer new.shared.segments) (get_segment s.limits s.shared who key size flags)
+    (Ends-on put_segments (λ answer u. IsNew t answer u.segments) (get t who key flags getting) (Ends-get t few who key flags getting (object_of_key t key) absent)))
+
 -- what holds of an identifier that an event made: it was never used before the event, and is used after it
 abbrev IsNamed : State → Kind → State → ℕ → Type 0
 IsNamed s kind new id = (IsUsed s kind id → ⊥) × IsUsed new kind id
@@ -92,9 +105,10 @@ module _ {X : Type 0} (table : State → Table X) (grows : (s t : State) → Fol
 pub record AreSound (s : State) : Type 0 where
   pub queues : IsSound s.queues
   pub sets : IsSound s.sems.sets
+  pub segments : IsSound s.shared.segments
 
 sound-later : (s t : State) → Follows s t → AreSound s → AreSound t
-sound-later s t follows sound = record { queues = follows.queues.sound sound.queues; sets = follows.sets.sound sound.sets }
+sound-later s t follows sound = record { queues = follows.queues.sound sound.queues; sets = follows.sets.sound sound.sets; segments = follows.shared.grows.sound sound.segments }
 
 named-by : (kind : Kind) (s : State) (client now : ℕ) (call : Call) → AreSound s
     → AllByRecursion (IsNamed s kind (step s (record { client = client; now = now; call = call })).state) (made_by kind s (record { client = client; now = now; call = call }))
@@ -108,12 +122,17 @@ named-by kinds.Sems s client now (SemGet key nsems flags) sound =
     let call = SemGet key nsems flags in
     all-where _ (is_none (object_of_key s.sems.sets key)) _ (λ absent.
     named-in (λ t. t.sems.sets) (λ s t follows. follows.sets) here (decide here client call) client call (Names-set here client key nsems flags sound.sets.few absent) (Keeps-decide here client call) sound.sets)
+named-by kinds.Segment s client now (ShmGet key size flags) sound =
+    let here = at_time s now in
+    let call = ShmGet key size flags in
+    all-where _ (is_none (object_of_key s.shared.segments key)) _ (λ absent.
+    named-in (λ t. t.shared.segments) (λ s t follows. follows.shared.grows) here (decide here client call) client call (Names-segment here client key size flags sound.segments.few absent) (Keeps-decide here client call) sound.segments)
 named-by kind s client now call sound = tt
 
 used-later : (kind : Kind) (s t : State) → Follows s t → AreSound s → (id : ℕ) → IsUsed s kind id → IsUsed t kind id
 used-later kinds.Queue s t follows sound id used = follows.queues.used sound.queues id used
 used-later kinds.Sems s t follows sound id used = follows.sets.used sound.sets id used
-used-later kinds.Segment s t follows sound id used = used
+used-later kinds.Segment s t follows sound id used = follows.shared.grows.used sound.segments id used
 
 all-append : (P : ℕ → Type 0) (xs ys : List ℕ) → AllByRecursion P xs → AllByRecursion P ys → AllByRecursion P (xs ++ ys)
 all-append P [] ys a b = b
@@ -168,4 +187,4 @@ distinct-from kind s (e ∷ es) sound =
 -- no identifier is given to two objects of one kind
 pub made-distinct : (kind : Kind) (h : History) → h.limits.slots ≤ 32768 → IsDistinct eqb (made kind h)
 made-distinct kind h few = distinct-from kind (opening h.limits h.clients) h.events
-    (record { queues = IsSound-empty h.limits.slots h.limits.first_seq few; sets = IsSound-empty h.limits.slots h.limits.first_seq few })
+    (record { queues = IsSound-empty h.limits.slots h.limits.first_seq few; sets = IsSound-empty h.limits.slots h.limits.first_seq few; segments = IsSound-empty h.limits.slots h.limits.first_seq few })

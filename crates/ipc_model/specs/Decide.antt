@@ -4,18 +4,19 @@ use Rattle.std.specs.List.{count_by}
 use Rattle.std.specs.Ordering.{int_eq}
 use Rattle.ipc_call.specs.declared.calls.Call.{Call}
 use Rattle.ipc_call.specs.declared.calls.Call.TheVariants.{MsgGet, MsgSnd, MsgRcv, SemGet, SemOp, GetVal, GetPid, GetNcnt, GetZcnt, GetAll}
-use Rattle.ipc_call.specs.declared.calls.Call.TheVariants.{SetVal, SetAll, IpcStat, IpcSet, IpcRmid, Interrupt, Exit}
+use Rattle.ipc_call.specs.declared.calls.Call.TheVariants.{SetVal, SetAll, ShmGet, ShmAt, ShmDt, ShmRead, ShmWrite, IpcStat, IpcSet, IpcRmid, Interrupt, Exit}
 use Rattle.ipc_call.specs.declared.calls.SemOper.{SemOper}
 use Rattle.ipc_call.specs.declared.rules.Rule.TheVariants.{Ended}
 use Rattle.ipc_call.specs.declared.calls.Kind.{Kind}
 use Rattle.ipc_call.specs.declared.calls.Kind.TheVariants as kinds
 use Rattle.ipc_perm.specs.Access.{Need}
-use Rattle.ipc_model.specs.State.{Caller, Queues, Sems, State, caller, creds_at, has_ended}
+use Rattle.ipc_model.specs.State.{Caller, Queues, Sems, Shared, State, caller, creds_at, has_ended}
 use Rattle.ipc_model.specs.Decision.{Decision}
 use Rattle.ipc_model.specs.Plan.{Passes, Plan, decision, needs_in, on_part, ◌⨾◌}
-use Rattle.ipc_model.specs.Gets.{get_queue, get_set}
+use Rattle.ipc_model.specs.Gets.{get_queue, get_segment, get_set}
 use Rattle.ipc_model.specs.Messages.{receive_message, send_message}
 use Rattle.ipc_model.specs.Semaphores.{get_all, get_pid, get_value, look, operate, set_all, set_value, stopping}
+use Rattle.ipc_model.specs.Segments.{attach, detach, read_bytes, write_bytes}
 use Rattle.ipc_model.specs.Processes.{exit, interrupt}
 use Rattle.ipc_model.specs.Controls.{remove_object, set_object, stat_object}
 
@@ -44,11 +45,13 @@ is_zero num o = o.num == num && int_eq o.op (pos 0)
 pub data PartPlan : Type 0 where
   OnQueues : (plan : Plan Queues) → PartPlan
   OnSems : (plan : Plan Sems) → PartPlan
+  OnShared : (plan : Plan Shared) → PartPlan
   OnState : (plan : Plan State) → PartPlan
 
 abbrev pub whole : State → PartPlan → Plan State
 whole s (OnQueues plan) = on_part (λ queues. record s { queues = queues }) plan
 whole s (OnSems plan) = on_part (λ sems. record s { sems = sems }) plan
+whole s (OnShared plan) = on_part (λ shared. record s { shared = shared }) plan
 whole s (OnState plan) = plan
 
 -- each call as a row of the table of checks
@@ -66,6 +69,11 @@ part_plan s who (GetZcnt id num) = OnSems (get_waiting s id num (is_zero num))
 part_plan s who (GetAll id) = OnSems (get_all s.sems id)
 part_plan s who (SetVal id num value) = OnSems (set_value s.sems who id num value)
 part_plan s who (SetAll id values) = OnSems (set_all s.sems who id values)
+part_plan s who (ShmGet key size flags) = OnShared (get_segment s.limits s.shared who key size flags)
+part_plan s who (ShmAt id flags) = OnShared (attach s.shared who id flags)
+part_plan s who (ShmDt att) = OnShared (detach s.shared who att)
+part_plan s who (ShmRead att offset len) = OnShared (read_bytes s.shared who att offset len)
+part_plan s who (ShmWrite att offset bytes) = OnShared (write_bytes s.shared who att offset bytes)
 part_plan s who (IpcStat kind id) = OnState (stat_object s kind id)
 part_plan s who (IpcSet kind id uid gid mode qbytes) =
     OnState (set_object s kind id (record { uid = uid; gid = gid; mode = mode; qbytes = qbytes }))

@@ -1,7 +1,7 @@
--- The gets: the object of a key, or a new one (msgget(2), semget(2), POSIX.1-2017 XSH). With a key that an object has:
+-- The gets: the object of a key, or a new one (msgget(2), semget(2), shmget(2), POSIX.1-2017 XSH). With a key that an object has:
 -- IPC_CREAT with IPC_EXCL is refused, then the rights that the flags ask for are needed. With any other key: IPC_CREAT
 -- is needed, and then a slot. Key 0 is IPC_PRIVATE: no object has it, and it needs no IPC_CREAT.
-use Rattle.std.specs.Prelude.{ℕ, ◌%◌, ◌==◌, nat_le, nat_lt, not, ◌&&◌, ◌||◌, List, [], ◌∷◌, length, replicate, Option, Some, None}
+use Rattle.std.specs.Prelude.{ℕ, ◌%◌, ◌==◌, nat_le, nat_lt, false, not, ◌&&◌, ◌||◌, List, [], ◌∷◌, length, replicate, Option, Some, None}
 use Rattle.ipc_call.specs.Flags.{has_flag, ipc_creat, ipc_excl}
 use Rattle.ipc_call.specs.declared.limits.Limits.{Limits}
 use Rattle.ipc_call.specs.declared.rules.Rule.TheVariants.{NoKey, KeyExists, NoSlot, BadSize}
@@ -13,7 +13,7 @@ use Rattle.ipc_ids.specs.Table.{Table, find_object, next_id, with_object}
 use Rattle.ipc_objects.specs.declared.object.Object.{Object}
 use Rattle.ipc_objects.specs.Objects.{has_key}
 use Rattle.sem_set.specs.Sets.{zeroed}
-use Rattle.ipc_model.specs.State.{Caller, Queue, Queues, SemSet, Sems}
+use Rattle.ipc_model.specs.State.{Caller, Queue, Queues, Segment, SemSet, Sems, Shared, pid_of}
 use Rattle.ipc_model.specs.Plan.{Check, Needs, Passes, Plan, Grant, found, in_order, on_part, ◌⨾◌}
 
 -- the caller is owner and creator
@@ -83,3 +83,26 @@ abbrev pub get_set : Limits → Sems → Caller → ℕ → ℕ → ℕ → Plan
 get_set limits sems who key nsems flags =
     Passes (nat_le nsems limits.sem_msl) BadSize _
     ⨾ on_part (λ sets. record sems { sets = sets }) (get sems.sets who key flags (getting_set nsems))
+
+-- shmget: a new segment has at least one byte and at most SHMMAX, each 0, and one that is found has as many
+abbrev pub new_segment : ℕ → ℕ → Segment
+new_segment client size = record {
+  bytes = replicate size 0;
+  is_marked = false;
+  creator = pid_of client;
+  last = 0;
+  attach_time = 0;
+  detach_time = 0;
+}
+
+abbrev pub getting_segment : Limits → ℕ → ℕ → Getting Segment
+getting_segment limits client size = record {
+  new = new_segment client size;
+  to_make = Passes (nat_lt 0 size && nat_le size limits.shm_max) BadSize _ ∷ [];
+  to_find = λ segment. Passes (nat_le size (length segment.bytes)) BadSize _ ∷ [];
+}
+
+abbrev pub get_segment : Limits → Shared → Caller → ℕ → ℕ → ℕ → Plan Shared
+get_segment limits shared who key size flags =
+    on_part (λ segments. record shared { segments = segments })
+    (get shared.segments who key flags (getting_segment limits who.client size))

@@ -1,4 +1,5 @@
 pub mod Access
+pub mod Attached
 pub mod Cancelled
 pub mod Controls
 pub mod Decide
@@ -9,6 +10,7 @@ pub mod Made
 pub mod Messages
 pub mod Plan
 pub mod Processes
+pub mod Segments
 pub mod Semaphores
 pub mod State
 pub mod Step

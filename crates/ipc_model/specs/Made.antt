@@ -1,7 +1,7 @@
 -- The identifiers of the objects that the events of a history created.
 use Rattle.std.specs.Prelude.{ℕ, Bool, false, List, [], ◌∷◌, ◌++◌, Option, Some, Ok, if◌then◌else◌, is_none}
 use Rattle.ipc_call.specs.declared.calls.Call.{Call}
-use Rattle.ipc_call.specs.declared.calls.Call.TheVariants.{MsgGet, SemGet}
+use Rattle.ipc_call.specs.declared.calls.Call.TheVariants.{MsgGet, SemGet, ShmGet}
 use Rattle.ipc_call.specs.declared.calls.Kind.{Kind}
 use Rattle.ipc_call.specs.declared.calls.Kind.TheVariants as kinds
 use Rattle.ipc_call.specs.declared.replies.Answer.TheVariants.{Id}
@@ -15,6 +15,7 @@ use Rattle.ipc_model.specs.History.{History}
 abbrev pub makes : State → Kind → Call → Bool
 makes s kinds.Queue (MsgGet key flags) = is_none (object_of_key s.queues key)
 makes s kinds.Sems (SemGet key nsems flags) = is_none (object_of_key s.sems.sets key)
+makes s kinds.Segment (ShmGet key size flags) = is_none (object_of_key s.shared.segments key)
 makes s kind call = false
 
 -- the identifier in an answer

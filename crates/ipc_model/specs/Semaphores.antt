@@ -3,7 +3,7 @@
 -- names one of its semaphores; then the operations are tried in their order. The values: the set is there; the caller may
 -- read or alter it; the semaphore is there, or as many values are given as it has semaphores; a value that is set is asked
 -- for its range first.
-use Rattle.std.specs.Prelude.{ℕ, ◌+◌, ◌==◌, nat_le, nat_lt, ℤ, pos, ◌+ℤ◌, ◌-ℤ◌, int_lt, Bool, true, false, not, ◌&&◌, List, [], ◌∷◌, ◌++◌, length, map, slice_get, slice_set, Option, option_map, unwrap_or, if◌then◌else◌}
+use Rattle.std.specs.Prelude.{ℕ, ◌==◌, nat_le, nat_lt, ℤ, pos, ◌+ℤ◌, ◌-ℤ◌, int_lt, Bool, true, not, ◌&&◌, List, [], ◌∷◌, ◌++◌, length, map, slice_get, slice_set, Option, option_map, unwrap_or, if◌then◌else◌}
 use Rattle.std.specs.List.{list_all, list_any}
 use Rattle.std.specs.Ordering.{int_eq}
 use Rattle.std.specs.FinMap as finite
@@ -14,7 +14,6 @@ use Rattle.ipc_call.specs.declared.replies.Answer.TheVariants.{Done, Value, Valu
 use Rattle.ipc_perm.specs.declared.access.Want.{Want}
 use Rattle.ipc_perm.specs.Access.{Permission, to_alter, to_read}
 use Rattle.ipc_ids.specs.Images.{map_entries}
-use Rattle.ipc_ids.specs.Table.{Table}
 use Rattle.ipc_objects.specs.declared.object.Object.{Object}
 use Rattle.ipc_objects.specs.Objects.{changed, with_contents}
 use Rattle.sem_set.specs.declared.sets.Semaphore.{Semaphore}
@@ -25,7 +24,7 @@ use Rattle.sem_set.specs.Exits.{any_from, undone_from}
 use Rattle.sem_set.specs.Met.{met_at}
 use Rattle.sem_set.specs.Sets.{is_value, pid_of as last_of, semvmx, set_to, value_of}
 use Rattle.sem_set.specs.Trials.{are_in, committed, is_semadj, must_wait, trial_on, undoes}
-use Rattle.sem_undo.specs.Entries.{Adjusted, Entries, adj_of, cleared, with_adj, without_client}
+use Rattle.sem_undo.specs.Entries.{Entries, adj_of, cleared, with_adj, without_client}
 use Rattle.ipc_model.specs.State.{Caller, SemSet, Sems, pid_of}
 use Rattle.ipc_model.specs.Plan.{Check, Needs, Passes, Plan, Proceeds, Grant, found, in_order, ◌⨾◌}
 

@@ -10,6 +10,7 @@ use Rattle.ipc_objects.specs.declared.object.Object.{Object}
 use Rattle.msg_queue.specs.declared.messages.Message.{Message}
 use Rattle.sem_set.specs.declared.sets.Semaphore.{Semaphore}
 use Rattle.sem_undo.specs.Entries.{Entries}
+use Rattle.shm_seg.specs.Attachments.{Attached, none_attached}
 
 -- what a message queue holds beside its permissions and msg_ctime (msqid_ds of msgctl(2)): messages, msg_qbytes,
 -- msg_lspid and msg_lrpid, msg_stime and msg_rtime
@@ -35,8 +36,23 @@ pub record Sems : Type 0 where
   pub sets : Table (Object SemSet)
   pub undo : Entries
 
--- the clients' credentials by number, the clients that ended, the clock in seconds, the queues, the semaphore sets, and
--- the calls that wait in order of arrival
+-- what a segment holds beside its permissions and shm_ctime (shmid_ds of shmctl(2)): its bytes, whether it is marked for
+-- removal, shm_cpid and shm_lpid, shm_atime and shm_dtime
+pub record Segment : Type 0 where
+  pub bytes : List ℕ
+  pub is_marked : Bool
+  pub creator : ℕ
+  pub last : ℕ
+  pub attach_time : ℕ
+  pub detach_time : ℕ
+
+-- the segments by identifier, and the attachments by client and number
+pub record Shared : Type 0 where
+  pub segments : Table (Object Segment)
+  pub attached : Attached
+
+-- the clients' credentials by number, the clients that ended, the clock in seconds, the queues, the semaphore sets, the
+-- segments with their attachments, and the calls that wait in order of arrival
 pub record State : Type 0 where
   pub limits : Limits
   pub clients : List Credentials
@@ -44,6 +60,7 @@ pub record State : Type 0 where
   pub clock : ℕ
   pub queues : Queues
   pub sems : Sems
+  pub shared : Shared
   pub parked : List Waiting
 
 -- a namespace before its first event
@@ -55,6 +72,7 @@ opening limits clients = record {
   clock = 0;
   queues = empty_table limits.slots limits.first_seq;
   sems = record { sets = empty_table limits.slots limits.first_seq; undo = finite.empty };
+  shared = record { segments = empty_table limits.slots limits.first_seq; attached = none_attached };
   parked = [];
 }
 

@@ -14,7 +14,7 @@ use Rattle.ipc_call.specs.declared.rules.Rule.TheVariants as rules
 use Rattle.ipc_creds.specs.Credentials.{Credentials}
 use Rattle.ipc_objects.specs.declared.object.Object.{Object}
 use Rattle.msg_queue.specs.declared.messages.Message.{Message}
-use Rattle.ipc_model.specs.State.{Caller, Queue, Queues, SemSet, Sems, State, caller, creds_at, has_ended}
+use Rattle.ipc_model.specs.State.{Caller, Queue, Queues, SemSet, Sems, Shared, State, caller, creds_at, has_ended}
 use Rattle.ipc_model.specs.Decision.{Decision, Grant, Outcome, Refuse, Wait, left_by, outcome_of, proceeds}
 use Rattle.ipc_model.specs.Plan.{Plan, decision, on_part, unless}
 use Rattle.ipc_perm.specs.Access.{Permission, denial}
@@ -23,7 +23,7 @@ use Rattle.ipc_model.specs.Semaphores.{operate, operate_found, set_at, wanted_by
 use Rattle.ipc_model.specs.Gets.{get_queue}
 use Rattle.ipc_model.specs.Messages.{queue_at, receive_message, send_found, send_message}
 use Rattle.ipc_model.specs.Decide as decisions
-use Rattle.ipc_model.specs.Decide.{OnSems, decide_alive as decide, part_plan, whole}
+use Rattle.ipc_model.specs.Decide.{OnSems, PartPlan, decide_alive as decide, part_plan, whole}
 use Rattle.ipc_model.specs.Step.{end_waiting, ended_by, state_by, without}
 use Rattle.ipc_model.proofs.Plans.{Ends-decision, Ends-found, IfGranted, left-on, outcome-on}
 use Rattle.ipc_model.proofs.Alike.{proceeds-on}
@@ -76,19 +76,34 @@ module _ (part : State → Caller → Plan Queues) (v s : State) (client : ℕ) 
   left-as : (queues : Queues) → queues ≡ left_by v.queues (decision who.creds (part v who)) → put_in v queues ≡ left_by s (decision (creds_at s client) (on_part (put_in s) (part s (caller s client))))
   left-as = left-by put_in (λ t. t.queues) (λ t. refl) part v s client who is called
 
--- a call on the sets
+-- a call of which the plan changes a part alone, with the arguments as the code reads them
+module _ {X : Type 0} (on : Plan X → PartPlan) (put : State → X → State) (pick : State → X) (same : (t : State) → put t (pick t) ≡ t) (wholly : (t : State) (p : Plan X) → whole t (on p) ≡ on_part (put t) p)
+    (part : State → Caller → Plan X) (v s : State) (client : ℕ) (who : Caller) (is : v ≡ s) (called : who ≡ caller v client)
+    (call read : Call) (back : call ≡ read) (planned : (t : State) → part_plan t (caller t client) read ≡ on (part t (caller t client))) where
+  decided : decide s client call ≡ decision (creds_at s client) (on_part (put s) (part s (caller s client)))
+  decided = ap (λ (k : Call). decide s client k) back ∙ ap (λ p. decision (creds_at s client) (whole s p)) (planned s) ∙ ap (λ p. decision (creds_at s client) p) (wholly s (part s (caller s client)))
+
+  pub part-outcome : outcome_of (decision who.creds (part v who)) ≡ outcome_of (decide s client call)
+  part-outcome = outcome-by put pick same part v s client who is called ∙ sym (ap (λ d. outcome_of d) decided)
+
+  pub part-told : {E : Type 0} (r : Result Outcome E) → IfOk r (λ o. outcome_of (decision who.creds (part v who)) ≡ Some o) → IfOk r (λ o. outcome_of (decide s client call) ≡ Some o)
+  part-told r = IfOk-map r (λ o. outcome_of (decision who.creds (part v who)) ≡ Some o) (λ o. outcome_of (decide s client call) ≡ Some o) (λ o told. sym part-outcome ∙ told)
+
+  pub part-left : (x : X) → x ≡ left_by (pick v) (decision who.creds (part v who)) → put v x ≡ left_by s (decide s client call)
+  part-left x left = left-by put pick same part v s client who is called x left ∙ sym (ap (λ d. left_by s d) decided)
+
+-- on the sets, and on the segments
 abbrev pub put_sems : State → Sems → State
 put_sems s sems = record s { sems = sems }
 
+abbrev pub put_shared : State → Shared → State
+put_shared s shared = record s { shared = shared }
 module _ (call : Call) (part : State → Caller → Plan Sems) (v s : State) (client : ℕ) (who : Caller) (is : v ≡ s) (called : who ≡ caller v client) (planned : (t : State) → part_plan t (caller t client) call ≡ OnSems (part t (caller t client))) where
-  decided : decide s client call ≡ decision (creds_at s client) (on_part (put_sems s) (part s (caller s client)))
-  decided = ap (λ p. decision (creds_at s client) (whole s p)) (planned s)
-
   pub sets-outcome : outcome_of (decision who.creds (part v who)) ≡ outcome_of (decide s client call)
-  sets-outcome = outcome-by put_sems (λ t. t.sems) (λ t. refl) part v s client who is called ∙ sym (ap (λ d. outcome_of d) decided)
+  sets-outcome = part-outcome OnSems put_sems (λ t. t.sems) (λ t. refl) (λ t p. refl) part v s client who is called call call refl planned
 
   pub sets-left : (sems : Sems) → sems ≡ left_by v.sems (decision who.creds (part v who)) → put_sems v sems ≡ left_by s (decide s client call)
-  sets-left sems left = left-by put_sems (λ t. t.sems) (λ t. refl) part v s client who is called sems left ∙ sym (ap (λ d. left_by s d) decided)
+  sets-left = part-left OnSems put_sems (λ t. t.sems) (λ t. refl) (λ t p. refl) part v s client who is called call call refl planned
 
 -- a decision without its answer, by how the call ends
 abbrev answered : Option Outcome → Option (Result ⊤ Rule)

@@ -5,7 +5,7 @@ use Rattle.std.proofs.lemmas.Bool.{false≢true}
 use Rattle.std.proofs.lemmas.List.{get_or_default}
 use Rattle.std.proofs.lemmas.Option.{none-some}
 use Rattle.ipc_call.specs.declared.calls.Call.{Call}
-use Rattle.ipc_call.specs.declared.calls.Call.TheVariants.{SemGet, GetVal, GetPid, GetAll, SetVal, SetAll}
+use Rattle.ipc_call.specs.declared.calls.Call.TheVariants.{SemGet, GetVal, GetPid, GetAll, SetVal, SetAll, ShmGet, ShmAt, ShmDt, ShmRead, ShmWrite}
 use Rattle.ipc_call.specs.declared.replies.Answer.{Answer}
 use Rattle.ipc_call.specs.declared.replies.Waiting.{Waiting}
 use Rattle.ipc_call.specs.declared.rules.Rule.{Rule}
@@ -16,7 +16,7 @@ use Rattle.ipc_model.specs.Decide.{decide_alive as decide}
 use Rattle.ipc_model.specs.Cancelled.{cancelled}
 use Rattle.ipc_model.specs.Step.{Moved, cancel, cancelled_by, state_by}
 use Rattle.ipc_model.specs.Decision.{without_answer}
-use Rattle.ipc_namespace.specs.Namespace.{is_on_sets, moved_alive as moved_by}
+use Rattle.ipc_namespace.specs.Namespace.{is_on_segments, is_on_sets, moved_alive as moved_by}
 use Rattle.ipc_namespace.proofs.Endings.{ended-none, left-none}
 
 refused-as : (d : Decision State) (rule : Rule) → without_answer d ≡ Some (Err rule) → d ≡ Refuse rule
@@ -35,7 +35,7 @@ uncancelled new call none = λ i. record {
   ended = ended-none (cancelled new call) new.parked (every (λ w. cancelled new call w ≡ None) new.parked none) i;
 }
 
--- no call on sets alone cancels another
+-- no call on sets or segments alone cancels another
 pub sets-cancel-none : (new : State) (call : Call) (w : Waiting) → is_on_sets call ≡ true → cancelled new call w ≡ None
 sets-cancel-none new (SemGet key nsems flags) w sets = refl
 sets-cancel-none new (GetVal id num) w sets = refl
@@ -44,6 +44,14 @@ sets-cancel-none new (GetAll id) w sets = refl
 sets-cancel-none new (SetVal id num value) w sets = refl
 sets-cancel-none new (SetAll id values) w sets = refl
 sets-cancel-none new call w sets = absurd (false≢true sets)
+
+pub segments-cancel-none : (new : State) (call : Call) (w : Waiting) → is_on_segments call ≡ true → cancelled new call w ≡ None
+segments-cancel-none new (ShmGet key size flags) w segments = refl
+segments-cancel-none new (ShmAt id flags) w segments = refl
+segments-cancel-none new (ShmDt att) w segments = refl
+segments-cancel-none new (ShmRead att offset len) w segments = refl
+segments-cancel-none new (ShmWrite att offset bytes) w segments = refl
+segments-cancel-none new call w segments = absurd (false≢true segments)
 
 moved-state : (s : State) (client : ℕ) (call : Call) (d : Decision State) → ((new : State) (w : Waiting) → cancelled new call w ≡ None)
     → cancelled_by (state_by s client call d) call d ≡ record { state = state_by s client call d; ended = [] }

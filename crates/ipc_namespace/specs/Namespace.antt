@@ -3,7 +3,7 @@ use Rattle.std.specs.Prelude.{◌≡◌, ⊤, Ok, Err, Result, ℕ, ◌+◌, ◌
 use Rattle.std.specs.List.{AllByRecursion, list_any}
 use Rattle.ipc_call.specs.declared.replies.Waiting.{Waiting}
 use Rattle.ipc_call.specs.declared.calls.Call.{Call}
-use Rattle.ipc_call.specs.declared.calls.Call.TheVariants.{MsgSnd, SemOp, SemGet, GetVal, GetPid, GetAll, SetVal, SetAll}
+use Rattle.ipc_call.specs.declared.calls.Call.TheVariants.{MsgSnd, SemOp, SemGet, GetVal, GetPid, GetAll, SetVal, SetAll, ShmGet, ShmAt, ShmDt, ShmRead, ShmWrite}
 use Rattle.ipc_call.specs.declared.replies.Ended.{Ended}
 use Rattle.ipc_call.specs.declared.rules.Rule.{Rule}
 use Rattle.ipc_call.specs.declared.rules.Rule.TheVariants.{Removed, Interrupted}
@@ -43,6 +43,15 @@ is_on_sets (GetAll id) = true
 is_on_sets (SetVal id num value) = true
 is_on_sets (SetAll id values) = true
 is_on_sets call = false
+
+-- a call on segments that isn't one of objects of any kind
+abbrev pub is_on_segments : Call → Bool
+is_on_segments (ShmGet key size flags) = true
+is_on_segments (ShmAt id flags) = true
+is_on_segments (ShmDt att) = true
+is_on_segments (ShmRead att offset len) = true
+is_on_segments (ShmWrite att offset bytes) = true
+is_on_segments call = false
 
 -- the operation waits for it at the semaphore of this number
 abbrev pub is_awaited : Awaited → ℕ → SemOper → Bool

@@ -1,13 +1,11 @@
-// The controls of objects of any kind, IPC_STAT, IPC_SET and IPC_RMID (msgctl(2), semctl(2), shmctl(2)), and the interrupt
-// of a waiting call.
+// The controls of objects of any kind, IPC_STAT, IPC_SET and IPC_RMID (msgctl(2), semctl(2), shmctl(2)).
 
-ghost use Rattle.std.specs.Prelude.{◌≡◌, ℕ, ◌+◌, ◌<◌, ◌≤◌, [], ⊤, length, vec_len, vec_capacity, Some, Ok, option_copied};
+ghost use Rattle.std.specs.Prelude.{◌≡◌, ℕ, ◌+◌, ◌<◌, ◌≤◌, [], ⊤, length, vec_len, vec_capacity, Some, IsSome};
 ghost use Rattle.ipc_model.specs.State.{creds_at};
 ghost use Rattle.ipc_model.specs.Decision.{left_by, outcome_of};
 ghost use Rattle.ipc_model.specs.Plan.{decision};
 ghost use Rattle.ipc_model.specs.Decide.{decide_alive as decision_on};
-ghost use Rattle.ipc_model.specs.Controls.{is_within as is_within_limit, perm_of as perm_in, remove_object, set_object, status_of as status_in};
-ghost use Rattle.ipc_model.specs.Processes.{interrupt as interrupt_by, process as process_of};
+ghost use Rattle.ipc_model.specs.Controls.{is_within as is_within_limit, perm_of as perm_in, remove_object, set_object, status_of as status_in, with_set};
 ghost use Rattle.ipc_namespace.specs.Namespace.{allowed_by, moved_alive as moved_by};
 ghost use Rattle.ipc_model.specs.Decision.{without_answer};
 
@@ -16,10 +14,10 @@ use crate::namespace::Namespace;
 use bitflags::Flags;
 use ipc_call::{Answer, Call, Ended, Kind, Outcome, Rule, Settings, Status};
 use ipc_creds::{Caps, Creds};
-use ipc_perm::{Perm, TO_READ, Verdict, decide, may_control, may_interrupt};
+use ipc_perm::{Perm, TO_READ, Verdict, decide, may_control};
 
 /// Nothing, or the rule that denies.
-fn allowed(verdict: Verdict) -> Result<(), Rule>
+pub(super) fn allowed(verdict: Verdict) -> Result<(), Rule>
     ensures { result ≡ allowed_by verdict }
 {
     match verdict {
@@ -56,7 +54,11 @@ impl Namespace {
                 let set = self.sets.get(id)?;
                 Some((set.perm, set_calls::status(set)))
             }
-            Kind::Segment => None,
+            Kind::Segment => {
+                let segment = self.segments.get(id)?;
+                let nattch = self.segments.nattch(id);
+                Some((segment.perm, segment_calls::status(segment, nattch)))
+            }
         }
     }
 
@@ -81,13 +83,21 @@ impl Namespace {
         ensures space { vec_capacity ended.old ≤ vec_capacity ended.new }
     {
         self.may_set(&self.clients[client as usize], kind, id, new)?;
+        self.put_settings(kind, id, new);
+        self.cancel(Cancelling::Denied(kind, id), ended);
+        Ok(Answer::Done)
+    }
+
+    /// IPC_SET, which was decided.
+    fn put_settings(&mut self, kind: Kind, id: u32, new: Settings)
+        requires { IsSome (perm_in self.old kind id) }
+        ensures { self.new ≡ with_set self.old kind id new }
+    {
         match kind {
             Kind::Queue => self.queues.set(id, new, self.clock),
             Kind::Sems => self.sets.set(id, new, self.clock),
-            Kind::Segment => unreachable!(),
+            Kind::Segment => self.segments.set(id, new, self.clock),
         }
-        self.cancel(Cancelling::Denied(kind, id), ended);
-        Ok(Answer::Done)
     }
 
     /// Whether IPC_SET is granted. Whether `qbytes` is given is asked before the identifier is looked up.
@@ -118,8 +128,8 @@ impl Namespace {
         }
     }
 
-    /// IPC_RMID: the object leaves, and its key is free. The waiting calls at it end; there is room for each in the list
-    /// of those that ended.
+    /// IPC_RMID: the object leaves, or is marked where it is a segment that is attached, and its key is free. The waiting
+    /// calls at it end; there is room for each in the list of those that ended.
     #[tactic(auto, unfolding(ipc_model::specs::Decide::part_plan))]
     pub(super) fn remove(
         &mut self,
@@ -142,7 +152,7 @@ impl Namespace {
         match kind {
             Kind::Queue => self.queues.remove(id),
             Kind::Sems => self.sets.remove(id),
-            Kind::Segment => unreachable!(),
+            Kind::Segment => self.segments.remove(id),
         }
         Ok(Answer::Done)
     }
@@ -157,44 +167,6 @@ impl Namespace {
         allowed(may_control(creds, &perm))
     }
 
-    /// An interrupt of the client of a process: its waiting call ends; there is room for it in the list of those that
-    /// ended.
-    #[tactic(auto, unfolding(ipc_model::specs::Decide::part_plan))]
-    pub(super) fn interrupt(&mut self, client: u32, pid: u32, ended: &mut Vec<Ended>) -> Outcome
-        requires known { client < length self.old.clients }
-        requires empty { ended.old.items ≡ [] }
-        requires space { length self.old.parked ≤ vec_capacity ended.old }
-        ensures outcome { outcome_of (decision_on self.old client (Call.Interrupt pid)) ≡ Some result }
-        ensures state { self.new ≡ (moved_by self.old client (Call.Interrupt pid)).state }
-        ensures ended { ended.new.items ≡ (moved_by self.old client (Call.Interrupt pid)).ended }
-        ensures few { vec_len ended.new + length self.new.parked ≡ length self.old.parked }
-        ensures space { vec_capacity ended.old ≤ vec_capacity ended.new }
-    {
-        self.may_end_wait(&self.clients[client as usize], pid)?;
-        self.cancel(Cancelling::Interrupted(pid), ended);
-        Ok(Answer::Done)
-    }
-
-    /// Whether an interrupt of the client of a process is granted.
-    fn may_end_wait(&self, creds: &Creds, pid: u32) -> Result<(), Rule>
-        ensures { without_answer (decision creds.now (interrupt_by self.now pid)) ≡ Some result }
-    {
-        let Some(target) = self.process(pid) else {
-            return Err(Rule::NoProcess);
-        };
-        allowed(may_interrupt(creds, target.euid()))
-    }
-
-    /// The credentials of the client of a process.
-    fn process(&self, pid: u32) -> Option<&Creds>
-        ensures { option_copied result ≡ process_of self.now pid }
-    {
-        if pid == 0 || self.has_ended(pid - 1) {
-            return None;
-        }
-        self.clients.get(pid as usize - 1)
-    }
-
     /// The permissions of the object of an identifier.
     fn perm_of(&self, kind: Kind, id: u32) -> Option<Perm>
         ensures { result ≡ perm_in self.now kind id }
@@ -202,7 +174,7 @@ impl Namespace {
         match kind {
             Kind::Queue => self.queues.perm(id),
             Kind::Sems => self.sets.perm(id),
-            Kind::Segment => None,
+            Kind::Segment => self.segments.perm(id),
         }
     }
 }

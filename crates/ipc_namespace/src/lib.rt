@@ -5,8 +5,10 @@
 mod callers;
 mod cancelling;
 mod control_calls;
+mod memory_calls;
 mod message_calls;
 mod namespace;
+mod process_calls;
 mod reserving;
 mod semaphore_calls;
 

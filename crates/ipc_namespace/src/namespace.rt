@@ -53,6 +53,7 @@ use ipc_call::{Answer, Call, Ended, Limits, Memory, Outcome, Rule, Settings};
 use ipc_creds::Creds;
 use ipc_parked::Parked;
 use queue_calls::Queues;
+use segment_calls::Segments;
 use set_calls::Sets;
 use std::marker::Model;
 
@@ -66,6 +67,7 @@ pub struct Namespace {
     pub(super) clock: u64,
     pub(super) queues: Queues,
     pub(super) sets: Sets,
+    pub(super) segments: Segments,
     pub(super) parked: Parked,
 }
 
@@ -90,6 +92,7 @@ impl Model for Namespace {
       clock = n.clock;
       queues = queues_of n.queues;
       sems = sems_of n.sets;
+      shared = n.segments;
       parked = waiting n.parked;
     } };
 
@@ -112,6 +115,7 @@ impl Namespace {
             clock: 0,
             queues: Queues::new(alloc, limits.slots, limits.first_seq),
             sets: Sets::new(alloc, limits.slots, limits.first_seq),
+            segments: Segments::new(alloc, limits.slots, limits.first_seq),
             parked: Parked::new(alloc),
         }
     }
@@ -286,6 +290,11 @@ impl Namespace {
             | Call::GetAll { .. }
             | Call::SetVal { .. }
             | Call::SetAll { .. } => Ok(Some(self.on_sets(client, call)?)),
+            Call::ShmGet { .. }
+            | Call::ShmAt { .. }
+            | Call::ShmDt { .. }
+            | Call::ShmRead { .. }
+            | Call::ShmWrite { .. } => Ok(Some(self.on_segments(client, call)?)),
             Call::IpcStat { kind, id } => Ok(Some(self.stat(client, kind, id))),
             Call::IpcSet {
                 kind,

@@ -1,4 +1,4 @@
-// The calls on semaphore sets, semget(2), semop(2) and semctl(2), and exit, in a namespace.
+// The calls on semaphore sets, semget(2), semop(2) and semctl(2), in a namespace.
 
 ghost use Rattle.std.specs.Prelude.{◌≡◌, ◌<◌, true, false, length, slice_get, IfOk, IfSome, OnOk, OnErr, Some};
 ghost use Rattle.std.specs.List.{count_by};
@@ -105,24 +105,6 @@ impl Namespace {
             None => false,
             Some(oper) => awaited.is_at(num, oper),
         }
-    }
-
-    /// exit: what the client's semops did with SEM_UNDO is undone, and it has ended. The error comes only where an
-    /// allocation fails, and then nothing has changed.
-    #[tactic(auto, unfolding(ipc_model::specs::Decide::part_plan))]
-    pub(super) fn exit(&mut self, client: u32) -> Result<Outcome, Memory>
-        requires known { client < length self.old.clients }
-        requires free { waits self.old client ≡ false }
-        ensures outcome { IfOk result (λ outcome. outcome_of (decision_on self.old client Call.Exit) ≡ Some outcome) }
-        ensures state { OnOk result (self.new ≡ left_by self.old (decision_on self.old client Call.Exit)) }
-        ensures parked { self.new.parked ≡ self.old.parked }
-        ensures err { OnErr result (self.new ≡ self.old) }
-    {
-        self.ended.reserve(1)?;
-        let who = caller_of(&self.clients, client, self.clock);
-        self.sets.exit(&who);
-        self.ended.push(client).unwrap();
-        Ok(Ok(Answer::Done))
     }
 
     /// A call on semaphore sets that doesn't wait. The error comes only where an allocation fails, and then nothing has

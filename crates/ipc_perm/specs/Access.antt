@@ -4,7 +4,7 @@ use Rattle.std.specs.Prelude.{Option, Some, None, if◌then◌else◌}
 use Rattle.std.specs.List.{list_any}
 use Rattle.ipc_call.specs.declared.rules.Rule.{Rule}
 use Rattle.ipc_call.specs.declared.rules.Rule.TheVariants.{OwnerBits, GroupBits, OtherBits}
-use Rattle.ipc_call.specs.declared.rules.Rule.TheVariants.{NotOwner, NeedsResource, NotSameUser}
+use Rattle.ipc_call.specs.declared.rules.Rule.TheVariants.{NotOwner, NeedsResource, NotSameUser, ReadOnly}
 use Rattle.ipc_call.specs.Flags.{has_flag}
 use Rattle.ipc_creds.specs.Credentials.{Credentials, is_in_group, has_capability}
 use Rattle.ipc_creds.specs.Credentials.{cap_ipc_owner, cap_sys_admin, cap_sys_resource}
@@ -93,12 +93,14 @@ pub data Need : Type 0 where
   Control : (perm : Perm) → Need
   Resource : Need
   SameUser : (euid : ℕ) → Need
+  Writable : (is_read_only : Bool) → Need
 
 -- the rule of a need that fails, and None where it is met
 abbrev pub denial : Credentials → Need → Option Rule
 denial c (Permission p want) = if permits c p want then None else Some (rule_of (class_of c p))
 denial c (Control p) = if controls c p then None else Some NotOwner
 denial c (SameUser euid) = if has_same_user c euid then None else Some NotSameUser
+denial c (Writable is_read_only) = if is_read_only then Some ReadOnly else None
 denial c Resource = if has_capability c cap_sys_resource then None else Some NeedsResource
 
 -- the verdict with its ground: a capability only where the class or the ownership fails

@@ -1,4 +1,4 @@
--- After every event no waiting call is ready, and each has the rights that it needs.
+-- After every event no waiting call is ready, each has the rights that it needs, and every marked segment has an attachment.
 use Rattle.std.proofs.Common.{◌≡◌, ℕ, ℤ, Bool, true, false, List, [], ◌∷◌, length, refl, sym, ap, ◌∙◌, cond, Option, Some, None}
 use Rattle.std.specs.Prelude.{not, pos, int_le, nat_le, nat_lt, option_map}
 use Rattle.std.specs.List.{AllByRecursion}
@@ -25,7 +25,9 @@ use Rattle.ipc_model.specs.Cancelled.{first_denial, or_later}
 use Rattle.ipc_model.specs.History.{History, run}
 use Rattle.ipc_model.specs.Step.{is_ready}
 use Rattle.ipc_model.specs.Waits.{AreNotReady, ArePermitted}
+use Rattle.ipc_model.specs.Attached.{AreAttached}
 use Rattle.ipc_model.proofs.Calls.{only_parkable}
+use Rattle.ipc_model.proofs.Keeping.{attached-run}
 use Rattle.ipc_namespace.proofs.Endings.{operator-needs, receiver-needs, sender-needs}
 use Rattle.ipc_namespace.proofs.Own.{found-none}
 use Rattle.ipc_space.proofs.Quiet.{IsQuiet, quiet-run}
@@ -99,3 +101,6 @@ run_not_ready h = not_ready (run h) (quiet-run h)
 
 pub run_permitted : (h : History) → ArePermitted (run h)
 run_permitted h = all-permitted (run h) (run h).parked (run_not_ready h)
+
+pub run_attached : (h : History) → AreAttached (run h).shared
+run_attached h = attached-run h

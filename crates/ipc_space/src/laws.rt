@@ -14,6 +14,7 @@ ghost use Rattle.ipc_model.specs.State.{is_waiting};
 ghost use Rattle.ipc_model.specs.History.{History, IsLegal, run, own, replies, with_event, next_step};
 ghost use Rattle.ipc_space.specs.Telling.{told_of, replies_in};
 ghost use Rattle.ipc_model.specs.Made.{made};
+ghost use Rattle.ipc_model.specs.Attached.{AreAttached};
 ghost use Rattle.ipc_model.specs.Waits.{AreNotReady, ArePermitted, WaitOnce};
 
 /// No identifier is given to two objects of one kind: of the objects of a kind that the events of a history
@@ -39,6 +40,12 @@ pub fn waiting_calls_are_permitted_and_not_ready()
 /// No client waits twice, after every legal history.
 pub fn no_client_waits_twice()
     ensures { (h : History) → IsLegal h → WaitOnce (run h) }
+{}
+
+/// After every history each segment that is marked for removal has an attachment: one that is removed goes at once where
+/// nobody has it attached, and else with its last attachment (IPC_RMID of shmctl(2)).
+pub fn marked_segments_are_attached()
+    ensures { (h : History) → AreAttached (run h).shared }
 {}
 
 /// A granted call's needs were met, and a denial is answered exactly where every check before it passed and its need

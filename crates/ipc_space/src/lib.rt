@@ -11,7 +11,7 @@ pub use bitflags::Flags;
 pub use ipc_call::{
     Answer, Call, Errno, IPC_CREAT, IPC_EXCL, IPC_NOWAIT, Items, JournalRow, Kind, Limits,
     MSG_EXCEPT, MSG_NOERROR, Memory, Mode, Outcome, Perm, QueueStatus, Reply, Rule, SEM_UNDO,
-    SemOper, SetStatus, Status, errno,
+    SHM_RDONLY, SegmentStatus, SemOper, SetStatus, Status, errno,
 };
 pub use ipc_creds::{Caps, Creds, GROUPS_MAX};
 pub use spaces::{Effects, Space};

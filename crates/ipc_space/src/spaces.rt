@@ -23,6 +23,7 @@ ghost use Rattle.ipc_call.specs.Limits.{are_in_range};
 ghost use Rattle.ipc_model.specs.State.{is_waiting as waits};
 ghost use Rattle.ipc_model.specs.Step.{Stepped};
 ghost use Rattle.ipc_model.specs.History.{run, rows_of, rows_by, IsLegal, with_event, next_step, told_own, told_ended, answered_row, rule_in};
+ghost use Rattle.ipc_model.specs.Attached.{AreAttached};
 ghost use Rattle.ipc_model.specs.Waits.{AreNotReady, ArePermitted, WaitOnce};
 ghost use Rattle.ipc_space.specs.Spaces.{own_reply, other_replies};
 
@@ -90,9 +91,10 @@ impl Space {
 
     /// Serves a call of a client at a time in seconds, as the next event. The client is one of the
     /// namespace, and has no call that waits. A call that waits ends no other. Afterwards no waiting call is
-    /// ready, each one's client has the rights that it needs, and no client waits twice. Memory (ENOMEM) comes
-    /// where a growth was refused, and then nothing has changed, the clock and the journal included.
-    #[tactic(auto, using(crate::proofs::Permitted::run_not_ready, crate::proofs::Permitted::run_permitted, crate::proofs::Once::waits_once))]
+    /// ready, each one's client has the rights that it needs, no client waits twice, and each segment that is marked for
+    /// removal has an attachment. Memory (ENOMEM) comes where a growth was refused, and then nothing has changed, the
+    /// clock and the journal included.
+    #[tactic(auto, using(crate::proofs::Permitted::run_not_ready, crate::proofs::Permitted::run_permitted, crate::proofs::Permitted::run_attached, crate::proofs::Once::waits_once))]
     pub fn apply(&mut self, client: u32, now: u64, call: Call) -> Result<Effects, Memory>
         requires known { client < length self.old.clients }
         requires free { waits (run self.old) client ≡ false }
@@ -107,6 +109,7 @@ impl Space {
         ensures not_ready { AreNotReady (run self.new) }
         ensures permitted { ArePermitted (run self.new) }
         ensures once { WaitOnce (run self.new) }
+        ensures attached { AreAttached (run self.new).shared }
         ensures err { OnErr result (self.new ≡ self.old) }
     {
         let most = self.namespace.most_ended();

@@ -1,11 +1,13 @@
 -- The calls that the words behind a client's name make; None where they aren't in the grammar.
-use Rattle.std.specs.Prelude.{ℕ, List, [], ◌∷◌, codes, bytes_eq, Option, Some, None, if◌then◌else◌, option_map}
+use Rattle.std.specs.Prelude.{ℕ, List, [], ◌∷◌, codes, bytes_eq, nat_eq, Option, Some, None, if◌then◌else◌, option_map}
+use Rattle.std.specs.List.{starts_with}
 use Rattle.ipc_call.specs.declared.calls.Call.{Call}
 use Rattle.ipc_call.specs.declared.calls.Call.TheVariants.{MsgGet, MsgSnd, MsgRcv, IpcStat, IpcSet, IpcRmid, Interrupt, Exit}
 use Rattle.ipc_call.specs.declared.calls.Kind.{Kind}
 use Rattle.ipc_call.specs.declared.calls.Kind.TheVariants.{Queue, Sems, Segment}
 use Rattle.ipc_text.specs.Grammar.{◌>>=◌}
 use Rattle.ipc_text.specs.Numbers.{number_32, number_64, signed_64}
+use Rattle.ipc_text.specs.Segments.{segment_call_of}
 use Rattle.ipc_text.specs.Sets.{set_call_of}
 use Rattle.ipc_text.specs.Texts.{text_of}
 
@@ -99,11 +101,16 @@ abbrev pub exit_of : List (List ℕ) → Option Call
 exit_of [] = Some Exit
 exit_of (more ∷ others) = None
 
--- the word of a call on a process or on a semaphore set, and its arguments
+-- the word of a call on a segment, which begins with shm, or on a semaphore set, and its arguments
+abbrev pub object_call_of : List ℕ → List (List ℕ) → Option Call
+object_call_of word words =
+    if starts_with nat_eq word (codes "shm") then segment_call_of word words else set_call_of word words
+
+-- the word of a call on a process, on a segment or on a semaphore set, and its arguments
 abbrev pub process_of : List ℕ → List (List ℕ) → Option Call
 process_of word words =
     if bytes_eq word (codes "interrupt") then interrupt_of words
-    else (if bytes_eq word (codes "exit") then exit_of words else set_call_of word words)
+    else (if bytes_eq word (codes "exit") then exit_of words else object_call_of word words)
 
 -- the word of a control of an object of any kind or of another call that isn't on a queue alone, and its arguments
 unfoldable pub control_of : List ℕ → List (List ℕ) → Option Call

@@ -19,6 +19,14 @@ each_of read (w ∷ ws) = do
   xs ← each_of read ws
   Some (x ∷ xs)
 
+-- what three words write together; None where they aren't three
+abbrev pub of_three : {A : Type 0} → (List ℕ → List ℕ → List ℕ → Option A) → List (List ℕ) → Option A
+of_three read [] = None
+of_three read (first ∷ []) = None
+of_three read (first ∷ second ∷ []) = None
+of_three read (first ∷ second ∷ third ∷ []) = read first second third
+of_three read (first ∷ second ∷ third ∷ more ∷ others) = None
+
 -- each of the words is a number
 abbrev pub numbers_32 : List (List ℕ) → Option (List ℕ)
 numbers_32 words = each_of number_32 words

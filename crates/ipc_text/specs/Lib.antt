@@ -5,6 +5,7 @@ pub mod Lines
 pub mod Names
 pub mod Numbers
 pub mod Rows
+pub mod Segments
 pub mod Sets
 pub mod Settings
 pub mod Texts

@@ -1,8 +1,9 @@
 -- The rows that a script prints (the project's own; the names of errors are those of errno(3)).
-use Rattle.std.specs.Prelude.{ℕ, ℤ, ◌-◌, ◌^◌, false, List, [], ◌++◌, codes, decimal, Option, Some, None, Ok, Err, unwrap_or, slice_get, flat_map}
-use Rattle.ipc_call.specs.declared.replies.Answer.TheVariants.{Id, Done, Message, Status, Value, Values}
-use Rattle.ipc_call.specs.declared.replies.Status.TheVariants.{Queue, Set}
+use Rattle.std.specs.Prelude.{ℕ, ℤ, ◌-◌, ◌^◌, false, List, [], ◌+◌, ◌++◌, if◌then◌else◌, codes, decimal, Option, Some, None, Ok, Err, unwrap_or, slice_get, flat_map}
+use Rattle.ipc_call.specs.declared.replies.Answer.TheVariants.{Attached, Bytes, Id, Done, Message, Status, Value, Values}
+use Rattle.ipc_call.specs.declared.replies.Status.TheVariants.{Queue, Segment, Set}
 use Rattle.ipc_call.specs.declared.replies.QueueStatus.{QueueStatus}
+use Rattle.ipc_call.specs.declared.replies.SegmentStatus.{SegmentStatus}
 use Rattle.ipc_call.specs.declared.replies.SetStatus.{SetStatus}
 use Rattle.ipc_call.specs.declared.perms.Perm.{Perm}
 use Rattle.std.specs.Fmt.{digits, format_spec, padded_integral, signed_decimal}
@@ -51,10 +52,14 @@ owners_text a =
     ++ (codes " gid "
     ++ (decimal a.gid ++ (codes " cuid " ++ (decimal a.cuid ++ (codes " cgid " ++ decimal a.cgid))))))
 
--- the word of a kind, and what the state of its objects begins with
+-- the word of a kind, and what the state of its objects begins with, with a mode
+abbrev pub owned_text : List ℕ → Perm → ℕ → List ℕ
+owned_text kind a mode =
+    kind ++ (codes " key " ++ (key_text a.key ++ (owners_text a ++ (codes " mode " ++ mode_text mode))))
+
+-- the same with the object's own mode
 abbrev pub perm_text : List ℕ → Perm → List ℕ
-perm_text kind a =
-    kind ++ (codes " key " ++ (key_text a.key ++ (owners_text a ++ (codes " mode " ++ mode_text a.mode))))
+perm_text kind a = owned_text kind a a.mode
 
 abbrev pub times_text : QueueStatus → List ℕ
 times_text q =
@@ -80,6 +85,31 @@ set_text s =
     ++ (decimal s.nsems
     ++ (codes " otime " ++ (decimal s.otime ++ (codes " ctime " ++ (decimal s.ctime ++ codes "\n"))))))
 
+-- SHM_DEST of the mode that shmctl(2) reports, 01000
+abbrev pub shm_dest : ℕ
+shm_dest = 512
+
+-- the mode of a segment, with SHM_DEST where it is marked
+abbrev pub segment_mode : SegmentStatus → ℕ
+segment_mode s = if s.is_marked then shm_dest + s.perm.mode else s.perm.mode
+
+abbrev pub memory_text : SegmentStatus → List ℕ
+memory_text s =
+    codes " size "
+    ++ (decimal s.size
+    ++ (codes " nattch "
+    ++ (decimal s.nattch ++ (codes " cpid " ++ (decimal s.cpid ++ (codes " lpid " ++ decimal s.lpid))))))
+
+abbrev pub segment_times_text : SegmentStatus → List ℕ
+segment_times_text s =
+    codes " atime "
+    ++ (decimal s.atime
+    ++ (codes " dtime " ++ (decimal s.dtime ++ (codes " ctime " ++ (decimal s.ctime ++ codes "\n")))))
+
+-- the state of a segment
+abbrev pub segment_text : SegmentStatus → List ℕ
+segment_text s = owned_text (codes "segment") s.perm (segment_mode s) ++ (memory_text s ++ segment_times_text s)
+
 abbrev pub value_text : ℕ → List ℕ
 value_text value = codes " " ++ decimal value
 
@@ -87,10 +117,17 @@ value_text value = codes " " ++ decimal value
 abbrev pub values_text : List ℕ → List ℕ
 values_text values = codes "values" ++ (flat_map value_text values ++ codes "\n")
 
+-- bytes, each by two hexadecimal digits, and the end of the row
+abbrev pub hex_text : List ℕ → List ℕ
+hex_text bytes = codes " x:" ++ (encode_lower bytes ++ codes "\n")
+
 -- a message: its type and the bytes of its text
 abbrev pub message_text : ℤ → List ℕ → List ℕ
-message_text mtype text =
-    codes "message " ++ (signed_decimal mtype ++ (codes " x:" ++ (encode_lower text ++ codes "\n")))
+message_text mtype text = codes "message " ++ (signed_decimal mtype ++ hex_text text)
+
+-- the bytes that were read
+abbrev pub bytes_text : List ℕ → List ℕ
+bytes_text bytes = codes "bytes" ++ hex_text bytes
 
 abbrev pub outcome_text : Outcome → List ℕ
 outcome_text (Ok (Id id)) = codes "id " ++ (decimal id ++ codes "\n")
@@ -98,8 +135,11 @@ outcome_text (Ok Done) = codes "ok\n"
 outcome_text (Ok (Message mtype text)) = message_text mtype text
 outcome_text (Ok (Status (Queue status))) = queue_text status
 outcome_text (Ok (Status (Set status))) = set_text status
+outcome_text (Ok (Status (Segment status))) = segment_text status
 outcome_text (Ok (Value value)) = codes "value " ++ (decimal value ++ codes "\n")
 outcome_text (Ok (Values values)) = values_text values
+outcome_text (Ok (Attached att)) = codes "attached " ++ (decimal att ++ codes "\n")
+outcome_text (Ok (Bytes bytes)) = bytes_text bytes
 outcome_text (Err rule) = error_text (error_of rule) (name_of_rule rule)
 
 -- PLACE.TURN NAME, with a space behind each

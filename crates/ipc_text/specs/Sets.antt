@@ -3,7 +3,7 @@ use Rattle.std.specs.Prelude.{ℕ, List, [], ◌∷◌, codes, bytes_eq, Option,
 use Rattle.ipc_call.specs.declared.calls.Call.{Call}
 use Rattle.ipc_call.specs.declared.calls.Call.TheVariants.{SemGet, SemOp, GetVal, GetPid, GetNcnt, GetZcnt, GetAll, SetVal, SetAll}
 use Rattle.ipc_call.specs.declared.calls.SemOper.{SemOper}
-use Rattle.ipc_text.specs.Grammar.{◌>>=◌, each_of}
+use Rattle.ipc_text.specs.Grammar.{◌>>=◌, each_of, of_three}
 use Rattle.ipc_text.specs.Numbers.{number_16, number_32, signed_16, signed_32}
 use Rattle.ipc_text.specs.Words.{fields_of}
 
@@ -20,14 +20,6 @@ setval_words id num value = do
   n ← number_32 num
   v ← signed_32 value
   Some (SetVal i n v)
-
--- the call of three words
-abbrev pub of_three : (List ℕ → List ℕ → List ℕ → Option Call) → List (List ℕ) → Option Call
-of_three read [] = None
-of_three read (first ∷ []) = None
-of_three read (first ∷ second ∷ []) = None
-of_three read (first ∷ second ∷ third ∷ []) = read first second third
-of_three read (first ∷ second ∷ third ∷ more ∷ others) = None
 
 -- KEY NSEMS FLAGS
 abbrev pub semget_of : List (List ℕ) → Option Call

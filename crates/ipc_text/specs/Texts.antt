@@ -1,4 +1,5 @@
--- The text of a message: t: and the bytes themselves, or x: and two hexadecimal digits for each (the project's own).
+-- The text of a message, or bytes for a segment: t: and the bytes themselves, or x: and two hexadecimal digits for each
+-- (the project's own).
 use Rattle.std.specs.Prelude.{ℕ, Bool, not, ◌&&◌, List, codes, nat_le, Option, Some, None, Ok, Err, Result, if◌then◌else◌}
 use Rattle.std.specs.List.{list_all}
 use Rattle.hex.specs.Hex.{decode_of}

@@ -1,12 +1,13 @@
 // The calls that the words behind a client's name make.
 
 ghost use Rattle.std.specs.Prelude.{◌≡◌, ◌≢◌, [], ◌∷◌, length, IfOk, MatchOption};
-ghost use Rattle.ipc_text.specs.Calls.{call_of as call_words, control_of as control_words, exit_of as exit_words, interrupt_of as interrupt_words, process_of as process_words, kind_named as kind_word, msgget_of as msgget_words, object_of as object_words};
+ghost use Rattle.ipc_text.specs.Calls.{call_of as call_words, control_of as control_words, exit_of as exit_words, interrupt_of as interrupt_words, process_of as process_words, kind_named as kind_word, msgget_of as msgget_words, object_call_of as object_call_words, object_of as object_words};
 ghost use Rattle.ipc_text.specs.Calls.{qbytes_of as qbytes_words, set_of as set_line, set_words as set_parts};
 ghost use Rattle.ipc_text.specs.Calls.{msgrcv_of as msgrcv_line, msgrcv_words as msgrcv_parts, msgsnd_of as msgsnd_line, msgsnd_words as msgsnd_parts};
 ghost use Rattle.ipc_text.specs.Words.{words_of};
 
 use crate::numbers::{number, number_32, signed_64};
+use crate::segments::segment_call_of;
 use crate::sets::set_call_of;
 use crate::texts::text_of;
 use crate::words::split_word;
@@ -15,7 +16,8 @@ use std::alloc::{AllocError, Global};
 
 /// The call that the words behind a client's name make; `None` where they make none. `AllocError` comes where
 /// memory was refused. The words are the project's own, with the names and the order of arguments of the man
-/// pages (msgget(2), msgop(2), msgctl(2), semget(2), semop(2), semctl(2), _exit(2)).
+/// pages (msgget(2), msgop(2), msgctl(2), semget(2), semop(2), semctl(2), shmget(2), shmop(2), shmctl(2),
+/// _exit(2)); those of `interrupt`, `shmread` and `shmwrite` are the project's own.
 #[tactic(auto, unfolding(crate::specs::Calls::call_of))]
 pub fn call_of(alloc: Global, words: &[u8]) -> Result<Option<Call>, AllocError>
     ensures { IfOk result (λ call. call ≡ call_words (words_of words.now)) }
@@ -44,7 +46,7 @@ fn control_of(alloc: Global, word: &[u8], words: &[u8]) -> Result<Option<Call>, 
     }
 }
 
-// A call on a process, or on a semaphore set.
+// A call on a process, or on one of the other objects.
 fn process_of(alloc: Global, word: &[u8], words: &[u8]) -> Result<Option<Call>, AllocError>
     ensures { IfOk result (λ call. call ≡ process_words word.now (words_of words.now)) }
 {
@@ -52,6 +54,17 @@ fn process_of(alloc: Global, word: &[u8], words: &[u8]) -> Result<Option<Call>, 
         Ok(interrupt_of(words))
     } else if word == b"exit".as_slice() {
         Ok(exit_of(words))
+    } else {
+        object_call_of(alloc, word, words)
+    }
+}
+
+// A call on a segment, or on a semaphore set.
+fn object_call_of(alloc: Global, word: &[u8], words: &[u8]) -> Result<Option<Call>, AllocError>
+    ensures { IfOk result (λ call. call ≡ object_call_words word.now (words_of words.now)) }
+{
+    if word.starts_with(b"shm") {
+        segment_call_of(alloc, word, words)
     } else {
         set_call_of(alloc, word, words)
     }

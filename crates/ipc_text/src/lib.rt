@@ -13,6 +13,7 @@ mod names;
 mod numbers;
 mod reasons;
 mod rows;
+mod segments;
 mod sets;
 mod settings;
 mod texts;

@@ -3,12 +3,17 @@
 ghost use Rattle.std.specs.Prelude.{◌≡◌, ◌++◌, OnOk, string_bytes};
 ghost use Rattle.ipc_text.specs.Rows.{bad_row, error_text, name_of_reason, outcome_text, reply_row, row_head, waits_row};
 ghost use Rattle.ipc_text.specs.Rows.{message_text, queue_text, perm_text, key_text, mode_text, owners_text, contents_text, times_text};
-ghost use Rattle.ipc_text.specs.Rows.{set_text, values_text};
+ghost use Rattle.ipc_text.specs.Rows.{bytes_text, hex_text, memory_text, owned_text, segment_mode as mode_with_mark, segment_text, segment_times_text, set_text, values_text};
 
 use crate::names::Name;
 use crate::reasons::Reason;
-use ipc_call::{Answer, Errno, Memory, Outcome, Perm, QueueStatus, Reply, SetStatus, Status};
+use ipc_call::{
+    Answer, Errno, Memory, Outcome, Perm, QueueStatus, Reply, SegmentStatus, SetStatus, Status,
+};
 use std::fmt::Write;
+
+/// Of the mode of a segment: it is removed with its last attachment (shmctl(2)).
+const SHM_DEST: u16 = 0o1000;
 
 /// Appends the row of a bad line, by its number from 1. `Memory` comes where a growth was refused, and a part
 /// of the row may then stand in `rows`; so with each of the printers. The rows are the project's own.
@@ -64,8 +69,11 @@ fn print_outcome(rows: &mut String, outcome: &Outcome) -> Result<(), Memory>
         Ok(Answer::Message { mtype, text }) => print_message(rows, *mtype, text.as_slice()),
         Ok(Answer::Status(Status::Queue(status))) => print_queue(rows, *status),
         Ok(Answer::Status(Status::Set(status))) => print_set(rows, *status),
+        Ok(Answer::Status(Status::Segment(status))) => print_segment(rows, *status),
         Ok(Answer::Value(value)) => write!(rows, "value {value}\n"),
         Ok(Answer::Values(values)) => print_values(rows, values.as_slice()),
+        Ok(Answer::Attached(att)) => write!(rows, "attached {att}\n"),
+        Ok(Answer::Bytes(bytes)) => print_bytes(rows, bytes.as_slice()),
         Err(rule) => print_error(rows, rule.error(), rule.name()),
     }
 }
@@ -73,9 +81,22 @@ fn print_outcome(rows: &mut String, outcome: &Outcome) -> Result<(), Memory>
 fn print_message(rows: &mut String, mtype: i64, text: &[u8]) -> Result<(), Memory>
     ensures { OnOk result (string_bytes rows.new ≡ string_bytes rows.old ++ message_text mtype text.now) }
 {
-    write!(rows, "message {mtype} x:")?;
-    let digits = hex::encode(*rows.allocator(), text)?;
-    write!(rows, "{digits}\n")
+    write!(rows, "message {mtype}")?;
+    print_hex(rows, text)
+}
+
+fn print_bytes(rows: &mut String, bytes: &[u8]) -> Result<(), Memory>
+    ensures { OnOk result (string_bytes rows.new ≡ string_bytes rows.old ++ bytes_text bytes.now) }
+{
+    rows.push_str("bytes")?;
+    print_hex(rows, bytes)
+}
+
+fn print_hex(rows: &mut String, bytes: &[u8]) -> Result<(), Memory>
+    ensures { OnOk result (string_bytes rows.new ≡ string_bytes rows.old ++ hex_text bytes.now) }
+{
+    let digits = hex::encode(*rows.allocator(), bytes)?;
+    write!(rows, " x:{digits}\n")
 }
 
 fn print_values(rows: &mut String, values: &[u16]) -> Result<(), Memory>
@@ -108,14 +129,67 @@ fn print_set(rows: &mut String, status: SetStatus) -> Result<(), Memory>
     write!(rows, " nsems {nsems} otime {otime} ctime {ctime}\n")
 }
 
+fn print_segment(rows: &mut String, status: SegmentStatus) -> Result<(), Memory>
+    ensures { OnOk result (string_bytes rows.new ≡ string_bytes rows.old ++ segment_text status) }
+{
+    let mode = segment_mode(status);
+    print_owned(rows, "segment", &status.perm, mode)?;
+    print_memory(rows, status)?;
+    print_segment_times(rows, status)
+}
+
+// The mode of a segment, with SHM_DEST where it is marked.
+fn segment_mode(status: SegmentStatus) -> u16
+    ensures { result ≡ mode_with_mark status }
+{
+    let mode = status.perm.mode.bits();
+    if status.is_marked {
+        SHM_DEST + mode
+    } else {
+        mode
+    }
+}
+
+fn print_memory(rows: &mut String, status: SegmentStatus) -> Result<(), Memory>
+    ensures { OnOk result (string_bytes rows.new ≡ string_bytes rows.old ++ memory_text status) }
+{
+    let SegmentStatus {
+        size,
+        nattch,
+        cpid,
+        lpid,
+        ..
+    } = status;
+    write!(rows, " size {size} nattch {nattch} cpid {cpid} lpid {lpid}")
+}
+
+fn print_segment_times(rows: &mut String, status: SegmentStatus) -> Result<(), Memory>
+    ensures { OnOk result (string_bytes rows.new ≡ string_bytes rows.old ++ segment_times_text status) }
+{
+    let SegmentStatus {
+        atime,
+        dtime,
+        ctime,
+        ..
+    } = status;
+    write!(rows, " atime {atime} dtime {dtime} ctime {ctime}\n")
+}
+
 fn print_perm(rows: &mut String, kind: &str, perm: &Perm) -> Result<(), Memory>
     ensures { OnOk result (string_bytes rows.new ≡ string_bytes rows.old ++ perm_text kind.now perm.now) }
+{
+    print_owned(rows, kind, perm, perm.mode.bits())
+}
+
+// What a state begins with, with this mode.
+fn print_owned(rows: &mut String, kind: &str, perm: &Perm, mode: u16) -> Result<(), Memory>
+    ensures { OnOk result (string_bytes rows.new ≡ string_bytes rows.old ++ owned_text kind.now perm.now mode) }
 {
     write!(rows, "{kind} key ")?;
     print_key(rows, perm.key)?;
     print_owners(rows, perm)?;
     rows.push_str(" mode ")?;
-    print_mode(rows, perm.mode.bits())
+    print_mode(rows, mode)
 }
 
 #[tactic(auto, unfolding(crate::specs::Rows::key_text))]

@@ -1,13 +1,13 @@
 // The calls on semaphore sets that words make.
 
-ghost use Rattle.std.specs.Prelude.{◌≡◌, ◌≢◌, [], ◌∷◌, length, IfOk, MatchOption};
+ghost use Rattle.std.specs.Prelude.{◌≡◌, IfOk};
 ghost use Rattle.ipc_text.specs.Sets.{getall_of as getall_words, oper_flags as flags_fields, oper_of as oper_word, report_of as report_words, semaphore_of as semaphore_words, set_call_of as set_call_words, value_call_of as value_call_words};
 ghost use Rattle.ipc_text.specs.Sets.{semget_of as semget_line, semget_words as semget_parts, setall_of as setall_words, semop_of as semop_words, setval_of as setval_line, setval_words as setval_parts};
 ghost use Rattle.ipc_text.specs.Words.{fields_of, words_of};
 
 use crate::lists::{Item, items_of};
 use crate::numbers::{number_16, number_32, signed_16, signed_32};
-use crate::words::{split_field, split_word};
+use crate::words::{split_field, split_word, three_words};
 use ipc_call::{Call, SemOper};
 use std::alloc::{AllocError, Global};
 
@@ -91,19 +91,6 @@ fn setval_words(id: &[u8], num: &[u8], value: &[u8]) -> Option<Call>
     let num = number_32(num)?;
     let value = signed_32(value)?;
     Some(Call::SetVal { id, num, value })
-}
-
-// The words, where they are three.
-fn three_words(words: &[u8]) -> Option<(&[u8], &[u8], &[u8])>
-    ensures { MatchOption result (length (words_of words.now) ≢ 3) (λ x. words_of words.now ≡ x.0.now ∷ x.1.now ∷ x.2.now ∷ []) }
-{
-    let (first, words) = split_word(words)?;
-    let (second, words) = split_word(words)?;
-    let (third, words) = split_word(words)?;
-    if split_word(words).is_some() {
-        return None;
-    }
-    Some((first, second, third))
 }
 
 fn setall_of(alloc: Global, words: &[u8]) -> Result<Option<Call>, AllocError>

@@ -1,4 +1,5 @@
-// The text of a message: `t:` and the bytes themselves, or `x:` and two hexadecimal digits for each.
+// The text of a message, or bytes for a segment: `t:` and the bytes themselves, or `x:` and two hexadecimal
+// digits for each.
 
 ghost use Rattle.std.specs.Prelude.{◌≡◌, IfOk, option_map};
 ghost use Rattle.std.specs.List.{list_all};

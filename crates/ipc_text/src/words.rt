@@ -1,6 +1,6 @@
 // The words of a line, and the fields of a word.
 
-ghost use Rattle.std.specs.Prelude.{◌≡◌, [], ◌∷◌, ◌==◌, ◌≤◌, ◌<◌, not, MatchOption, IfSome, length, position};
+ghost use Rattle.std.specs.Prelude.{◌≡◌, ◌≢◌, [], ◌∷◌, ◌==◌, ◌≤◌, ◌<◌, not, MatchOption, IfSome, length, position};
 ghost use Rattle.std.specs.List.{prefix_len};
 ghost use Rattle.ipc_text.specs.Words.{fields_of, is_blank as blank_byte, is_plain as plain_text, words_of};
 
@@ -44,6 +44,19 @@ fn word_len(text: &[u8]) -> usize
     ensures within { result ≤ length text.now }
 {
     text.iter().take_while(|byte| !is_blank(**byte)).count()
+}
+
+/// The words, where they are three.
+pub(crate) fn three_words(words: &[u8]) -> Option<(&[u8], &[u8], &[u8])>
+    ensures { MatchOption result (length (words_of words.now) ≢ 3) (λ x. words_of words.now ≡ x.0.now ∷ x.1.now ∷ x.2.now ∷ []) }
+{
+    let (first, words) = split_word(words)?;
+    let (second, words) = split_word(words)?;
+    let (third, words) = split_word(words)?;
+    if split_word(words).is_some() {
+        return None;
+    }
+    Some((first, second, third))
 }
 
 /// The first field, and what follows its separator.

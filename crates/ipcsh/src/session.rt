@@ -203,7 +203,7 @@ impl Session {
     {
         self.start(alloc)?;
         match self.apply(client, call) {
-            Ok(effects) => self.print_effects(client, &effects, rows),
+            Ok(effects) => self.print_effects(client, effects, rows),
             Err(_) => print_reply(rows, self.name_at(client), &Reply::Memory),
         }
     }
@@ -215,7 +215,8 @@ impl Session {
     {
         if self.space.is_none() {
             let clients = copies(alloc, &self.clients)?;
-            self.space = Some(Space::start(self.limits, clients)?);
+            let space = Space::start(self.limits, clients)?;
+            self.space.insert(space);
         }
         Ok(())
     }
@@ -239,8 +240,8 @@ impl Session {
         space.apply(client, self.time, call)
     }
 
-    fn print_effects(&self, client: u32, effects: &Effects, rows: &mut String) -> Result<(), Memory>
-        ensures { OnOk result (string_bytes rows.new ≡ string_bytes rows.old ++ effect_rows self.now.names client effects.now.place effects.now.own effects.now.others.items) }
+    fn print_effects(&self, client: u32, effects: Effects, rows: &mut String) -> Result<(), Memory>
+        ensures { OnOk result (string_bytes rows.new ≡ string_bytes rows.old ++ effect_rows self.now.names client effects.place effects.own effects.others.items) }
     {
         match &effects.own {
             Some(reply) => print_reply(rows, self.name_at(client), reply)?,

@@ -13,9 +13,9 @@ use Rattle.ipc_model.specs.Semaphores.{look, set_at}
 use Rattle.ipc_model.proofs.Plans.{Ends, Ends-decision, Ends-found, IfGranted, decision-on, on_whole, outcome-on}
 use Rattle.ipc_model.specs.Decide.{OnSems, decide_alive as decide, get_waiting, is_negative, is_zero, part_plan, whole}
 use Rattle.ipc_model.specs.Step.{Moved}
-use Rattle.ipc_namespace.specs.Namespace.{is_on_sets}
+use Rattle.ipc_namespace.specs.Namespace.{is_on_segments, is_on_sets}
 use Rattle.ipc_namespace.proofs.Calling.{put_sems}
-use Rattle.ipc_namespace.proofs.Moving.{moved-nothing, moved-to, none-ended, sets-cancel-none, state-left}
+use Rattle.ipc_namespace.proofs.Moving.{moved-nothing, moved-to, none-ended, segments-cancel-none, sets-cancel-none, state-left}
 use Rattle.ipc_namespace.proofs.namespace.Namespace.act_alive.Goals as goal
 
 pub returns-in_ok-msgget-in-MsgGet-clause-state : goal.returns-in_ok-msgget-in-MsgGet-clause-state
@@ -74,6 +74,20 @@ returns-in_ok-on_sets-in-SemGet-clause-ended c =
     let call = c.args.call in
     let sets : is_on_sets call ≡ true = search rules in
     c.requires.empty ∙ none-ended c.args.self.now c.args.client call call refl (λ new w. sets-cancel-none new call w sets)
+
+pub returns-in_ok-on_segments-in-ShmGet-clause-state : goal.returns-in_ok-on_segments-in-ShmGet-clause-state
+returns-in_ok-on_segments-in-ShmGet-clause-state c =
+    let s = c.args.self.now in
+    let call = c.args.call in
+    let segments : is_on_segments call ≡ true = search rules in
+    moved-to s c.args.client call call refl (λ new w. segments-cancel-none new call w segments) _ call refl
+    (c.in_ok-on_segments-in-ShmGet.ensures.state ∙ sym (state-left s c.args.client call (decide s c.args.client call) _ c.in_ok-on_segments-in-ShmGet.ensures.outcome))
+
+pub returns-in_ok-on_segments-in-ShmGet-clause-ended : goal.returns-in_ok-on_segments-in-ShmGet-clause-ended
+returns-in_ok-on_segments-in-ShmGet-clause-ended c =
+    let call = c.args.call in
+    let segments : is_on_segments call ≡ true = search rules in
+    c.requires.empty ∙ none-ended c.args.self.now c.args.client call call refl (λ new w. segments-cancel-none new call w segments)
 
 pub returns-in-SemOp-clause-state : goal.returns-in-SemOp-clause-state
 returns-in-SemOp-clause-state c =

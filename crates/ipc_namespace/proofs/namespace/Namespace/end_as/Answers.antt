@@ -37,7 +37,7 @@ pub returns-clause-state : goal.returns-clause-state
 returns-clause-state c =
     let n = c.self.inside in
     let b = (goal.at.returns-clause-state c).After-finish-call in
-    (λ i. record { limits = n.limits; clients = n.clients.items; ended = n.ended.items; clock = n.clock; queues = c.release_in.ensures.queues i; sems = sems_of n.sets; parked = (left b).rest i })
+    (λ i. record { limits = n.limits; clients = n.clients.items; ended = n.ended.items; clock = n.clock; queues = c.release_in.ensures.queues i; sems = sems_of n.sets; shared = n.segments; parked = (left b).rest i })
     ∙ ap (λ (s : State). without s c.args.client) c.self.view_is
 
 pub returns-clause-shorter : goal.returns-clause-shorter

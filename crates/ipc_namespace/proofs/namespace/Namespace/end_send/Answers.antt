@@ -60,14 +60,14 @@ caller_of-who-requires-clause-known c = rw c.deref.ensures.value (left (goal.at.
 
 -- the state without the call
 rest : After-caller_of-who → State
-rest c = let n = c.self.inside in record { limits = n.limits; clients = n.clients.items; ended = n.ended.items; clock = n.clock; queues = queues_of n.queues; sems = sems_of n.sets; parked = waiting c.finish.new.self }
+rest c = let n = c.self.inside in record { limits = n.limits; clients = n.clients.items; ended = n.ended.items; clock = n.clock; queues = queues_of n.queues; sems = sems_of n.sets; shared = n.segments; parked = waiting c.finish.new.self }
 
 rest_is : (c : After-caller_of-who) → rest c ≡ without c.args.self.now c.args.client
 unfolding rest
 rest_is c =
     let n = c.self.inside in
     let b = (goal.at.After-caller_of-who c).After-finish in
-    (λ i. record { limits = n.limits; clients = n.clients.items; ended = n.ended.items; clock = n.clock; queues = queues_of n.queues; sems = sems_of n.sets; parked = (left b).rest i })
+    (λ i. record { limits = n.limits; clients = n.clients.items; ended = n.ended.items; clock = n.clock; queues = queues_of n.queues; sems = sems_of n.sets; shared = n.segments; parked = (left b).rest i })
     ∙ ap (λ (s : State). without s c.args.client) c.self.view_is
 
 called : (c : After-caller_of-who) → c.caller_of-who.result ≡ caller (rest c) c.args.client

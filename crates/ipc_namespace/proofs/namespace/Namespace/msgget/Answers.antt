@@ -9,7 +9,7 @@ use Rattle.ipc_namespace.proofs.namespace.Namespace.msgget.Goals as goal
 use Rattle.ipc_namespace.proofs.namespace.Namespace.msgget.Goals.{After-msgget}
 
 view : After-msgget → State
-view c = let n = c.self.inside in record { limits = n.limits; clients = n.clients.items; ended = n.ended.items; clock = n.clock; queues = queues_of n.queues; sems = sems_of n.sets; parked = waiting n.parked }
+view c = let n = c.self.inside in record { limits = n.limits; clients = n.clients.items; ended = n.ended.items; clock = n.clock; queues = queues_of n.queues; sems = sems_of n.sets; shared = n.segments; parked = waiting n.parked }
 
 called : (c : After-msgget) → c.caller_of-who.result ≡ caller (view c) c.args.client
 unfolding view

@@ -16,7 +16,7 @@ use Rattle.ipc_namespace.proofs.namespace.Namespace.msgrcv.Goals as goal
 use Rattle.ipc_namespace.proofs.namespace.Namespace.msgrcv.Goals.{After-msgrcv}
 
 view : After-msgrcv → State
-view c = let n = c.self.inside in record { limits = n.limits; clients = n.clients.items; ended = n.ended.items; clock = n.clock; queues = queues_of n.queues; sems = sems_of n.sets; parked = waiting n.parked }
+view c = let n = c.self.inside in record { limits = n.limits; clients = n.clients.items; ended = n.ended.items; clock = n.clock; queues = queues_of n.queues; sems = sems_of n.sets; shared = n.segments; parked = waiting n.parked }
 
 called : (c : After-msgrcv) → c.caller_of-who.result ≡ caller (view c) c.args.client
 unfolding view

@@ -1,5 +1,5 @@
 use Rattle.std.proofs.Common.{◌≡◌, ℤ, List, refl, sym, ap, ◌∙◌, w32, rules, Some}
-use Rattle.std.specs.Prelude.{OnOk, Result, Ok, Err}
+use Rattle.std.specs.Prelude.{IfOk, OnOk, Result, Ok, Err}
 use mir.Val.{SFits, to_z, of_z}
 use Rattle.std.proofs.lemmas.Int.{to_z-of_z}
 use Rattle.std.proofs.lemmas.Result.{on_ok_weaker}
@@ -9,19 +9,19 @@ use Rattle.ipc_parked.specs.Parked.{waiting}
 use Rattle.queue_calls.specs.Held.{queues_of}
 use Rattle.set_calls.specs.Held.{Held, sems_of}
 use Rattle.ipc_model.specs.State.{Caller, Sems, State, caller}
-use Rattle.ipc_model.specs.Decision.{left_by, outcome_of}
+use Rattle.ipc_model.specs.Decision.{Outcome, left_by, outcome_of}
 use Rattle.ipc_model.specs.Gets.{get_set}
 use Rattle.ipc_model.specs.Semaphores.{get_all, get_pid, get_value, set_all, set_value}
 use Rattle.ipc_model.specs.Plan.{Plan, decision}
 use Rattle.ipc_model.specs.Decide.{OnSems, decide_alive as decide, part_plan}
-use Rattle.ipc_namespace.proofs.Calling.{IfOk-map, put_sems, sets-left, sets-outcome}
+use Rattle.ipc_namespace.proofs.Calling.{part-left, part-outcome, part-told, put_sems}
 use Rattle.sem_undo.specs.Entries.{Undone, row_len}
 use Rattle.ipc_namespace.proofs.Held.{held-same}
 use Rattle.ipc_namespace.proofs.namespace.Namespace.on_sets.Goals as goal
 use Rattle.ipc_namespace.proofs.namespace.Namespace.on_sets.Goals.{After-caller_of-who}
 
 view : After-caller_of-who → State
-view c = let n = c.self.inside in record { limits = n.limits; clients = n.clients.items; ended = n.ended.items; clock = n.clock; queues = queues_of n.queues; sems = sems_of n.sets; parked = waiting n.parked }
+view c = let n = c.self.inside in record { limits = n.limits; clients = n.clients.items; ended = n.ended.items; clock = n.clock; queues = queues_of n.queues; sems = sems_of n.sets; shared = n.segments; parked = waiting n.parked }
 
 called : (c : After-caller_of-who) → c.caller_of-who.result ≡ caller (view c) c.args.client
 unfolding view
@@ -32,24 +32,28 @@ anyway (Ok x) P p = p
 anyway (Err e) P p = tt
 
 -- the call, as the code reads it, and its plan
-module _ (c : After-caller_of-who) (same : Call) (is : c.args.call ≡ same) (part : State → Caller → Plan Sems) (planned : (t : State) → part_plan t (caller t c.args.client) same ≡ OnSems (part t (caller t c.args.client))) where
+module _ (c : After-caller_of-who) (read : Call) (is : c.args.call ≡ read) (part : State → Caller → Plan Sems) (planned : (t : State) → part_plan t (caller t c.args.client) read ≡ OnSems (part t (caller t c.args.client))) where
   abbrev who : Caller
   who = c.caller_of-who.result
 
   outcome : outcome_of (decision who.creds (part (view c) who)) ≡ outcome_of (decide c.args.self.now c.args.client c.args.call)
   unfolding view
-  outcome = sets-outcome same part (view c) c.args.self.now c.args.client who c.self.view_is (called c) planned ∙ ap (λ (k : Call). outcome_of (decide c.args.self.now c.args.client k)) (sym is)
+  outcome = part-outcome OnSems put_sems (λ t. t.sems) (λ t. refl) (λ t p. refl) part (view c) c.args.self.now c.args.client who c.self.view_is (called c) c.args.call read is planned
+
+  told : {E : Type 0} (r : Result Outcome E) → IfOk r (λ o. outcome_of (decision who.creds (part (view c) who)) ≡ Some o) → IfOk r (λ o. outcome_of (decide c.args.self.now c.args.client c.args.call) ≡ Some o)
+  unfolding view
+  told r = part-told OnSems put_sems (λ t. t.sems) (λ t. refl) (λ t p. refl) part (view c) c.args.self.now c.args.client who c.self.view_is (called c) c.args.call read is planned r
 
   left : (sems : Sems) → sems ≡ left_by (view c).sems (decision who.creds (part (view c) who)) → put_sems (view c) sems ≡ left_by c.args.self.now (decide c.args.self.now c.args.client c.args.call)
   unfolding view
-  left sems so = sets-left same part (view c) c.args.self.now c.args.client who c.self.view_is (called c) planned sems so ∙ ap (λ (k : Call). left_by c.args.self.now (decide c.args.self.now c.args.client k)) (sym is)
+  left = part-left OnSems put_sems (λ t. t.sems) (λ t. refl) (λ t p. refl) part (view c) c.args.self.now c.args.client who c.self.view_is (called c) c.args.call read is planned
 
 pub returns-in-SemGet-clause-outcome : goal.returns-in-SemGet-clause-outcome
 unfolding view part_plan
 returns-in-SemGet-clause-outcome c =
     let b = (goal.at.returns-in-SemGet-clause-outcome c).After-caller_of-who in
     let n = c.in-SemGet in
-    IfOk-map c.semget.result _ _ (λ o told. sym (outcome b (SemGet n.key n.nsems n.flags) n.is (λ t w. get_set t.limits t.sems w n.key n.nsems n.flags) (λ t. refl)) ∙ told) c.semget.ensures.outcome
+    told b (SemGet n.key n.nsems n.flags) n.is (λ t w. get_set t.limits t.sems w n.key n.nsems n.flags) (λ t. refl) c.semget.result c.semget.ensures.outcome
 
 pub returns-in-SemGet-clause-state : goal.returns-in-SemGet-clause-state
 unfolding view part_plan
@@ -91,7 +95,7 @@ unfolding view part_plan
 returns-in-GetAll-clause-outcome c =
     let b = (goal.at.returns-in-GetAll-clause-outcome c).After-caller_of-who in
     let n = c.in-GetAll in
-    IfOk-map c.getall.result _ _ (λ o told. sym (outcome b (GetAll n.id) n.is (λ t w. get_all t.sems n.id) (λ t. refl)) ∙ told) c.getall.ensures.outcome
+    told b (GetAll n.id) n.is (λ t w. get_all t.sems n.id) (λ t. refl) c.getall.result c.getall.ensures.outcome
 
 pub returns-in-GetAll-clause-state : goal.returns-in-GetAll-clause-state
 unfolding view part_plan

@@ -7,9 +7,6 @@ use Rattle.ipc_model.specs.Plan.{decision}
 use Rattle.ipc_model.specs.Decide.{decide_alive as decide, part_plan}
 use Rattle.ipc_model.specs.Controls.{set_object}
 use Rattle.ipc_model.specs.Decision.{without_answer}
-use Rattle.ipc_parked.specs.Parked.{waiting}
-use Rattle.set_calls.specs.Held.{Held, row_at}
-use Rattle.ipc_namespace.proofs.Held.{held-same}
 use Rattle.ipc_namespace.proofs.Moving.{creds-read, refused-ended, refused-outcome, refused-state}
 use Rattle.ipc_namespace.proofs.namespace.Namespace.set.Goals as goal
 use Rattle.ipc_namespace.proofs.namespace.Namespace.set.Goals.{After-from_residual, After-may_set}
@@ -36,8 +33,3 @@ returns-in_err-may_set-clause-state c =
 pub returns-in_err-may_set-clause-ended : goal.returns-in_err-may_set-clause-ended
 returns-in_err-may_set-clause-ended c =
     c.requires.empty ∙ refused-ended c.args.self.now c.args.client (IpcSet c.args.kind c.args.id c.args.new.uid c.args.new.gid c.args.new.mode c.args.new.qbytes) c.in_err-may_set.field-0.0 (refused c)
-
-pub invariant_of-self-in-Sems : goal.invariant_of-self-in-Sems
-invariant_of-self-in-Sems c =
-    let n = c.self.inside in
-    (c.self.invariant.0, c.self.invariant.1, c.self.invariant.2, held-same n.sets c.set-in-Sems.new.self n.ended.items (λ client set. ap (λ (h : Held). row_at h client set) c.set-in-Sems.ensures) (waiting n.parked) c.self.invariant.3)

@@ -60,7 +60,7 @@ pub caller_of-who-requires-clause-known : goal.caller_of-who-requires-clause-kno
 caller_of-who-requires-clause-known c = rw c.deref.ensures.value (of_client (goal.at.caller_of-who-requires-clause-known c).After-deref).0
 
 view : After-caller_of-who → State
-view c = let n = c.self.inside in record { limits = n.limits; clients = n.clients.items; ended = n.ended.items; clock = n.clock; queues = queues_of n.queues; sems = sems_of n.sets; parked = waiting n.parked }
+view c = let n = c.self.inside in record { limits = n.limits; clients = n.clients.items; ended = n.ended.items; clock = n.clock; queues = queues_of n.queues; sems = sems_of n.sets; shared = n.segments; parked = waiting n.parked }
 
 called : (c : After-caller_of-who) → c.caller_of-who.result ≡ caller (view c) c.in_ok-client.client
 unfolding view

@@ -10,7 +10,7 @@ use Rattle.ipc_space.specs.Spaces.{IsOfHistory, history_in, other_replies, own_r
 use Rattle.ipc_space.proofs.Alone.{waits_alone}
 use Rattle.ipc_space.proofs.Histories.{IsOfHistory-push, length-events_in, rows_by-entered}
 use Rattle.ipc_space.proofs.Once.{waits_once}
-use Rattle.ipc_space.proofs.Permitted.{run_not_ready, run_permitted}
+use Rattle.ipc_space.proofs.Permitted.{run_attached, run_not_ready, run_permitted}
 use Rattle.ipc_space.proofs.spaces.Space.apply.Goals as goal
 use Rattle.ipc_space.proofs.spaces.Space.apply.Goals.{After-tell_others}
 
@@ -68,6 +68,9 @@ returns-clause-not_ready c = run_not_ready (history_in c.serve.new.self c.tell_o
 
 pub returns-clause-permitted : goal.returns-clause-permitted
 returns-clause-permitted c = run_permitted (history_in c.serve.new.self c.tell_others.new.journal.rows)
+
+pub returns-clause-attached : goal.returns-clause-attached
+returns-clause-attached c = run_attached (history_in c.serve.new.self c.tell_others.new.journal.rows)
 
 pub returns-clause-once : goal.returns-clause-once
 returns-clause-once c = waits_once (history_in c.serve.new.self c.tell_others.new.journal.rows) (longer (goal.at.returns-clause-once c).After-tell_others).0.legal

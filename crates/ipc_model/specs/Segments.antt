@@ -1,0 +1,110 @@
+-- shmat, shmdt, and the bytes behind an attachment (shmop(2); that an attachment is a number, with reads and writes at
+-- offsets in the place of mapped memory, is the project's own). shmat: the segment is there; the caller may read it, and
+-- alter it without SHM_RDONLY; it has a number free. The others: the caller has the attachment; a write asks that it isn't
+-- read-only; a read or write is all within the segment.
+use Rattle.std.specs.Prelude.{ℕ, zero, suc, ◌+◌, ◌==◌, true, not, ◌&&◌, List, length, Option, Some, None, option_and_then, option_map, if◌then◌else◌}
+use Rattle.std.specs.FinMap as finite
+use Rattle.ipc_call.specs.Flags.{has_flag, shm_rdonly}
+use Rattle.ipc_call.specs.declared.rules.Rule.TheVariants.{BadId, NotAttached, OutOfSegment, TooManyAttached}
+use Rattle.ipc_call.specs.declared.replies.Answer.TheVariants.{Attached as AttachedAnswer, Bytes, Done}
+use Rattle.ipc_perm.specs.declared.access.Want.{Want}
+use Rattle.ipc_perm.specs.Access.{Permission, Writable}
+use Rattle.ipc_ids.specs.Table.{Table, without_object}
+use Rattle.ipc_objects.specs.declared.object.Object.{Object}
+use Rattle.ipc_objects.specs.Objects.{with_contents}
+use Rattle.shm_seg.specs.declared.attachments.Attachment.{Attachment}
+use Rattle.shm_seg.specs.Attachments.{Attached, attach_count, attachment_at, free_number, shmseg, with_attachment, without_attachment}
+use Rattle.shm_seg.specs.Segments.{lies_within, overwritten, part_of}
+use Rattle.ipc_model.specs.State.{Caller, Segment, Shared, pid_of}
+use Rattle.ipc_model.specs.Plan.{Needs, Passes, Plan, Grant, found, ◌⨾◌}
+
+abbrev pub segment_at : Shared → ℕ → Option (Object Segment)
+segment_at shared id = finite.get shared.segments.objects id
+
+-- the rights that an attachment needs
+abbrev pub wanted_to_attach : ℕ → Want
+wanted_to_attach flags = record { read = true; alter = not (has_flag flags shm_rdonly) }
+
+-- shm_lpid and shm_atime are set
+abbrev pub attached_by : Caller → Segment → Segment
+attached_by who segment = record segment { last = pid_of who.client; attach_time = who.now }
+
+abbrev pub with_attached : Shared → Caller → ℕ → ℕ → Segment → ℕ → Shared
+with_attached shared who id flags segment number = record {
+  segments = with_contents shared.segments id (attached_by who segment);
+  attached = with_attachment shared.attached who.client number
+      (record { segment = id; is_read_only = has_flag flags shm_rdonly });
+}
+
+-- shmat: the least number that is free
+abbrev pub attach : Shared → Caller → ℕ → ℕ → Plan Shared
+attach shared who id flags = found (segment_at shared id) BadId _ (λ segment.
+    Needs (Permission segment.perm (wanted_to_attach flags))
+    ⨾ found (free_number shared.attached who.client) TooManyAttached _ (λ number.
+    Grant (AttachedAnswer number) (with_attached shared who id flags segment.contents number)))
+
+-- shm_lpid and shm_dtime are set
+abbrev pub detached_by : Caller → Segment → Segment
+detached_by who segment = record segment { last = pid_of who.client; detach_time = who.now }
+
+-- after one of its attachments has gone: a marked segment goes with its last
+abbrev pub left_segments : Table (Object Segment) → Attached → Caller → ℕ → Option (Object Segment)
+    → Table (Object Segment)
+left_segments segments attached who id None = segments
+left_segments segments attached who id (Some segment) =
+    if segment.contents.is_marked && attach_count attached id == 0
+    then without_object segments id
+    else with_contents segments id (detached_by who segment.contents)
+
+-- the attachments are what is left of them
+abbrev pub left_shared : Table (Object Segment) → Attached → Caller → ℕ → Shared
+left_shared segments attached who id = record {
+  segments = left_segments segments attached who id (finite.get segments.objects id);
+  attached = attached;
+}
+
+-- what the caller has attached under the number is detached, where there is anything
+abbrev pub without_number : Shared → Caller → ℕ → Option Attachment → Shared
+without_number shared who number None = shared
+without_number shared who number (Some a) =
+    left_shared shared.segments (without_attachment shared.attached who.client number) who a.segment
+
+abbrev pub detached : Shared → Caller → ℕ → Shared
+detached shared who number =
+    without_number shared who number (attachment_at shared.attached who.client number)
+
+-- shmdt
+abbrev pub detach : Shared → Caller → ℕ → Plan Shared
+detach shared who number = found (attachment_at shared.attached who.client number) NotAttached _ (λ a.
+    Grant Done (without_number shared who number (Some a)))
+
+-- so many numbers of the caller, from this one on
+unfoldable pub detached_from : ℕ → ℕ → Caller → Shared → Shared
+detached_from zero number who shared = shared
+detached_from (suc left) number who shared = detached_from left (number + 1) who (detached shared who number)
+
+-- exit: all, the least number first
+abbrev pub after_detaches : Shared → Caller → Shared
+after_detaches shared who = detached_from shmseg 0 who shared
+
+-- what a client has attached under a number, with its segment
+abbrev pub behind : Shared → ℕ → ℕ → Option (Attachment × Object Segment)
+behind shared client number =
+    option_and_then (λ a. option_map (λ segment. (a, segment)) (segment_at shared a.segment))
+    (attachment_at shared.attached client number)
+
+abbrev pub read_bytes : Shared → Caller → ℕ → ℕ → ℕ → Plan Shared
+read_bytes shared who number offset len = found (behind shared who.client number) NotAttached _ (λ there.
+    Passes (lies_within offset len there.1.contents.bytes) OutOfSegment _
+    ⨾ Grant (Bytes (part_of offset len there.1.contents.bytes)) shared)
+
+abbrev pub with_bytes : Shared → ℕ → Segment → ℕ → List ℕ → Shared
+with_bytes shared id segment offset new = record shared {
+  segments = with_contents shared.segments id (record segment { bytes = overwritten offset new segment.bytes });
+}
+
+abbrev pub write_bytes : Shared → Caller → ℕ → ℕ → List ℕ → Plan Shared
+write_bytes shared who number offset new = found (behind shared who.client number) NotAttached _ (λ there.
+    Needs (Writable there.0.is_read_only)
+    ⨾ Passes (lies_within offset (length new) there.1.contents.bytes) OutOfSegment _
+    ⨾ Grant Done (with_bytes shared there.0.segment there.1.contents offset new))

@@ -1,0 +1,76 @@
+// The calls on processes: the interrupt of a waiting call, and exit (_exit(2)).
+
+ghost use Rattle.std.specs.Prelude.{◌≡◌, ◌+◌, ◌<◌, ◌≤◌, [], ⊤, false, length, vec_len, vec_capacity, Some, Ok, IfOk, OnOk, OnErr, option_copied};
+ghost use Rattle.ipc_model.specs.State.{is_waiting as waits};
+ghost use Rattle.ipc_model.specs.Decision.{left_by, outcome_of, without_answer};
+ghost use Rattle.ipc_model.specs.Plan.{decision};
+ghost use Rattle.ipc_model.specs.Decide.{decide_alive as decision_on};
+ghost use Rattle.ipc_model.specs.Processes.{interrupt as interrupt_by, process as process_of};
+ghost use Rattle.ipc_namespace.specs.Namespace.{moved_alive as moved_by};
+
+use crate::callers::caller_of;
+use crate::cancelling::Cancelling;
+use crate::control_calls::allowed;
+use crate::namespace::Namespace;
+use ipc_call::{Answer, Call, Ended, Memory, Outcome, Rule};
+use ipc_creds::Creds;
+use ipc_perm::may_interrupt;
+
+impl Namespace {
+    /// An interrupt of the client of a process: its waiting call ends; there is room for it in the list of those that
+    /// ended.
+    #[tactic(auto, unfolding(ipc_model::specs::Decide::part_plan))]
+    pub(super) fn interrupt(&mut self, client: u32, pid: u32, ended: &mut Vec<Ended>) -> Outcome
+        requires known { client < length self.old.clients }
+        requires empty { ended.old.items ≡ [] }
+        requires space { length self.old.parked ≤ vec_capacity ended.old }
+        ensures outcome { outcome_of (decision_on self.old client (Call.Interrupt pid)) ≡ Some result }
+        ensures state { self.new ≡ (moved_by self.old client (Call.Interrupt pid)).state }
+        ensures ended { ended.new.items ≡ (moved_by self.old client (Call.Interrupt pid)).ended }
+        ensures few { vec_len ended.new + length self.new.parked ≡ length self.old.parked }
+        ensures space { vec_capacity ended.old ≤ vec_capacity ended.new }
+    {
+        self.may_end_wait(&self.clients[client as usize], pid)?;
+        self.cancel(Cancelling::Interrupted(pid), ended);
+        Ok(Answer::Done)
+    }
+
+    /// Whether an interrupt of the client of a process is granted.
+    fn may_end_wait(&self, creds: &Creds, pid: u32) -> Result<(), Rule>
+        ensures { without_answer (decision creds.now (interrupt_by self.now pid)) ≡ Some result }
+    {
+        let Some(target) = self.process(pid) else {
+            return Err(Rule::NoProcess);
+        };
+        allowed(may_interrupt(creds, target.euid()))
+    }
+
+    /// The credentials of the client of a process.
+    fn process(&self, pid: u32) -> Option<&Creds>
+        ensures { option_copied result ≡ process_of self.now pid }
+    {
+        if pid == 0 || self.has_ended(pid - 1) {
+            return None;
+        }
+        self.clients.get(pid as usize - 1)
+    }
+
+    /// exit: what the client's semops did with SEM_UNDO is undone, what it has attached is detached, and it has ended. The
+    /// error comes only where an allocation fails, and then nothing has changed.
+    #[tactic(auto, unfolding(ipc_model::specs::Decide::part_plan))]
+    pub(super) fn exit(&mut self, client: u32) -> Result<Outcome, Memory>
+        requires known { client < length self.old.clients }
+        requires free { waits self.old client ≡ false }
+        ensures outcome { IfOk result (λ outcome. outcome_of (decision_on self.old client Call.Exit) ≡ Some outcome) }
+        ensures state { OnOk result (self.new ≡ left_by self.old (decision_on self.old client Call.Exit)) }
+        ensures parked { self.new.parked ≡ self.old.parked }
+        ensures err { OnErr result (self.new ≡ self.old) }
+    {
+        self.ended.reserve(1)?;
+        let who = caller_of(&self.clients, client, self.clock);
+        self.sets.exit(&who);
+        self.segments.exit(&who);
+        self.ended.push(client).unwrap();
+        Ok(Ok(Answer::Done))
+    }
+}

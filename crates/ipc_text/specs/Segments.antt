@@ -1,0 +1,66 @@
+-- The calls on shared memory segments that words make; None where they aren't in the grammar.
+use Rattle.std.specs.Prelude.{ℕ, List, [], ◌∷◌, codes, bytes_eq, Option, Some, None, if◌then◌else◌, option_map}
+use Rattle.ipc_call.specs.declared.calls.Call.{Call}
+use Rattle.ipc_call.specs.declared.calls.Call.TheVariants.{ShmGet, ShmAt, ShmDt, ShmRead, ShmWrite}
+use Rattle.ipc_text.specs.Grammar.{◌>>=◌, of_three}
+use Rattle.ipc_text.specs.Numbers.{number_32, number_64}
+use Rattle.ipc_text.specs.Texts.{text_of}
+
+abbrev pub shmget_words : List ℕ → List ℕ → List ℕ → Option Call
+shmget_words key size flags = do
+  k ← number_32 key
+  n ← number_64 size
+  f ← number_32 flags
+  Some (ShmGet k n f)
+
+-- KEY SIZE FLAGS
+abbrev pub shmget_of : List (List ℕ) → Option Call
+shmget_of words = of_three shmget_words words
+
+-- ID FLAGS
+abbrev pub shmat_of : List (List ℕ) → Option Call
+shmat_of [] = None
+shmat_of (id ∷ []) = None
+shmat_of (id ∷ flags ∷ []) = number_32 id >>= λ i. option_map (λ f. ShmAt i f) (number_32 flags)
+shmat_of (id ∷ flags ∷ more ∷ others) = None
+
+-- ATT
+abbrev pub shmdt_of : List (List ℕ) → Option Call
+shmdt_of [] = None
+shmdt_of (att ∷ []) = option_map (λ a. ShmDt a) (number_32 att)
+shmdt_of (att ∷ more ∷ others) = None
+
+abbrev pub shmread_words : List ℕ → List ℕ → List ℕ → Option Call
+shmread_words att offset len = do
+  a ← number_32 att
+  o ← number_64 offset
+  n ← number_64 len
+  Some (ShmRead a o n)
+
+-- ATT OFFSET LEN
+abbrev pub shmread_of : List (List ℕ) → Option Call
+shmread_of words = of_three shmread_words words
+
+abbrev pub shmwrite_words : List ℕ → List ℕ → List ℕ → Option Call
+shmwrite_words att offset text = do
+  a ← number_32 att
+  o ← number_64 offset
+  bytes ← text_of text
+  Some (ShmWrite a o bytes)
+
+-- ATT OFFSET TEXT
+abbrev pub shmwrite_of : List (List ℕ) → Option Call
+shmwrite_of words = of_three shmwrite_words words
+
+-- the word of a call that reads or writes what is attached, and its arguments
+abbrev pub memory_call_of : List ℕ → List (List ℕ) → Option Call
+memory_call_of word words =
+    if bytes_eq word (codes "shmread") then shmread_of words
+    else (if bytes_eq word (codes "shmwrite") then shmwrite_of words else None)
+
+-- the word of a call on a segment, and its arguments
+abbrev pub segment_call_of : List ℕ → List (List ℕ) → Option Call
+segment_call_of word words =
+    if bytes_eq word (codes "shmget") then shmget_of words
+    else (if bytes_eq word (codes "shmat") then shmat_of words
+    else (if bytes_eq word (codes "shmdt") then shmdt_of words else memory_call_of word words))

@@ -1,0 +1,3 @@
+pub mod Detaching
+pub mod Leaving
+pub mod Renewing

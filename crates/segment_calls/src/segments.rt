@@ -1,0 +1,111 @@
+//! The shared memory segments of a namespace.
+
+ghost use Rattle.std.specs.Prelude.{◌≡◌, ◌≤◌, IsSome, option_copied};
+ghost use Rattle.ipc_ids.specs.Table.{empty_table};
+ghost use Rattle.ipc_model.specs.Controls.{marked, perm_in, with_new_owner, without_segment};
+ghost use Rattle.ipc_model.specs.Segments.{segment_at};
+ghost use Rattle.ipc_objects.specs.Objects.{changed};
+ghost use Rattle.shm_seg.specs.Attachments.{attach_count, none_attached};
+
+use crate::segment::Segment;
+use ipc_call::Settings;
+use ipc_objects::{Object, Objects, Owner};
+use ipc_perm::{Mode, Perm};
+use shm_seg::Attachments;
+use std::alloc::Global;
+use std::marker::Model;
+
+/// The segments of a namespace, by identifier and by key, and what each client has attached.
+#[derive(Debug, Drop)]
+pub struct Segments {
+    pub(super) segments: Objects<Segment>,
+    pub(super) attached: Attachments,
+    pub(super) alloc: Global,
+}
+
+impl Model for Segments {
+    ghost use Rattle.std.specs.FinMap as map;
+    ghost use Rattle.std.specs.Coded.{codes};
+    ghost use Rattle.ipc_model.specs.State.{Shared};
+    ghost use Rattle.shm_seg.specs.Codes.{attached_code};
+
+    ghost Value = { Shared };
+
+    ghost coded = { Prim.hlevel (codes, map.code, attached_code) };
+
+    ghost view = { λ s. record { segments = s.segments; attached = s.attached } };
+}
+
+impl Segments {
+    /// No segment, with this many slots, at most 32768, and this sequence number in each.
+    pub fn new(alloc: Global, slots: u32, first_seq: u16) -> Segments
+        requires { slots ≤ 32768 }
+        ensures { result ≡ record { segments = empty_table slots first_seq; attached = none_attached } }
+    {
+        Segments {
+            segments: Objects::new(alloc, slots, first_seq),
+            attached: Attachments::new(alloc),
+            alloc,
+        }
+    }
+
+    /// The segment of an identifier.
+    pub fn get(&self, id: u32) -> Option<&Object<Segment>>
+        ensures { option_copied result ≡ segment_at self.now id }
+    {
+        self.segments.get(id)
+    }
+
+    /// The permissions of the segment of an identifier.
+    pub fn perm(&self, id: u32) -> Option<Perm>
+        ensures { result ≡ perm_in self.now.segments id }
+    {
+        self.segments.perm(id)
+    }
+
+    /// How many attachments are to the segment of an identifier, those of all clients (shm_nattch of shmctl(2)).
+    pub fn nattch(&self, id: u32) -> u64
+        ensures { result ≡ attach_count self.now.attached id }
+    {
+        self.attached.count_of(id)
+    }
+
+    /// Sets the owner and the mode of the segment of an identifier, which there is, at a time in seconds (IPC_SET of
+    /// shmctl(2)). It takes no memory.
+    pub fn set(&mut self, id: u32, new: Settings, now: u64)
+        requires { IsSome (segment_at self.old id) }
+        ensures { self.new ≡ record self.old { segments = changed self.old.segments id (with_new_owner now new) } }
+    {
+        let owner = Owner {
+            uid: new.uid,
+            gid: new.gid,
+            mode: Mode::from_low_bits(new.mode),
+        };
+        self.segments.set_owner(id, owner, now);
+    }
+
+    /// Removes the segment of an identifier, which there is, and frees its key (IPC_RMID of shmctl(2)). One that is
+    /// attached stays, marked, until its last attachment goes. It takes no memory.
+    pub fn remove(&mut self, id: u32)
+        requires { IsSome (segment_at self.old id) }
+        ensures { self.new ≡ without_segment self.old id }
+    {
+        if self.nattch(id) == 0 {
+            self.segments.remove(id);
+        } else {
+            self.mark(id);
+        }
+    }
+
+    /// Marks the segment of an identifier, which there is, and frees its key.
+    fn mark(&mut self, id: u32)
+        requires { IsSome (segment_at self.old id) }
+        ensures { self.new ≡ record self.old { segments = changed self.old.segments id marked } }
+    {
+        let Some(segment) = self.segments.contents_mut(id) else {
+            unreachable!()
+        };
+        segment.memory.mark();
+        self.segments.free_key(id);
+    }
+}
