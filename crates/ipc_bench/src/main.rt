@@ -11,8 +11,9 @@ mod service;
 use asking::Task;
 use bench_runs::measuring::Run;
 use bench_runs::messages::Way;
+use bench_runs::segments::Access;
 use bench_runs::semops::AtExit;
-use bench_runs::{keys, measuring, messages, semops, slots, spaces};
+use bench_runs::{keys, measuring, messages, segments, semops, slots, spaces};
 use std::process::ExitCode;
 use std::sync::Wait;
 use std::thread::Threads;
@@ -35,6 +36,12 @@ const SEMOPS: [u32; 4] = [1, 2, 10, 500];
 
 /// How many clients wait on another set.
 const WAITING_BESIDE: [u32; 2] = [16, 63];
+
+/// How many bytes a segment has.
+const SEGMENTS: [u32; 4] = [1, 64, 4_096, 65_536];
+
+/// How many attachments a client has.
+const ATTACHMENTS: [u32; 2] = [1, 4_096];
 
 /// One client.
 const ONE: [u32; 1] = [1];
@@ -62,6 +69,9 @@ enum Operation {
     WhileOthersWait,
     Operate(AtExit),
     OperateBesideWaiting,
+    Copy,
+    Reach(Access),
+    AttachAndDetach,
     Readings,
     EachStep,
     Alone,
@@ -72,7 +82,7 @@ enum Operation {
     AmongIdle,
 }
 
-const OPERATIONS: [Operation; 27] = [
+const OPERATIONS: [Operation; 31] = [
     Operation::Find,
     Operation::UnbindAndBind,
     Operation::Get,
@@ -86,6 +96,10 @@ const OPERATIONS: [Operation; 27] = [
     Operation::Operate(AtExit::Keeps),
     Operation::Operate(AtExit::Undoes),
     Operation::OperateBesideWaiting,
+    Operation::Copy,
+    Operation::Reach(Access::Read),
+    Operation::Reach(Access::Write),
+    Operation::AttachAndDetach,
     Operation::Readings,
     Operation::EachStep,
     Operation::Alone,
@@ -129,6 +143,10 @@ impl Operation {
             Operation::Operate(AtExit::Keeps) => &["Space::apply, semop"],
             Operation::Operate(AtExit::Undoes) => &["Space::apply, semop with SEM_UNDO"],
             Operation::OperateBesideWaiting => &["Space::apply, semop beside waiting"],
+            Operation::Copy => &["a copy in memory"],
+            Operation::Reach(Access::Read) => &["Space::apply, shmread"],
+            Operation::Reach(Access::Write) => &["Space::apply, shmwrite"],
+            Operation::AttachAndDetach => &["Space::apply, shmat and shmdt"],
             Operation::Readings => &["reading the time"],
             Operation::EachStep => &["post", "seize", "take", "answer", "release", "collect"],
             Operation::Alone => &["post to collect"],
@@ -154,6 +172,8 @@ impl Operation {
             Operation::WhileOthersWait => (&WAITING, "waiting"),
             Operation::Operate(_) => (&SEMOPS, "operations"),
             Operation::OperateBesideWaiting => (&WAITING_BESIDE, "waiting"),
+            Operation::Copy | Operation::Reach(_) => (&SEGMENTS, "bytes"),
+            Operation::AttachAndDetach => (&ATTACHMENTS, "attached"),
             Operation::Readings | Operation::EachStep | Operation::Alone | Operation::OfSpace(_) =>
                 (&ONE, "clients"),
             Operation::OneOf | Operation::AmongIdle => (&CLIENTS, "clients"),
@@ -182,6 +202,11 @@ impl Operation {
             Operation::WhileOthersWait => alone(rt, messages::while_others_wait(rt, size, calls)?),
             Operation::Operate(at_exit) => alone(rt, semops::operate(rt, at_exit, size, calls)?),
             Operation::OperateBesideWaiting => alone(rt, semops::beside_waiting(rt, size, calls)?),
+            Operation::Copy => alone(rt, segments::copy(rt, size, calls)?),
+            Operation::Reach(access) => alone(rt, segments::reach(rt, access, size, calls)?),
+            Operation::AttachAndDetach => {
+                alone(rt, segments::attach_and_detach(rt, size, calls)?)
+            }
             Operation::Readings => alone(rt, combining::readings(rt, calls)?),
             Operation::EachStep => listed(rt, &combining::each_step(rt, calls)?),
             Operation::Alone => alone(rt, combining::alone(rt, calls)?),
