@@ -23,8 +23,8 @@ pub use items::Items;
 pub use limits::{Limit, Limits};
 pub use perms::{Mode, Perm};
 pub use replies::{
-    Answer, Ended, JournalRow, Memory, Outcome, QueueStatus, Reply, SegmentStatus, SetStatus, Status,
-    Waiting,
+    Answer, Ended, JournalRow, Memory, Outcome, QueueStatus, Reply, SegmentStatus, SetStatus,
+    Status, Waiting,
 };
 pub use rules::{Rule, errno};
 pub use settings::Settings;

@@ -98,6 +98,7 @@ put_sems s sems = record s { sems = sems }
 
 abbrev pub put_shared : State → Shared → State
 put_shared s shared = record s { shared = shared }
+
 module _ (call : Call) (part : State → Caller → Plan Sems) (v s : State) (client : ℕ) (who : Caller) (is : v ≡ s) (called : who ≡ caller v client) (planned : (t : State) → part_plan t (caller t client) call ≡ OnSems (part t (caller t client))) where
   pub sets-outcome : outcome_of (decision who.creds (part v who)) ≡ outcome_of (decide s client call)
   sets-outcome = part-outcome OnSems put_sems (λ t. t.sems) (λ t. refl) (λ t p. refl) part v s client who is called call call refl planned
