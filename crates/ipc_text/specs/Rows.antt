@@ -1,5 +1,5 @@
 -- The rows that a script prints (the project's own; the names of errors are those of errno(3)).
-use Rattle.std.specs.Prelude.{ℕ, ℤ, ◌-◌, ◌^◌, false, List, [], ◌+◌, ◌++◌, if◌then◌else◌, codes, decimal, Option, Some, None, Ok, Err, unwrap_or, slice_get, flat_map}
+use Rattle.std.specs.Prelude.{ℕ, ℤ, ◌-◌, ◌^◌, false, List, [], ◌+◌, ◌++◌, if◌then◌else◌, codes, decimal, Option, Some, None, Result, Ok, Err, unwrap_or, slice_get, flat_map}
 use Rattle.ipc_call.specs.declared.replies.Answer.TheVariants.{Attached, Bytes, Id, Done, Message, Status, Value, Values}
 use Rattle.ipc_call.specs.declared.replies.Status.TheVariants.{Queue, Segment, Set}
 use Rattle.ipc_call.specs.declared.replies.QueueStatus.{QueueStatus}
@@ -14,7 +14,8 @@ use Rattle.ipc_call.specs.declared.error.Errno.{Errno}
 use Rattle.ipc_call.specs.declared.error.Errno.TheVariants.{ENOMEM}
 use Rattle.ipc_call.specs.Errors.{number_of, name_of}
 use Rattle.ipc_call.specs.Rules.{error_of, name_of_rule}
-use Rattle.ipc_model.specs.Decision.{Outcome}
+use Rattle.ipc_call.specs.declared.replies.Answer.{Answer}
+use Rattle.ipc_call.specs.declared.rules.Rule.{Rule}
 use Rattle.ipc_text.specs.declared.reasons.Reason.{Reason}
 use Rattle.ipc_text.specs.declared.reasons.Reason.TheVariants as reasons
 
@@ -129,7 +130,7 @@ message_text mtype text = codes "message " ++ (signed_decimal mtype ++ hex_text 
 abbrev pub bytes_text : List ℕ → List ℕ
 bytes_text bytes = codes "bytes" ++ hex_text bytes
 
-abbrev pub outcome_text : Outcome → List ℕ
+abbrev pub outcome_text : Result Answer Rule → List ℕ
 outcome_text (Ok (Id id)) = codes "id " ++ (decimal id ++ codes "\n")
 outcome_text (Ok Done) = codes "ok\n"
 outcome_text (Ok (Message mtype text)) = message_text mtype text
