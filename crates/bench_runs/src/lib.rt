@@ -1,6 +1,6 @@
 //! What a client alone takes: measurements, each by one owner and without other threads, of the tables of
-//! objects, and of a whole namespace with its messages, its semaphore sets and its segments. A measurement gives the time that
-//! its calls took, and a sum over what they answered.
+//! objects, and of a whole namespace with its messages, its semaphore sets and its segments. A measurement gives the
+//! time that its calls took, and a sum over what they answered.
 #![tactic(auto)]
 
 pub mod keys;

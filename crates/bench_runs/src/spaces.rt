@@ -1,11 +1,11 @@
-//! A whole namespace: its clients, their calls and the answers, and what a msgget of them takes.
+//! A whole namespace: its clients, their calls and the answers, and what a msgget and a listing of them take.
 
 ghost use Rattle.std.specs.Prelude.{IsTrue};
 ghost use Rattle.ipc_call.specs.Limits.{are_in_range};
 
 use crate::measuring::{Numbers, Run, key_of, unanswered};
 use bitflags::Flags;
-use ipc_call::{Answer, Call, IPC_CREAT, Limit, Limits, Reply};
+use ipc_call::{Answer, Call, IPC_CREAT, Kind, Limit, Limits, Reply};
 use ipc_creds::{Caps, Creds};
 use ipc_space::{Effects, Space};
 use std::alloc::{AllocError, Global};
@@ -91,6 +91,14 @@ pub fn msgget(space: &mut Space, key: u32, flags: u32) -> io::Result<u32> {
     }
 }
 
+/// Makes so many queues, each with a key.
+fn make_queues(space: &mut Space, size: u32) -> io::Result<()> {
+    for number in 0..size {
+        msgget(space, key_of(number), IPC_CREAT | 0o600)?;
+    }
+    Ok(())
+}
+
 /// Makes so many queues, and gets them by their keys.
 fn get_each<R: Clock + AllocGlobal>(
     rt: &R,
@@ -98,9 +106,7 @@ fn get_each<R: Clock + AllocGlobal>(
     size: u32,
     calls: u32,
 ) -> io::Result<Run> {
-    for number in 0..size {
-        msgget(space, key_of(number), IPC_CREAT | 0o600)?;
-    }
+    make_queues(space, size)?;
     let mut numbers = Numbers::new();
     let mut run = Run::new(calls);
     let start = Instant::now(rt)?;
@@ -115,4 +121,35 @@ fn get_each<R: Clock + AllocGlobal>(
 pub fn get_of_a_key<R: Clock + AllocGlobal>(rt: &R, size: u32, calls: u32) -> io::Result<Run> {
     let mut space = opened(rt.alloc(), 1)?;
     get_each(rt, &mut space, size, calls)
+}
+
+/// How many queues client 0 is shown.
+fn shown(space: &mut Space) -> io::Result<u32> {
+    match answer(space, Call::Listing { kind: Kind::Queue })? {
+        Some(Answer::Rows(rows)) => Ok(u32::try_from(rows.len()).unwrap_or(u32::MAX)),
+        _ => Err(unanswered()),
+    }
+}
+
+/// Makes so many queues, and lists them.
+fn list_each<R: Clock + AllocGlobal>(
+    rt: &R,
+    space: &mut Space,
+    size: u32,
+    calls: u32,
+) -> io::Result<Run> {
+    make_queues(space, size)?;
+    let mut run = Run::new(calls);
+    let start = Instant::now(rt)?;
+    for _ in 0..calls {
+        run.add_answer(shown(space)?);
+    }
+    run.add_time(rt, start)?;
+    Ok(run)
+}
+
+/// Lists the queues that there are: so many rows in all, in one listing at least.
+pub fn list<R: Clock + AllocGlobal>(rt: &R, size: u32, rows: u32) -> io::Result<Run> {
+    let mut space = opened(rt.alloc(), 1)?;
+    list_each(rt, &mut space, size, (rows / size.max(1)).max(1))
 }

@@ -64,6 +64,7 @@ enum Operation {
     NextId,
     RemoveAndInsert,
     ApplyGet,
+    List,
     Pass(Way),
     ReceiveLast,
     WhileOthersWait,
@@ -82,13 +83,14 @@ enum Operation {
     AmongIdle,
 }
 
-const OPERATIONS: [Operation; 31] = [
+const OPERATIONS: [Operation; 32] = [
     Operation::Find,
     Operation::UnbindAndBind,
     Operation::Get,
     Operation::NextId,
     Operation::RemoveAndInsert,
     Operation::ApplyGet,
+    Operation::List,
     Operation::Pass(Way::Queue),
     Operation::ReceiveLast,
     Operation::Pass(Way::Receiver),
@@ -136,6 +138,7 @@ impl Operation {
             Operation::NextId => &["Slots::next_id"],
             Operation::RemoveAndInsert => &["Slots::remove", "Slots::try_insert"],
             Operation::ApplyGet => &["Space::apply, msgget of a key"],
+            Operation::List => &["Space::apply, a listing"],
             Operation::Pass(Way::Queue) => &["Space::apply, msgsnd and msgrcv"],
             Operation::ReceiveLast => &["Space::apply, msgrcv of the last"],
             Operation::Pass(Way::Receiver) => &["Space::apply, a waiting receiver"],
@@ -197,6 +200,7 @@ impl Operation {
             Operation::NextId => alone(rt, slots::next_id(rt, size, calls)?),
             Operation::RemoveAndInsert => listed(rt, &slots::remove_and_insert(rt, size, calls)?),
             Operation::ApplyGet => alone(rt, spaces::get_of_a_key(rt, size, calls)?),
+            Operation::List => alone(rt, spaces::list(rt, size, calls)?),
             Operation::Pass(way) => alone(rt, messages::pass(rt, way, size, calls)?),
             Operation::ReceiveLast => alone(rt, messages::receive_last(rt, size, calls)?),
             Operation::WhileOthersWait => alone(rt, messages::while_others_wait(rt, size, calls)?),

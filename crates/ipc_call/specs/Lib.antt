@@ -1,4 +1,5 @@
 pub mod Errors
 pub mod Flags
 pub mod Limits
+pub mod Listings
 pub mod Rules

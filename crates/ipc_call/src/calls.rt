@@ -153,6 +153,10 @@ pub enum Call {
         kind: Kind,
         id: u32,
     },
+    /// Lists the objects of a kind that the client may read, by rising slot (ipcs(1)).
+    Listing {
+        kind: Kind,
+    },
     /// Ends the waiting call of a process, the number of its client plus 1, as a caught signal would (EINTR of
     /// msgop(2)). It stands for kill(2).
     Interrupt {
@@ -239,6 +243,7 @@ impl Call {
                 qbytes,
             },
             Call::IpcRmid { kind, id } => Call::IpcRmid { kind, id },
+            Call::Listing { kind } => Call::Listing { kind },
             Call::Interrupt { pid } => Call::Interrupt { pid },
             Call::Exit => Call::Exit,
         })

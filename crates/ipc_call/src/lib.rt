@@ -8,6 +8,7 @@ mod error;
 mod flags;
 mod items;
 mod limits;
+mod listings;
 mod perms;
 mod replies;
 mod rules;
@@ -21,6 +22,7 @@ pub use flags::{
 };
 pub use items::Items;
 pub use limits::{Limit, Limits};
+pub use listings::{Listed, Row};
 pub use perms::{Mode, Perm};
 pub use replies::{
     Answer, Ended, JournalRow, Memory, Outcome, QueueStatus, Reply, SegmentStatus, SetStatus,

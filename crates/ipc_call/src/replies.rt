@@ -2,6 +2,7 @@
 
 use crate::calls::Call;
 use crate::items::Items;
+use crate::listings::Row;
 use crate::perms::Perm;
 use crate::rules::Rule;
 use std::alloc::AllocError;
@@ -98,6 +99,8 @@ pub enum Answer {
     Attached(u32),
     /// The bytes that were read.
     Bytes(Items<u8>),
+    /// The objects that were listed (ipcs(1)).
+    Rows(Items<Row>),
 }
 
 /// How a call ended: granted with an answer, or refused by a rule.

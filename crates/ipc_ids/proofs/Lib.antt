@@ -5,6 +5,7 @@ pub mod Identifiers
 pub mod Ids
 pub mod Images
 pub mod Least
+pub mod Listed
 pub mod Places
 pub mod Searches
 pub mod Sound

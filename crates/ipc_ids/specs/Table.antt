@@ -2,6 +2,8 @@
 use Rattle.std.specs.Prelude.{◌≡◌, ℕ, zero, suc, ◌+◌, ◌*◌, ◌/◌, ◌%◌, ◌<◌, ◌≤◌, nat_lt, ◌⊎◌}
 use Rattle.std.specs.Prelude.{Bool, true, false, not, ◌&&◌}
 use Rattle.std.specs.Prelude.{Option, Some, None, is_none, unwrap_or, option_map, option_and_then, if◌then◌else◌}
+use Rattle.std.specs.Prelude.{List, filter_map}
+use Rattle.std.specs.List.{range_with_len}
 use Rattle.std.specs.Ordering.{nat_cmp}
 use Rattle.std.specs.FinMap as map
 
@@ -49,6 +51,10 @@ next_id t = option_map (λ slot. id_at t slot) (least_from (λ slot. is_usable t
 -- the identifier of the object in the slot
 abbrev pub id_in : {X : Type 0} → Table X → ℕ → Option ℕ
 id_in t slot = if nat_lt slot t.slots then option_map (λ x. id_at t slot) (object_at t slot) else None
+
+-- the identifiers of the objects, by rising slot
+unfoldable pub ids_of : {X : Type 0} → Table X → List ℕ
+ids_of t = filter_map (λ slot. id_in t slot) (range_with_len 0 t.slots)
 
 -- some object passes in this slot
 abbrev pub holds_at : {X : Type 0} → (X → Bool) → Table X → ℕ → Bool

@@ -26,6 +26,7 @@ ghost use Rattle.ipc_ids.specs.Table.{
   id_of as identifier,
   next_id as id_of_next,
   id_in,
+  ids_of,
   is_retired,
   with_object,
   without_object,
@@ -42,7 +43,7 @@ ghost use Rattle.ipc_ids.specs.Slots.{
   slot_after,
 };
 
-use std::alloc::Global;
+use std::alloc::{AllocError, Global};
 use std::cmp::Reverse;
 use std::collections::BinaryHeap;
 use std::marker::Model;
@@ -320,6 +321,16 @@ impl<T> Slots<T> {
     {
         let seq = self.entries.get(usize::from(slot))?.held_seq()?;
         Some(id_of(seq, slot))
+    }
+
+    /// The identifiers of the objects, by rising slot. The error comes only where an allocation fails.
+    pub fn ids(&self) -> Result<Vec<u32>, AllocError>
+        ensures { IfOk result (λ ids. ids.items ≡ ids_of self.now) }
+    {
+        let used = self.entries.len() as u16;
+        (0..used)
+            .filter_map(|slot| self.id_at(slot))
+            .collect(*self.entries.allocator())
     }
 
     /// Whether a slot is never used again: its object of sequence number 65535 was removed.

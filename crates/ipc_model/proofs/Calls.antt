@@ -4,12 +4,12 @@ use Rattle.std.specs.Prelude.{if◌then◌else◌, not, ◌==◌, ◌||◌, pos,
 use Rattle.std.proofs.lemmas.Bool.{true≢false}
 use Rattle.ipc_call.specs.Flags.{has_flag, ipc_creat, msg_except}
 use Rattle.ipc_call.specs.declared.calls.Call.{Call}
-use Rattle.ipc_call.specs.declared.calls.Call.TheVariants.{MsgGet, MsgSnd, MsgRcv, SemGet, SemOp, GetVal, GetPid, GetNcnt, GetZcnt, GetAll, SetVal, SetAll, ShmGet, ShmAt, ShmDt, ShmRead, ShmWrite, Exit, IpcStat, IpcSet, IpcRmid, Interrupt}
+use Rattle.ipc_call.specs.declared.calls.Call.TheVariants.{MsgGet, MsgSnd, MsgRcv, SemGet, SemOp, GetVal, GetPid, GetNcnt, GetZcnt, GetAll, SetVal, SetAll, ShmGet, ShmAt, ShmDt, ShmRead, ShmWrite, Exit, IpcStat, IpcSet, IpcRmid, Listing, Interrupt}
 use Rattle.ipc_call.specs.declared.calls.Kind.{Kind}
 use Rattle.ipc_call.specs.declared.calls.Kind.TheVariants as kinds
 use Rattle.ipc_call.specs.declared.settings.Settings.{Settings}
 use Rattle.ipc_call.specs.declared.replies.Answer.{Answer}
-use Rattle.ipc_call.specs.declared.replies.Answer.TheVariants.{Done, Id, Status as StatusAnswer}
+use Rattle.ipc_call.specs.declared.replies.Answer.TheVariants.{Done, Id, Rows, Status as StatusAnswer}
 use Rattle.ipc_call.specs.declared.replies.Waiting.{Waiting}
 use Rattle.ipc_call.specs.declared.rules.Rule.TheVariants.{BadArgument, BadId, BadType, Ended, NoKey, NoOperations, NoProcess, NoSlot, NotAttached, SemOutOfSet, TextTooLong, TooManyAttached, TooManyOperations}
 use Rattle.ipc_creds.specs.Credentials.{Credentials}
@@ -31,6 +31,7 @@ use Rattle.sem_undo.specs.Entries.{adj_of}
 use Rattle.ipc_objects.specs.Objects.{changed}
 use Rattle.ipc_model.specs.Processes.{process}
 use Rattle.ipc_model.specs.Controls.{is_within, perm_of, removed, status_of, with_new_owner, with_set, with_settings, without_segment, without_set}
+use Rattle.ipc_model.specs.Listings.{rows_to}
 use Rattle.ipc_model.specs.Decide.{OnQueues, OnSems, OnShared, can_wait, get_waiting, is_negative, is_zero, decide, decide_alive, part_plan, plan, plan_alive, whole}
 use Rattle.ipc_model.specs.Step.{at_time}
 use Rattle.ipc_model.proofs.Alike.{blank, blank-found, blank-on, blank-order, proceeds-alike}
@@ -143,6 +144,7 @@ never-plan s client (IpcSet kind id uid gid mode qbytes) never =
     let set : Settings = record { uid = uid; gid = gid; mode = mode; qbytes = qbytes } in
     never-found (perm_of s kind id) BadId tt _ (λ perm. never-set (with_set s kind id set) (is_within s qbytes))
 never-plan s client (IpcRmid kind id) never = never-found (perm_of s kind id) BadId tt _ (λ perm. refl)
+never-plan s client (Listing kind) never = refl
 never-plan s client (Interrupt pid) never = never-found (process s pid) NoProcess tt _ (λ target. refl)
 
 can-wait : (b : Bool) (call : Call) (c : Credentials) (p : Plan State) → (can_wait call ≡ false → never_waits p ≡ true) → can_wait call ≡ b → proceeds (decision c p) ≡ false → b ≡ true
@@ -300,6 +302,7 @@ Ends-plan s client (IpcSet kind id uid gid mode qbytes) =
     let new : Settings = record { uid = uid; gid = gid; mode = mode; qbytes = qbytes } in
     Ends-found (Succeeds s) (perm_of s kind id) BadId tt _ (λ perm is. Ends-set s kind id new (is_within s qbytes))
 Ends-plan s client (IpcRmid kind id) = Ends-found (Succeeds s) (perm_of s kind id) BadId tt _ (λ perm is. Ends-removed s kind id perm is)
+Ends-plan s client (Listing kind) = Succeeds-same s (Rows (rows_to s (creds_at s client) kind))
 Ends-plan s client (Interrupt pid) = Ends-found (Succeeds s) (process s pid) NoProcess tt _ (λ target is. Succeeds-same s Done)
 
 pub Keeps-decide : (s : State) (client : ℕ) (call : Call) → Keeps s (decide s client call)

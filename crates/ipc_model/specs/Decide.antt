@@ -4,7 +4,7 @@ use Rattle.std.specs.List.{count_by}
 use Rattle.std.specs.Ordering.{int_eq}
 use Rattle.ipc_call.specs.declared.calls.Call.{Call}
 use Rattle.ipc_call.specs.declared.calls.Call.TheVariants.{MsgGet, MsgSnd, MsgRcv, SemGet, SemOp, GetVal, GetPid, GetNcnt, GetZcnt, GetAll}
-use Rattle.ipc_call.specs.declared.calls.Call.TheVariants.{SetVal, SetAll, ShmGet, ShmAt, ShmDt, ShmRead, ShmWrite, IpcStat, IpcSet, IpcRmid, Interrupt, Exit}
+use Rattle.ipc_call.specs.declared.calls.Call.TheVariants.{SetVal, SetAll, ShmGet, ShmAt, ShmDt, ShmRead, ShmWrite, IpcStat, IpcSet, IpcRmid, Listing, Interrupt, Exit}
 use Rattle.ipc_call.specs.declared.calls.SemOper.{SemOper}
 use Rattle.ipc_call.specs.declared.rules.Rule.TheVariants.{Ended}
 use Rattle.ipc_call.specs.declared.calls.Kind.{Kind}
@@ -19,6 +19,7 @@ use Rattle.ipc_model.specs.Semaphores.{get_all, get_pid, get_value, look, operat
 use Rattle.ipc_model.specs.Segments.{attach, detach, read_bytes, write_bytes}
 use Rattle.ipc_model.specs.Processes.{exit, interrupt}
 use Rattle.ipc_model.specs.Controls.{remove_object, set_object, stat_object}
+use Rattle.ipc_model.specs.Listings.{list_objects}
 
 -- a semop of a client stops at an operation that passes
 abbrev pub is_stopped_at : (SemOper → Bool) → Option SemOper → Bool
@@ -78,6 +79,7 @@ part_plan s who (IpcStat kind id) = OnState (stat_object s kind id)
 part_plan s who (IpcSet kind id uid gid mode qbytes) =
     OnState (set_object s kind id (record { uid = uid; gid = gid; mode = mode; qbytes = qbytes }))
 part_plan s who (IpcRmid kind id) = OnState (remove_object s kind id)
+part_plan s who (Listing kind) = OnState (list_objects s who kind)
 part_plan s who (Interrupt pid) = OnState (interrupt s pid)
 part_plan s who Exit = OnState (exit s who)
 

@@ -6,6 +6,7 @@ pub mod Decide
 pub mod Decision
 pub mod Gets
 pub mod History
+pub mod Listings
 pub mod Made
 pub mod Messages
 pub mod Plan

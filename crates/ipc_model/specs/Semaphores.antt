@@ -44,11 +44,18 @@ get_value sems id num = look sems id num (λ semaphores. value_of semaphores num
 abbrev pub get_pid : Sems → ℕ → ℕ → Plan Sems
 get_pid sems id num = look sems id num (λ semaphores. last_of semaphores num)
 
+abbrev pub values_of : Object SemSet → List ℕ
+values_of set = map (λ s. s.value) set.contents.semaphores
+
+-- the values of a set; none where there is no such set
+abbrev pub values_at : Sems → ℕ → List ℕ
+values_at sems id = unwrap_or (option_map values_of (set_at sems id)) []
+
 -- GETALL
 abbrev pub get_all : Sems → ℕ → Plan Sems
 get_all sems id = found (set_at sems id) BadId _ (λ set.
     Needs (Permission set.perm to_read)
-    ⨾ Grant (Values (map (λ s. s.value) set.contents.semaphores)) sems)
+    ⨾ Grant (Values (values_of set)) sems)
 
 -- SETVAL and SETALL: the semaphores are new, and the time of change; the entries of those that were set go, of every
 -- client

@@ -42,7 +42,7 @@ impl Namespace {
     }
 
     /// The permissions and the state of the object of an identifier.
-    fn status_of(&self, kind: Kind, id: u32) -> Option<(Perm, Status)>
+    pub(super) fn status_of(&self, kind: Kind, id: u32) -> Option<(Perm, Status)>
         ensures { result ≡ status_in self.now kind id }
     {
         match kind {

@@ -5,6 +5,7 @@
 mod callers;
 mod cancelling;
 mod control_calls;
+mod listings;
 mod memory_calls;
 mod message_calls;
 mod namespace;

@@ -313,6 +313,7 @@ impl Namespace {
                 Ok(Some(self.set(client, kind, id, new, ended)))
             }
             Call::IpcRmid { kind, id } => Ok(Some(self.remove(client, kind, id, ended))),
+            Call::Listing { kind } => Ok(Some(self.list(client, kind)?)),
             Call::Interrupt { pid } => Ok(Some(self.interrupt(client, pid, ended))),
             Call::Exit => Ok(Some(self.exit(client)?)),
         }

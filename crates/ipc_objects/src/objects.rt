@@ -19,6 +19,7 @@ ghost use Rattle.ipc_ids.specs.Table.{
   empty_table,
   find_object,
   id_in,
+  ids_of,
   next_id as id_of_next,
   with_object,
   without_object,
@@ -195,6 +196,13 @@ impl<T: Drop> Objects<T> {
         ensures { result ≡ id_in self.now slot }
     {
         self.slots.id_at(slot)
+    }
+
+    /// The identifiers of the objects, by rising slot. The error comes only where an allocation fails.
+    pub fn ids(&self) -> Result<Vec<u32>, Memory>
+        ensures { IfOk result (λ ids. ids.items ≡ ids_of self.now) }
+    {
+        self.slots.ids()
     }
 
     /// Takes the object of the identifier out, and frees its key. It doesn't allocate.

@@ -9,8 +9,8 @@ mod spaces;
 
 pub use bitflags::Flags;
 pub use ipc_call::{
-    Answer, Call, Errno, IPC_CREAT, IPC_EXCL, IPC_NOWAIT, Items, JournalRow, Kind, Limits,
-    MSG_EXCEPT, MSG_NOERROR, Memory, Mode, Outcome, Perm, QueueStatus, Reply, Rule, SEM_UNDO,
+    Answer, Call, Errno, IPC_CREAT, IPC_EXCL, IPC_NOWAIT, Items, JournalRow, Kind, Limits, Listed,
+    MSG_EXCEPT, MSG_NOERROR, Memory, Mode, Outcome, Perm, QueueStatus, Reply, Row, Rule, SEM_UNDO,
     SHM_RDONLY, SegmentStatus, SemOper, SetStatus, Status, errno,
 };
 pub use ipc_creds::{Caps, Creds, GROUPS_MAX};

@@ -24,11 +24,12 @@ ghost use Rattle.ipc_model.specs.State.{is_waiting as waits};
 ghost use Rattle.ipc_model.specs.Step.{Stepped};
 ghost use Rattle.ipc_model.specs.History.{run, rows_of, rows_by, IsLegal, with_event, next_step, told_own, told_ended, answered_row, rule_in};
 ghost use Rattle.ipc_model.specs.Attached.{AreAttached};
+ghost use Rattle.ipc_model.specs.Listings.{lines_of};
 ghost use Rattle.ipc_model.specs.Waits.{AreNotReady, ArePermitted, WaitOnce};
 ghost use Rattle.ipc_space.specs.Spaces.{own_reply, other_replies};
 
 use crate::journal::Journal;
-use ipc_call::{Call, Ended, JournalRow, Limits, Memory, Outcome, Reply, Rule};
+use ipc_call::{Call, Ended, JournalRow, Limits, Memory, Outcome, Reply, Row, Rule};
 use ipc_creds::Creds;
 use ipc_namespace::Namespace;
 use std::marker::Model;
@@ -161,6 +162,14 @@ impl Space {
         ensures { result ≡ (run self.now).clock }
     {
         self.namespace.clock()
+    }
+
+    /// Each object, whoever may read it: the queues, the semaphore sets with their values, and the segments, each kind by
+    /// rising slot. Memory (ENOMEM) comes where a growth was refused.
+    pub fn lines(&self) -> Result<Vec<(Row, Vec<u16>)>, Memory>
+        ensures { IfOk result (λ lines. map (λ line. (line.0, line.1.items)) lines.items ≡ lines_of (run self.now)) }
+    {
+        self.namespace.lines()
     }
 
     /// The journal, oldest row first.

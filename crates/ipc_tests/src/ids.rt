@@ -71,6 +71,21 @@ fn the_lowest_slot_is_used_again(rt: HostRuntime) -> Result<(), Fail> {
     remove_in_order(&rt, alloc, 2, 1, 0)
 }
 
+/// The object of slot 0 has a higher identifier than that of slot 2.
+#[test]
+fn identifiers_stand_by_their_slots(rt: HostRuntime) -> Result<(), Fail> {
+    let mut slots = Slots::new(rt.alloc(), 4, 0);
+    assert_eq!(rt; slots.ids()?.len(), 0);
+    for object in 0..3 {
+        assert_eq!(rt; insert(&mut slots, object)?, object);
+    }
+    assert_eq!(rt; slots.remove(0), Some(0));
+    assert_eq!(rt; insert(&mut slots, 7)?, 32768);
+    assert_eq!(rt; slots.remove(1), Some(1));
+    assert_eq!(rt; slots.ids()?.as_slice(), [32768, 2].as_slice());
+    Ok(())
+}
+
 #[test]
 fn the_last_sequence_number_retires_a_slot(rt: HostRuntime) -> Result<(), Fail> {
     let mut slots = Slots::new(rt.alloc(), 1, 65535);

@@ -2,7 +2,7 @@
 use Rattle.std.proofs.Common.{◌≡◌, ℕ, List, [], ◌∷◌, ◌++◌, length, refl, suc, Bor}
 use Rattle.std.specs.Prelude.{Option, Some, None, MatchOption, option_map, option_and_then, bit_or}
 use Rattle.ipc_text.specs.Grammar.{at_most_32, capability_named, numbers_32, with_capabilities}
-use Rattle.ipc_text.specs.Words.{fields_of}
+use Rattle.ipc_words.specs.Words.{fields_of}
 
 -- the fields of what is left of a list, and a number that falls from field to field
 abbrev pub fields_left : Option (Bor (List ℕ)) → List (List ℕ)

@@ -1,5 +1,2 @@
 pub mod GrammarLemmas
-pub mod LineLemmas
 pub mod NameLemmas
-pub mod NumberLemmas
-pub mod WordLemmas

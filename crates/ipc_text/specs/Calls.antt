@@ -5,18 +5,22 @@ use Rattle.ipc_call.specs.declared.calls.Call.{Call}
 use Rattle.ipc_call.specs.declared.calls.Call.TheVariants.{MsgGet, MsgSnd, MsgRcv, IpcStat, IpcSet, IpcRmid, Interrupt, Exit}
 use Rattle.ipc_call.specs.declared.calls.Kind.{Kind}
 use Rattle.ipc_call.specs.declared.calls.Kind.TheVariants.{Queue, Sems, Segment}
-use Rattle.ipc_text.specs.Grammar.{◌>>=◌}
-use Rattle.ipc_text.specs.Numbers.{number_32, number_64, signed_64}
+use Rattle.ipc_text.specs.Grammar.{of_four, of_one, of_two}
+use Rattle.ipc_words.specs.Numbers.{number_32, number_64, signed_64}
+use Rattle.ipc_words.specs.Steps.{◌>>=◌}
 use Rattle.ipc_text.specs.Segments.{segment_call_of}
 use Rattle.ipc_text.specs.Sets.{set_call_of}
 use Rattle.ipc_text.specs.Texts.{text_of}
 
+abbrev pub msgget_words : List ℕ → List ℕ → Option Call
+msgget_words key flags = do
+  k ← number_32 key
+  f ← number_32 flags
+  Some (MsgGet k f)
+
 -- KEY FLAGS
 abbrev pub msgget_of : List (List ℕ) → Option Call
-msgget_of [] = None
-msgget_of (key ∷ []) = None
-msgget_of (key ∷ flags ∷ []) = number_32 key >>= λ k. option_map (λ f. MsgGet k f) (number_32 flags)
-msgget_of (key ∷ flags ∷ more ∷ others) = None
+msgget_of words = of_two msgget_words words
 
 abbrev pub msgsnd_words : List ℕ → List ℕ → List ℕ → List ℕ → Option Call
 msgsnd_words id mtype text flags = do
@@ -28,12 +32,7 @@ msgsnd_words id mtype text flags = do
 
 -- ID MTYPE TEXT FLAGS
 unfoldable pub msgsnd_of : List (List ℕ) → Option Call
-msgsnd_of [] = None
-msgsnd_of (id ∷ []) = None
-msgsnd_of (id ∷ mtype ∷ []) = None
-msgsnd_of (id ∷ mtype ∷ text ∷ []) = None
-msgsnd_of (id ∷ mtype ∷ text ∷ flags ∷ []) = msgsnd_words id mtype text flags
-msgsnd_of (id ∷ mtype ∷ text ∷ flags ∷ more ∷ others) = None
+msgsnd_of words = of_four msgsnd_words words
 
 abbrev pub msgrcv_words : List ℕ → List ℕ → List ℕ → List ℕ → Option Call
 msgrcv_words id size msgtyp flags = do
@@ -45,12 +44,7 @@ msgrcv_words id size msgtyp flags = do
 
 -- ID SIZE MSGTYP FLAGS
 unfoldable pub msgrcv_of : List (List ℕ) → Option Call
-msgrcv_of [] = None
-msgrcv_of (id ∷ []) = None
-msgrcv_of (id ∷ size ∷ []) = None
-msgrcv_of (id ∷ size ∷ msgtyp ∷ []) = None
-msgrcv_of (id ∷ size ∷ msgtyp ∷ flags ∷ []) = msgrcv_words id size msgtyp flags
-msgrcv_of (id ∷ size ∷ msgtyp ∷ flags ∷ more ∷ others) = None
+msgrcv_of words = of_four msgrcv_words words
 
 -- KIND: q queue, s semaphore set, m segment
 unfoldable pub kind_named : List ℕ → Option Kind
@@ -58,12 +52,15 @@ kind_named word =
     if bytes_eq word (codes "q") then Some Queue
     else (if bytes_eq word (codes "s") then Some Sems else (if bytes_eq word (codes "m") then Some Segment else None))
 
+abbrev pub object_words : List ℕ → List ℕ → Option (Kind × ℕ)
+object_words kind id = do
+  k ← kind_named kind
+  i ← number_32 id
+  Some (k, i)
+
 -- KIND ID
 abbrev pub object_of : List (List ℕ) → Option (Kind × ℕ)
-object_of [] = None
-object_of (kind ∷ []) = None
-object_of (kind ∷ id ∷ []) = kind_named kind >>= λ k. option_map (λ i. (k, i)) (number_32 id)
-object_of (kind ∷ id ∷ more ∷ others) = None
+object_of words = of_two object_words words
 
 -- [QBYTES]
 abbrev pub qbytes_of : List (List ℕ) → Option (Option ℕ)
@@ -92,9 +89,7 @@ set_of (kind ∷ id ∷ uid ∷ gid ∷ mode ∷ rest) = set_words kind id uid g
 
 -- PID
 abbrev pub interrupt_of : List (List ℕ) → Option Call
-interrupt_of [] = None
-interrupt_of (pid ∷ []) = option_map (λ p. Interrupt p) (number_32 pid)
-interrupt_of (pid ∷ more ∷ others) = None
+interrupt_of words = option_map (λ p. Interrupt p) (of_one number_32 words)
 
 -- without arguments
 abbrev pub exit_of : List (List ℕ) → Option Call

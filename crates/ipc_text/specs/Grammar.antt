@@ -1,15 +1,12 @@
 -- What the words behind a directive say; None where they aren't in the grammar.
-use Rattle.std.specs.Prelude.{ℕ, List, [], ◌∷◌, length, nat_le, codes, bytes_eq, bit_or, Option, Some, None, if◌then◌else◌, option_map, option_and_then}
+use Rattle.std.specs.Prelude.{ℕ, List, [], ◌∷◌, length, nat_le, codes, bytes_eq, bit_or, Option, Some, None, if◌then◌else◌, option_map}
 use Rattle.ipc_creds.specs.Credentials.{Credentials, cap_ipc_owner, cap_sys_admin, cap_sys_resource}
 use Rattle.ipc_call.specs.declared.limits.Limit.{Limit}
 use Rattle.ipc_text.specs.Names.{name_of}
-use Rattle.ipc_text.specs.Numbers.{number_32, number_64}
+use Rattle.ipc_words.specs.Numbers.{number_32, number_64}
 use Rattle.ipc_text.specs.Settings.{limit_named, value_of}
-use Rattle.ipc_text.specs.Words.{fields_of, after_prefix}
-
-infixl 10 ◌>>=◌
-abbrev pub ◌>>=◌ : {A B : Type 0} → Option A → (A → Option B) → Option B
-o >>= f = option_and_then f o
+use Rattle.ipc_words.specs.Steps.{◌>>=◌}
+use Rattle.ipc_words.specs.Words.{fields_of, after_prefix}
 
 -- what each of the words writes; None where one of them writes none
 abbrev pub each_of : {A : Type 0} → (List ℕ → Option A) → List (List ℕ) → Option (List A)
@@ -19,13 +16,26 @@ each_of read (w ∷ ws) = do
   xs ← each_of read ws
   Some (x ∷ xs)
 
--- what three words write together; None where they aren't three
+-- what one word writes; None where they are more or none
+abbrev pub of_one : {A : Type 0} → (List ℕ → Option A) → List (List ℕ) → Option A
+of_one read [] = None
+of_one read (word ∷ []) = read word
+of_one read (word ∷ more ∷ others) = None
+
+-- what a first word and those behind it write together; None where there is no word
+abbrev pub of_first : {A : Type 0} → (List ℕ → List (List ℕ) → Option A) → List (List ℕ) → Option A
+of_first read [] = None
+of_first read (first ∷ others) = read first others
+
+-- what so many words write together; None where they aren't so many
+abbrev pub of_two : {A : Type 0} → (List ℕ → List ℕ → Option A) → List (List ℕ) → Option A
+of_two read words = of_first (λ first. of_one (read first)) words
+
 abbrev pub of_three : {A : Type 0} → (List ℕ → List ℕ → List ℕ → Option A) → List (List ℕ) → Option A
-of_three read [] = None
-of_three read (first ∷ []) = None
-of_three read (first ∷ second ∷ []) = None
-of_three read (first ∷ second ∷ third ∷ []) = read first second third
-of_three read (first ∷ second ∷ third ∷ more ∷ others) = None
+of_three read words = of_first (λ first. of_two (read first)) words
+
+abbrev pub of_four : {A : Type 0} → (List ℕ → List ℕ → List ℕ → List ℕ → Option A) → List (List ℕ) → Option A
+of_four read words = of_first (λ first. of_three (read first)) words
 
 -- each of the words is a number
 abbrev pub numbers_32 : List (List ℕ) → Option (List ℕ)
@@ -92,15 +102,16 @@ client_of (name ∷ []) = None
 client_of (name ∷ euid ∷ []) = None
 client_of (name ∷ euid ∷ egid ∷ options) = client_words name euid egid options
 
+abbrev pub limit_words : List ℕ → List ℕ → Option (Limit × ℕ)
+limit_words word value = do
+  limit ← limit_named word
+  n ← value_of limit value
+  Some (limit, n)
+
 -- LIMIT N
 unfoldable pub limit_of : List (List ℕ) → Option (Limit × ℕ)
-limit_of [] = None
-limit_of (word ∷ []) = None
-limit_of (word ∷ value ∷ []) = limit_named word >>= λ limit. option_map (λ n. (limit, n)) (value_of limit value)
-limit_of (word ∷ value ∷ more ∷ others) = None
+limit_of words = of_two limit_words words
 
 -- N
 unfoldable pub clock_of : List (List ℕ) → Option ℕ
-clock_of [] = None
-clock_of (value ∷ []) = number_64 value
-clock_of (value ∷ more ∷ others) = None
+clock_of words = of_one number_64 words

@@ -1,12 +1,9 @@
 pub mod Calls
+pub mod Commands
 pub mod Grammar
-pub mod LineText
-pub mod Lines
 pub mod Names
-pub mod Numbers
 pub mod Rows
 pub mod Segments
 pub mod Sets
 pub mod Settings
 pub mod Texts
-pub mod Words

@@ -1,7 +1,10 @@
 -- The rows that a script prints (the project's own; the names of errors are those of errno(3)).
-use Rattle.std.specs.Prelude.{ℕ, ℤ, ◌-◌, ◌^◌, false, List, [], ◌+◌, ◌++◌, if◌then◌else◌, codes, decimal, Option, Some, None, Result, Ok, Err, unwrap_or, slice_get, flat_map}
-use Rattle.ipc_call.specs.declared.replies.Answer.TheVariants.{Attached, Bytes, Id, Done, Message, Status, Value, Values}
+use Rattle.std.specs.Prelude.{ℕ, ℤ, Bool, ◌-◌, ◌^◌, false, length, List, [], ◌+◌, ◌++◌, if◌then◌else◌, codes, decimal, Option, Some, None, Result, Ok, Err, unwrap_or, slice_get, flat_map}
+use Rattle.ipc_call.specs.declared.replies.Answer.TheVariants.{Attached, Bytes, Id, Done, Message, Rows, Status, Value, Values}
 use Rattle.ipc_call.specs.declared.replies.Status.TheVariants.{Queue, Segment, Set}
+use Rattle.ipc_call.specs.declared.listings.Listed.{Listed}
+use Rattle.ipc_call.specs.declared.listings.Row.{Row}
+use Rattle.ipc_call.specs.declared.listings.Row.TheVariants as rows
 use Rattle.ipc_call.specs.declared.replies.QueueStatus.{QueueStatus}
 use Rattle.ipc_call.specs.declared.replies.SegmentStatus.{SegmentStatus}
 use Rattle.ipc_call.specs.declared.replies.SetStatus.{SetStatus}
@@ -26,6 +29,7 @@ name_of_reason reasons.Late = codes "late"
 name_of_reason reasons.Twice = codes "twice"
 name_of_reason reasons.Many = codes "many"
 name_of_reason reasons.UnknownClient = codes "unknown-client"
+name_of_reason reasons.BadCommand = codes "bad-command"
 name_of_reason reasons.Busy = codes "busy"
 
 -- the row of a bad line, by its number from 1
@@ -62,17 +66,22 @@ owned_text kind a mode =
 abbrev pub perm_text : List ℕ → Perm → List ℕ
 perm_text kind a = owned_text kind a a.mode
 
-abbrev pub times_text : QueueStatus → List ℕ
-times_text q =
-    codes " stime "
-    ++ (decimal q.stime
-    ++ (codes " rtime " ++ (decimal q.rtime ++ (codes " ctime " ++ (decimal q.ctime ++ codes "\n")))))
+-- the times of two calls by their names, and that of the last change
+abbrev pub times_text : List ℕ → ℕ → List ℕ → ℕ → ℕ → List ℕ
+times_text first first_time second second_time ctime =
+    codes " "
+    ++ (first
+    ++ (codes " "
+    ++ (decimal first_time
+    ++ (codes " "
+    ++ (second ++ (codes " " ++ (decimal second_time ++ (codes " ctime " ++ (decimal ctime ++ codes "\n")))))))))
 
 abbrev pub contents_text : QueueStatus → List ℕ
 contents_text q =
     (codes " cbytes "
     ++ (decimal q.cbytes ++ (codes " qnum " ++ (decimal q.qnum ++ (codes " qbytes " ++ decimal q.qbytes)))))
-    ++ ((codes " lspid " ++ (decimal q.lspid ++ (codes " lrpid " ++ decimal q.lrpid))) ++ times_text q)
+    ++ ((codes " lspid " ++ (decimal q.lspid ++ (codes " lrpid " ++ decimal q.lrpid)))
+    ++ times_text (codes "stime") q.stime (codes "rtime") q.rtime q.ctime)
 
 -- the state of a queue
 abbrev pub queue_text : QueueStatus → List ℕ
@@ -91,8 +100,8 @@ abbrev pub shm_dest : ℕ
 shm_dest = 512
 
 -- the mode of a segment, with SHM_DEST where it is marked
-abbrev pub segment_mode : SegmentStatus → ℕ
-segment_mode s = if s.is_marked then shm_dest + s.perm.mode else s.perm.mode
+abbrev pub segment_mode : ℕ → Bool → ℕ
+segment_mode mode is_marked = if is_marked then shm_dest + mode else mode
 
 abbrev pub memory_text : SegmentStatus → List ℕ
 memory_text s =
@@ -101,15 +110,10 @@ memory_text s =
     ++ (codes " nattch "
     ++ (decimal s.nattch ++ (codes " cpid " ++ (decimal s.cpid ++ (codes " lpid " ++ decimal s.lpid))))))
 
-abbrev pub segment_times_text : SegmentStatus → List ℕ
-segment_times_text s =
-    codes " atime "
-    ++ (decimal s.atime
-    ++ (codes " dtime " ++ (decimal s.dtime ++ (codes " ctime " ++ (decimal s.ctime ++ codes "\n")))))
-
 -- the state of a segment
 abbrev pub segment_text : SegmentStatus → List ℕ
-segment_text s = owned_text (codes "segment") s.perm (segment_mode s) ++ (memory_text s ++ segment_times_text s)
+segment_text s = owned_text (codes "segment") s.perm (segment_mode s.perm.mode s.is_marked) ++ (memory_text s
+    ++ times_text (codes "atime") s.atime (codes "dtime") s.dtime s.ctime)
 
 abbrev pub value_text : ℕ → List ℕ
 value_text value = codes " " ++ decimal value
@@ -130,6 +134,40 @@ message_text mtype text = codes "message " ++ (signed_decimal mtype ++ hex_text 
 abbrev pub bytes_text : List ℕ → List ℕ
 bytes_text bytes = codes "bytes" ++ hex_text bytes
 
+-- what the line of an object begins with, with a mode
+abbrev pub listed_text : List ℕ → Listed → ℕ → List ℕ
+listed_text kind object mode =
+    kind
+    ++ (codes " "
+    ++ (key_text object.key
+    ++ (codes " " ++ (decimal object.id ++ (codes " " ++ (decimal object.uid ++ (codes " " ++ mode_text mode)))))))
+
+-- the line of an object
+abbrev pub row_text : Row → List ℕ
+row_text (rows.Queue object cbytes qnum) =
+    listed_text (codes "q") object object.mode
+    ++ (codes " " ++ (decimal cbytes ++ (codes " " ++ (decimal qnum ++ codes "\n"))))
+row_text (rows.Set object nsems) =
+    listed_text (codes "s") object object.mode ++ (codes " " ++ (decimal nsems ++ codes "\n"))
+row_text (rows.Segment object is_marked size nattch) =
+    listed_text (codes "m") object (segment_mode object.mode is_marked)
+    ++ (codes " " ++ (decimal size ++ (codes " " ++ (decimal nattch ++ codes "\n"))))
+
+abbrev pub indented : Row → List ℕ
+indented row = codes "  " ++ row_text row
+
+-- a listing: how many objects there are, and the line of each
+abbrev pub list_text : List Row → List ℕ
+list_text listed = codes "list " ++ (decimal (length listed) ++ (codes "\n" ++ flat_map indented listed))
+
+-- the line of an object, and of a semaphore set its values
+abbrev pub values_of_row : Row → List ℕ → List ℕ
+values_of_row (rows.Set object nsems) values = values_text values
+values_of_row _ values = []
+
+abbrev pub object_rows : Row → List ℕ → List ℕ
+object_rows row values = row_text row ++ values_of_row row values
+
 abbrev pub outcome_text : Result Answer Rule → List ℕ
 outcome_text (Ok (Id id)) = codes "id " ++ (decimal id ++ codes "\n")
 outcome_text (Ok Done) = codes "ok\n"
@@ -141,6 +179,7 @@ outcome_text (Ok (Value value)) = codes "value " ++ (decimal value ++ codes "\n"
 outcome_text (Ok (Values values)) = values_text values
 outcome_text (Ok (Attached att)) = codes "attached " ++ (decimal att ++ codes "\n")
 outcome_text (Ok (Bytes bytes)) = bytes_text bytes
+outcome_text (Ok (Rows listed)) = list_text listed
 outcome_text (Err rule) = error_text (error_of rule) (name_of_rule rule)
 
 -- PLACE.TURN NAME, with a space behind each

@@ -1,9 +1,10 @@
 -- The calls on shared memory segments that words make; None where they aren't in the grammar.
-use Rattle.std.specs.Prelude.{ℕ, List, [], ◌∷◌, codes, bytes_eq, Option, Some, None, if◌then◌else◌, option_map}
+use Rattle.std.specs.Prelude.{ℕ, List, codes, bytes_eq, Option, Some, None, if◌then◌else◌, option_map}
 use Rattle.ipc_call.specs.declared.calls.Call.{Call}
 use Rattle.ipc_call.specs.declared.calls.Call.TheVariants.{ShmGet, ShmAt, ShmDt, ShmRead, ShmWrite}
-use Rattle.ipc_text.specs.Grammar.{◌>>=◌, of_three}
-use Rattle.ipc_text.specs.Numbers.{number_32, number_64}
+use Rattle.ipc_text.specs.Grammar.{of_one, of_three, of_two}
+use Rattle.ipc_words.specs.Numbers.{number_32, number_64}
+use Rattle.ipc_words.specs.Steps.{◌>>=◌}
 use Rattle.ipc_text.specs.Texts.{text_of}
 
 abbrev pub shmget_words : List ℕ → List ℕ → List ℕ → Option Call
@@ -17,18 +18,19 @@ shmget_words key size flags = do
 abbrev pub shmget_of : List (List ℕ) → Option Call
 shmget_of words = of_three shmget_words words
 
+abbrev pub shmat_words : List ℕ → List ℕ → Option Call
+shmat_words id flags = do
+  i ← number_32 id
+  f ← number_32 flags
+  Some (ShmAt i f)
+
 -- ID FLAGS
 abbrev pub shmat_of : List (List ℕ) → Option Call
-shmat_of [] = None
-shmat_of (id ∷ []) = None
-shmat_of (id ∷ flags ∷ []) = number_32 id >>= λ i. option_map (λ f. ShmAt i f) (number_32 flags)
-shmat_of (id ∷ flags ∷ more ∷ others) = None
+shmat_of words = of_two shmat_words words
 
 -- ATT
 abbrev pub shmdt_of : List (List ℕ) → Option Call
-shmdt_of [] = None
-shmdt_of (att ∷ []) = option_map (λ a. ShmDt a) (number_32 att)
-shmdt_of (att ∷ more ∷ others) = None
+shmdt_of words = option_map (λ a. ShmDt a) (of_one number_32 words)
 
 abbrev pub shmread_words : List ℕ → List ℕ → List ℕ → Option Call
 shmread_words att offset len = do

@@ -3,9 +3,10 @@ use Rattle.std.specs.Prelude.{ℕ, List, [], ◌∷◌, codes, bytes_eq, Option,
 use Rattle.ipc_call.specs.declared.calls.Call.{Call}
 use Rattle.ipc_call.specs.declared.calls.Call.TheVariants.{SemGet, SemOp, GetVal, GetPid, GetNcnt, GetZcnt, GetAll, SetVal, SetAll}
 use Rattle.ipc_call.specs.declared.calls.SemOper.{SemOper}
-use Rattle.ipc_text.specs.Grammar.{◌>>=◌, each_of, of_three}
-use Rattle.ipc_text.specs.Numbers.{number_16, number_32, signed_16, signed_32}
-use Rattle.ipc_text.specs.Words.{fields_of}
+use Rattle.ipc_text.specs.Grammar.{each_of, of_one, of_three, of_two}
+use Rattle.ipc_words.specs.Numbers.{number_16, number_32, signed_16, signed_32}
+use Rattle.ipc_words.specs.Steps.{◌>>=◌}
+use Rattle.ipc_words.specs.Words.{fields_of}
 
 abbrev pub semget_words : List ℕ → List ℕ → List ℕ → Option Call
 semget_words key nsems flags = do
@@ -66,16 +67,17 @@ semop_of (id ∷ ops) = do
 
 -- ID
 abbrev pub getall_of : List (List ℕ) → Option Call
-getall_of [] = None
-getall_of (id ∷ []) = option_map (λ i. GetAll i) (number_32 id)
-getall_of (id ∷ more ∷ others) = None
+getall_of words = option_map (λ i. GetAll i) (of_one number_32 words)
+
+abbrev pub semaphore_words : List ℕ → List ℕ → Option (ℕ × ℕ)
+semaphore_words id num = do
+  i ← number_32 id
+  n ← number_32 num
+  Some (i, n)
 
 -- ID NUM
 abbrev pub semaphore_of : List (List ℕ) → Option (ℕ × ℕ)
-semaphore_of [] = None
-semaphore_of (id ∷ []) = None
-semaphore_of (id ∷ num ∷ []) = number_32 id >>= λ i. option_map (λ n. (i, n)) (number_32 num)
-semaphore_of (id ∷ num ∷ more ∷ others) = None
+semaphore_of words = of_two semaphore_words words
 
 -- the word of a report on one semaphore, and its arguments
 abbrev pub report_of : List ℕ → List (List ℕ) → Option Call

@@ -3,7 +3,7 @@ use Rattle.std.specs.Prelude.{ℕ, List, nat_le, codes, bytes_eq, Option, Some, 
 use Rattle.ipc_call.specs.declared.limits.Limit.{Limit}
 use Rattle.ipc_call.specs.declared.limits.Limit.TheVariants.{Slots, FirstSeq, MsgMax, MsgMnb, SemMsl, SemOpm, ShmMax}
 use Rattle.ipc_call.specs.Limits.{least, most}
-use Rattle.ipc_text.specs.Numbers.{number_within}
+use Rattle.ipc_words.specs.Numbers.{number_within}
 
 unfoldable pub limit_named : List ℕ → Option Limit
 limit_named word =

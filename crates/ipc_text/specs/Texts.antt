@@ -4,7 +4,7 @@ use Rattle.std.specs.Prelude.{ℕ, Bool, not, ◌&&◌, List, codes, nat_le, Opt
 use Rattle.std.specs.List.{list_all}
 use Rattle.hex.specs.Hex.{decode_of}
 use Rattle.hex.specs.declared.error.FromHexError.{FromHexError}
-use Rattle.ipc_text.specs.Words.{after_prefix}
+use Rattle.ipc_words.specs.Words.{after_prefix}
 
 -- no capital letter: A to Z are 65 to 90
 abbrev pub is_small : ℕ → Bool

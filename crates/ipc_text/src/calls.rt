@@ -1,25 +1,23 @@
 // The calls that the words behind a client's name make.
 
-ghost use Rattle.std.specs.Prelude.{◌≡◌, ◌≢◌, [], ◌∷◌, length, IfOk, MatchOption};
+ghost use Rattle.std.specs.Prelude.{◌≡◌, IfOk};
 ghost use Rattle.ipc_text.specs.Calls.{call_of as call_words, control_of as control_words, exit_of as exit_words, interrupt_of as interrupt_words, process_of as process_words, kind_named as kind_word, msgget_of as msgget_words, object_call_of as object_call_words, object_of as object_words};
 ghost use Rattle.ipc_text.specs.Calls.{qbytes_of as qbytes_words, set_of as set_line, set_words as set_parts};
 ghost use Rattle.ipc_text.specs.Calls.{msgrcv_of as msgrcv_line, msgrcv_words as msgrcv_parts, msgsnd_of as msgsnd_line, msgsnd_words as msgsnd_parts};
-ghost use Rattle.ipc_text.specs.Words.{words_of};
+ghost use Rattle.ipc_words.specs.Words.{words_of};
 
-use crate::numbers::{number, number_32, signed_64};
+use crate::arguments::{four_words, one_word, two_words};
 use crate::segments::segment_call_of;
 use crate::sets::set_call_of;
 use crate::texts::text_of;
-use crate::words::split_word;
 use ipc_call::{Call, Kind};
+use ipc_words::{number, number_32, signed_64, split_word};
 use std::alloc::{AllocError, Global};
 
-/// The call that the words behind a client's name make; `None` where they make none. `AllocError` comes where
-/// memory was refused. The words are the project's own, with the names and the order of arguments of the man
-/// pages (msgget(2), msgop(2), msgctl(2), semget(2), semop(2), semctl(2), shmget(2), shmop(2), shmctl(2),
-/// _exit(2)); those of `interrupt`, `shmread` and `shmwrite` are the project's own.
+/// The call that the words make, of which the first names it; `None` where they make none. `AllocError` comes where
+/// memory was refused.
 #[tactic(auto, unfolding(crate::specs::Calls::call_of))]
-pub fn call_of(alloc: Global, words: &[u8]) -> Result<Option<Call>, AllocError>
+pub(crate) fn call_of(alloc: Global, words: &[u8]) -> Result<Option<Call>, AllocError>
     ensures { IfOk result (λ call. call ≡ call_words (words_of words.now)) }
 {
     let Some((word, words)) = split_word(words) else {
@@ -132,28 +130,10 @@ fn msgrcv_words(id: &[u8], size: &[u8], msgtyp: &[u8], flags: &[u8]) -> Option<C
     })
 }
 
-// The words, where they are four.
-fn four_words(words: &[u8]) -> Option<(&[u8], &[u8], &[u8], &[u8])>
-    ensures { MatchOption result (length (words_of words.now) ≢ 4) (λ x. words_of words.now ≡ x.0.now ∷ x.1.now ∷ x.2.now ∷ x.3.now ∷ []) }
-{
-    let (first, words) = split_word(words)?;
-    let (second, words) = split_word(words)?;
-    let (third, words) = split_word(words)?;
-    let (fourth, words) = split_word(words)?;
-    if split_word(words).is_some() {
-        return None;
-    }
-    Some((first, second, third, fourth))
-}
-
 fn msgget_of(words: &[u8]) -> Option<Call>
     ensures { result ≡ msgget_words (words_of words.now) }
 {
-    let (key, words) = split_word(words)?;
-    let (flags, words) = split_word(words)?;
-    if split_word(words).is_some() {
-        return None;
-    }
+    let (key, flags) = two_words(words)?;
     let key = number_32(key)?;
     let flags = number_32(flags)?;
     Some(Call::MsgGet { key, flags })
@@ -162,11 +142,7 @@ fn msgget_of(words: &[u8]) -> Option<Call>
 fn object_of(words: &[u8]) -> Option<(Kind, u32)>
     ensures { result ≡ object_words (words_of words.now) }
 {
-    let (kind, words) = split_word(words)?;
-    let (id, words) = split_word(words)?;
-    if split_word(words).is_some() {
-        return None;
-    }
+    let (kind, id) = two_words(words)?;
     let kind = kind_named(kind)?;
     let id = number_32(id)?;
     Some((kind, id))
@@ -175,11 +151,7 @@ fn object_of(words: &[u8]) -> Option<(Kind, u32)>
 fn interrupt_of(words: &[u8]) -> Option<Call>
     ensures { result ≡ interrupt_words (words_of words.now) }
 {
-    let (pid, words) = split_word(words)?;
-    if split_word(words).is_some() {
-        return None;
-    }
-    let pid = number_32(pid)?;
+    let pid = number_32(one_word(words)?)?;
     Some(Call::Interrupt { pid })
 }
 
@@ -233,13 +205,10 @@ fn set_words(
 fn qbytes_of(words: &[u8]) -> Option<Option<u64>>
     ensures { result ≡ qbytes_words (words_of words.now) }
 {
-    let Some((qbytes, words)) = split_word(words) else {
+    if split_word(words).is_none() {
         return Some(None);
-    };
-    if split_word(words).is_some() {
-        return None;
     }
-    let qbytes = number(qbytes, u64::MAX)?;
+    let qbytes = number(one_word(words)?, u64::MAX)?;
     Some(Some(qbytes))
 }
 

@@ -4,15 +4,15 @@ ghost use Rattle.std.specs.Prelude.{◌≡◌, ◌≤◌, [], codes, option_map,
 ghost use Rattle.ipc_text.specs.Grammar.{capability_list as capabilities_words, capability_named as capability_word, client_of as client_line, client_words as client_parts, clock_of as clock_words};
 ghost use Rattle.ipc_text.specs.Grammar.{group_list as groups_words, limit_of as limit_words, option_text as text_of_option, optional, options_of as options_words};
 ghost use Rattle.ipc_call.specs.Limits.{is_in_range};
-ghost use Rattle.ipc_text.specs.Words.{words_of};
+ghost use Rattle.ipc_words.specs.Words.{words_of};
 
+use crate::arguments::{one_word, two_words};
 use crate::names::Name;
-use crate::numbers::{number, number_32};
 use crate::settings::{limit_named, value_of};
-use crate::words::{split_field, split_word};
 use bitflags::Flags;
 use ipc_call::Limit;
 use ipc_creds::{Caps, Creds, GROUPS_MAX};
+use ipc_words::{number, number_32, split_field, split_word};
 use std::alloc::{AllocError, Global};
 
 /// The client of `NAME EUID EGID [groups=G,G,..] [caps=C,C,..]`, the words behind `client`; `None` where they
@@ -159,11 +159,7 @@ pub fn limit_of(words: &[u8]) -> Option<(Limit, u32)>
     ensures value { result ≡ limit_words (words_of words.now) }
     ensures in_range { IfSome result (λ x. IsTrue (is_in_range x.0 x.1)) }
 {
-    let (word, words) = split_word(words)?;
-    let (value, words) = split_word(words)?;
-    if split_word(words).is_some() {
-        return None;
-    }
+    let (word, value) = two_words(words)?;
     let limit = limit_named(word)?;
     let value = value_of(limit, value)?;
     Some((limit, value))
@@ -175,9 +171,5 @@ pub fn limit_of(words: &[u8]) -> Option<(Limit, u32)>
 pub fn clock_of(words: &[u8]) -> Option<u64>
     ensures { result ≡ clock_words (words_of words.now) }
 {
-    let (value, words) = split_word(words)?;
-    if split_word(words).is_some() {
-        return None;
-    }
-    number(value, u64::MAX)
+    number(one_word(words)?, u64::MAX)
 }

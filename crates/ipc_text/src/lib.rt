@@ -1,28 +1,26 @@
-//! The text of a script: its lines, words, numbers and names, the calls that words make, and the rows that
-//! are printed.
+//! The text of a script above its words: names, directives, the calls that words make, and the rows that are printed.
 //!
 //! The text of scripts and rows is the project's own; the words of calls and of rules follow the names of
 //! their man pages.
 #![tactic(auto)]
 
+mod arguments;
 mod calls;
+mod commands;
 mod grammar;
-mod lines;
 mod lists;
 mod names;
-mod numbers;
 mod reasons;
 mod rows;
 mod segments;
 mod sets;
 mod settings;
 mod texts;
-mod words;
 
-pub use calls::call_of;
+pub use commands::{Command, command_of};
 pub use grammar::{client_of, clock_of, limit_of};
-pub use lines::{Line, Pending};
+pub use ipc_commands::Part;
+pub use ipc_words::{Line, Pending, is_plain, split_word};
 pub use names::Name;
 pub use reasons::Reason;
-pub use rows::{print_bad, print_reply, print_waits};
-pub use words::{is_plain, split_word};
+pub use rows::{print_bad, print_object, print_reply, print_waits};

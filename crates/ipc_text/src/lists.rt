@@ -2,12 +2,11 @@
 
 ghost use Rattle.std.specs.Prelude.{◌≡◌, IfOk};
 ghost use Rattle.ipc_text.specs.Grammar.{each_of};
-ghost use Rattle.ipc_text.specs.Numbers.{signed_32 as signed_word_32};
-ghost use Rattle.ipc_text.specs.Words.{words_of};
+ghost use Rattle.ipc_words.specs.Numbers.{signed_32 as signed_word_32};
+ghost use Rattle.ipc_words.specs.Words.{words_of};
 
-use crate::numbers::signed_32;
-use crate::words::split_word;
 use ipc_call::Items;
+use ipc_words::{signed_32, split_word};
 use std::alloc::{AllocError, Global};
 
 /// What one word of a list writes.

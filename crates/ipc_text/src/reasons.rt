@@ -16,6 +16,8 @@ pub enum Reason {
     Many,
     /// The first word is no directive and no client's name.
     UnknownClient,
+    /// The words after ipcs, ipcrm or ipcmk make no command.
+    BadCommand,
     /// The client's last call still waits.
     Busy,
 }

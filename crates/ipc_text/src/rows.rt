@@ -3,12 +3,14 @@
 ghost use Rattle.std.specs.Prelude.{◌≡◌, ◌++◌, OnOk, string_bytes};
 ghost use Rattle.ipc_text.specs.Rows.{bad_row, error_text, name_of_reason, outcome_text, reply_row, row_head, waits_row};
 ghost use Rattle.ipc_text.specs.Rows.{message_text, queue_text, perm_text, key_text, mode_text, owners_text, contents_text, times_text};
-ghost use Rattle.ipc_text.specs.Rows.{bytes_text, hex_text, memory_text, owned_text, segment_mode as mode_with_mark, segment_text, segment_times_text, set_text, values_text};
+ghost use Rattle.ipc_text.specs.Rows.{bytes_text, hex_text, memory_text, owned_text, segment_mode as mode_with_mark, segment_text, set_text, values_text};
+ghost use Rattle.ipc_text.specs.Rows.{list_text, listed_text, object_rows, row_text};
 
 use crate::names::Name;
 use crate::reasons::Reason;
 use ipc_call::{
-    Answer, Errno, Memory, Outcome, Perm, QueueStatus, Reply, SegmentStatus, SetStatus, Status,
+    Answer, Errno, Listed, Memory, Mode, Outcome, Perm, QueueStatus, Reply, Row, SegmentStatus,
+    SetStatus, Status,
 };
 use std::fmt::Write;
 
@@ -74,8 +76,73 @@ fn print_outcome(rows: &mut String, outcome: &Outcome) -> Result<(), Memory>
         Ok(Answer::Values(values)) => print_values(rows, values.as_slice()),
         Ok(Answer::Attached(att)) => write!(rows, "attached {att}\n"),
         Ok(Answer::Bytes(bytes)) => print_bytes(rows, bytes.as_slice()),
+        Ok(Answer::Rows(listed)) => print_list(rows, listed.as_slice()),
         Err(rule) => print_error(rows, rule.error(), rule.name()),
     }
+}
+
+// A listing: how many objects there are, and the line of each.
+fn print_list(rows: &mut String, listed: &[Row]) -> Result<(), Memory>
+    ensures { OnOk result (string_bytes rows.new ≡ string_bytes rows.old ++ list_text listed.now) }
+{
+    let count = listed.len();
+    write!(rows, "list {count}\n")?;
+    for row in listed {
+        rows.push_str("  ")?;
+        print_row(rows, row)?;
+    }
+    Ok(())
+}
+
+/// Appends the line of an object, and of a semaphore set a further one of its values (GETALL of semctl(2)). The lines
+/// are the project's own.
+pub fn print_object(rows: &mut String, row: &Row, values: &[u16]) -> Result<(), Memory>
+    ensures { OnOk result (string_bytes rows.new ≡ string_bytes rows.old ++ object_rows row.now values.now) }
+{
+    print_row(rows, row)?;
+    match row {
+        Row::Set { .. } => print_values(rows, values),
+        Row::Queue { .. } | Row::Segment { .. } => Ok(()),
+    }
+}
+
+fn print_row(rows: &mut String, row: &Row) -> Result<(), Memory>
+    ensures { OnOk result (string_bytes rows.new ≡ string_bytes rows.old ++ row_text row.now) }
+{
+    match *row {
+        Row::Queue {
+            object,
+            cbytes,
+            qnum,
+        } => {
+            print_listed(rows, "q", object, object.mode.bits())?;
+            write!(rows, " {cbytes} {qnum}\n")
+        }
+        Row::Set { object, nsems } => {
+            print_listed(rows, "s", object, object.mode.bits())?;
+            write!(rows, " {nsems}\n")
+        }
+        Row::Segment {
+            object,
+            is_marked,
+            size,
+            nattch,
+        } => {
+            print_listed(rows, "m", object, segment_mode(object.mode, is_marked))?;
+            write!(rows, " {size} {nattch}\n")
+        }
+    }
+}
+
+// What the line of an object begins with, with this mode.
+fn print_listed(rows: &mut String, kind: &str, object: Listed, mode: u16) -> Result<(), Memory>
+    ensures { OnOk result (string_bytes rows.new ≡ string_bytes rows.old ++ listed_text kind.now object mode) }
+{
+    let Listed { key, id, uid, .. } = object;
+    write!(rows, "{kind} ")?;
+    print_key(rows, key)?;
+    write!(rows, " {id} {uid} ")?;
+    print_mode(rows, mode)
 }
 
 fn print_message(rows: &mut String, mtype: i64, text: &[u8]) -> Result<(), Memory>
@@ -132,22 +199,25 @@ fn print_set(rows: &mut String, status: SetStatus) -> Result<(), Memory>
 fn print_segment(rows: &mut String, status: SegmentStatus) -> Result<(), Memory>
     ensures { OnOk result (string_bytes rows.new ≡ string_bytes rows.old ++ segment_text status) }
 {
-    let mode = segment_mode(status);
-    print_owned(rows, "segment", &status.perm, mode)?;
+    let SegmentStatus {
+        perm,
+        is_marked,
+        atime,
+        dtime,
+        ctime,
+        ..
+    } = status;
+    print_owned(rows, "segment", &perm, segment_mode(perm.mode, is_marked))?;
     print_memory(rows, status)?;
-    print_segment_times(rows, status)
+    print_times(rows, ("atime", atime), ("dtime", dtime), ctime)
 }
 
 // The mode of a segment, with SHM_DEST where it is marked.
-fn segment_mode(status: SegmentStatus) -> u16
-    ensures { result ≡ mode_with_mark status }
+fn segment_mode(mode: Mode, is_marked: bool) -> u16
+    ensures { result ≡ mode_with_mark mode is_marked }
 {
-    let mode = status.perm.mode.bits();
-    if status.is_marked {
-        SHM_DEST + mode
-    } else {
-        mode
-    }
+    let mode = mode.bits();
+    if is_marked { SHM_DEST + mode } else { mode }
 }
 
 fn print_memory(rows: &mut String, status: SegmentStatus) -> Result<(), Memory>
@@ -161,18 +231,6 @@ fn print_memory(rows: &mut String, status: SegmentStatus) -> Result<(), Memory>
         ..
     } = status;
     write!(rows, " size {size} nattch {nattch} cpid {cpid} lpid {lpid}")
-}
-
-fn print_segment_times(rows: &mut String, status: SegmentStatus) -> Result<(), Memory>
-    ensures { OnOk result (string_bytes rows.new ≡ string_bytes rows.old ++ segment_times_text status) }
-{
-    let SegmentStatus {
-        atime,
-        dtime,
-        ctime,
-        ..
-    } = status;
-    write!(rows, " atime {atime} dtime {dtime} ctime {ctime}\n")
 }
 
 fn print_perm(rows: &mut String, kind: &str, perm: &Perm) -> Result<(), Memory>
@@ -228,23 +286,31 @@ fn print_contents(rows: &mut String, status: QueueStatus) -> Result<(), Memory>
         qbytes,
         lspid,
         lrpid,
-        ..
-    } = status;
-    write!(rows, " cbytes {cbytes} qnum {qnum} qbytes {qbytes}")?;
-    write!(rows, " lspid {lspid} lrpid {lrpid}")?;
-    print_times(rows, status)
-}
-
-fn print_times(rows: &mut String, status: QueueStatus) -> Result<(), Memory>
-    ensures { OnOk result (string_bytes rows.new ≡ string_bytes rows.old ++ times_text status) }
-{
-    let QueueStatus {
         stime,
         rtime,
         ctime,
         ..
     } = status;
-    write!(rows, " stime {stime} rtime {rtime} ctime {ctime}\n")
+    write!(rows, " cbytes {cbytes} qnum {qnum} qbytes {qbytes}")?;
+    write!(rows, " lspid {lspid} lrpid {lrpid}")?;
+    print_times(rows, ("stime", stime), ("rtime", rtime), ctime)
+}
+
+// The times of two calls by their names, and that of the last change.
+fn print_times(
+    rows: &mut String,
+    first: (&str, u64),
+    second: (&str, u64),
+    ctime: u64,
+) -> Result<(), Memory>
+    ensures { OnOk result (string_bytes rows.new ≡ string_bytes rows.old ++ times_text first.entry.0.now first.entry.1 second.entry.0.now second.entry.1 ctime) }
+{
+    let (first, first_time) = first;
+    let (second, second_time) = second;
+    write!(
+        rows,
+        " {first} {first_time} {second} {second_time} ctime {ctime}\n"
+    )
 }
 
 fn print_error(rows: &mut String, error: Errno, cause: &str) -> Result<(), Memory>
@@ -266,6 +332,7 @@ fn reason_name(reason: Reason) -> &'static str
         Reason::Twice => "twice",
         Reason::Many => "many",
         Reason::UnknownClient => "unknown-client",
+        Reason::BadCommand => "bad-command",
         Reason::Busy => "busy",
     }
 }

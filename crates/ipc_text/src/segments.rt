@@ -3,12 +3,12 @@
 ghost use Rattle.std.specs.Prelude.{◌≡◌, IfOk};
 ghost use Rattle.ipc_text.specs.Segments.{memory_call_of as memory_call_words, segment_call_of as segment_call_words, shmat_of as shmat_words, shmdt_of as shmdt_line};
 ghost use Rattle.ipc_text.specs.Segments.{shmget_of as shmget_line, shmget_words as shmget_parts, shmread_of as shmread_line, shmread_words as shmread_parts, shmwrite_of as shmwrite_line, shmwrite_words as shmwrite_parts};
-ghost use Rattle.ipc_text.specs.Words.{words_of};
+ghost use Rattle.ipc_words.specs.Words.{words_of};
 
-use crate::numbers::{number, number_32};
+use crate::arguments::{one_word, three_words, two_words};
 use crate::texts::text_of;
-use crate::words::{split_word, three_words};
 use ipc_call::Call;
+use ipc_words::{number, number_32};
 use std::alloc::{AllocError, Global};
 
 /// The call on a shared memory segment that this word and those behind it make; `None` where they make none.
@@ -63,11 +63,7 @@ fn shmget_words(key: &[u8], size: &[u8], flags: &[u8]) -> Option<Call>
 fn shmat_of(words: &[u8]) -> Option<Call>
     ensures { result ≡ shmat_words (words_of words.now) }
 {
-    let (id, words) = split_word(words)?;
-    let (flags, words) = split_word(words)?;
-    if split_word(words).is_some() {
-        return None;
-    }
+    let (id, flags) = two_words(words)?;
     let id = number_32(id)?;
     let flags = number_32(flags)?;
     Some(Call::ShmAt { id, flags })
@@ -76,11 +72,7 @@ fn shmat_of(words: &[u8]) -> Option<Call>
 fn shmdt_of(words: &[u8]) -> Option<Call>
     ensures { result ≡ shmdt_line (words_of words.now) }
 {
-    let (att, words) = split_word(words)?;
-    if split_word(words).is_some() {
-        return None;
-    }
-    let att = number_32(att)?;
+    let att = number_32(one_word(words)?)?;
     Some(Call::ShmDt { att })
 }
 

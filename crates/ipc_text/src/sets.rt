@@ -3,12 +3,12 @@
 ghost use Rattle.std.specs.Prelude.{◌≡◌, IfOk};
 ghost use Rattle.ipc_text.specs.Sets.{getall_of as getall_words, oper_flags as flags_fields, oper_of as oper_word, report_of as report_words, semaphore_of as semaphore_words, set_call_of as set_call_words, value_call_of as value_call_words};
 ghost use Rattle.ipc_text.specs.Sets.{semget_of as semget_line, semget_words as semget_parts, setall_of as setall_words, semop_of as semop_words, setval_of as setval_line, setval_words as setval_parts};
-ghost use Rattle.ipc_text.specs.Words.{fields_of, words_of};
+ghost use Rattle.ipc_words.specs.Words.{fields_of, words_of};
 
+use crate::arguments::{one_word, three_words, two_words};
 use crate::lists::{Item, items_of};
-use crate::numbers::{number_16, number_32, signed_16, signed_32};
-use crate::words::{split_field, split_word, three_words};
 use ipc_call::{Call, SemOper};
+use ipc_words::{number_16, number_32, signed_16, signed_32, split_field, split_word};
 use std::alloc::{AllocError, Global};
 
 /// The call on a semaphore set that this word and those behind it make; `None` where they make none.
@@ -152,22 +152,14 @@ fn flags_of(text: &[u8]) -> Option<u16>
 fn getall_of(words: &[u8]) -> Option<Call>
     ensures { result ≡ getall_words (words_of words.now) }
 {
-    let (id, words) = split_word(words)?;
-    if split_word(words).is_some() {
-        return None;
-    }
-    let id = number_32(id)?;
+    let id = number_32(one_word(words)?)?;
     Some(Call::GetAll { id })
 }
 
 fn semaphore_of(words: &[u8]) -> Option<(u32, u32)>
     ensures { result ≡ semaphore_words (words_of words.now) }
 {
-    let (id, words) = split_word(words)?;
-    let (num, words) = split_word(words)?;
-    if split_word(words).is_some() {
-        return None;
-    }
+    let (id, num) = two_words(words)?;
     let id = number_32(id)?;
     let num = number_32(num)?;
     Some((id, num))

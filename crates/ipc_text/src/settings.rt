@@ -4,8 +4,8 @@ ghost use Rattle.std.specs.Prelude.{◌≡◌, IfSome, IsTrue};
 ghost use Rattle.ipc_call.specs.Limits.{is_in_range};
 ghost use Rattle.ipc_text.specs.Settings.{limit_named as limit_of_word, value_of as value_of_word};
 
-use crate::numbers::number;
 use ipc_call::Limit;
+use ipc_words::number;
 
 /// The limit that the word names.
 #[tactic(auto, unfolding(crate::specs::Settings::limit_named))]

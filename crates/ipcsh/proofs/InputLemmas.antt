@@ -1,15 +1,15 @@
 -- What one more byte and one more line do to what was read.
-use Rattle.std.proofs.Common.{arith, ◌+◌, ◌<◌, ◌≤◌, get_or, ◌≡◌, ℕ, false, List, [], ◌∷◌, ◌++◌, length, take, map, refl, sym, ap, subst, ◌∙◌, append_assoc, append-nil}
+use Rattle.std.proofs.Common.{arith, ◌+◌, ◌<◌, ◌≤◌, get_or, ◌≡◌, ℕ, List, [], ◌∷◌, ◌++◌, length, take, map, refl, sym, ap, subst, ◌∙◌, append_assoc, append-nil}
 use Rattle.std.specs.Prelude.{Option, fold, string_bytes}
 use Rattle.std.proofs.lemmas.List.{map_push, map-append, nil_from_length, length-take, take_more, take_all}
 use Rattle.std.proofs.lemmas.List.Sums.{fold_push, fold-append}
-use Rattle.ipc_text.specs.Lines.{Split, split, whole_line, within_limit, last_lines, complete_lines, lines_of}
+use Rattle.ipc_words.specs.Lines.{Split, split, whole_line, within_limit, last_lines, complete_lines, lines_of}
 use Rattle.ipcsh.specs.Output.{Answers, Input, Printed, after_line, answered, lines_in}
 use Rattle.ipcsh.specs.declared.input.ScriptInput.{ScriptInput}
 use Rattle.ipcsh.specs.Inputs.{HasRead, Takes}
 use Rattle.ipcsh.specs.Runs.{LeadTo}
 use Rattle.ipcsh.specs.Session.{Session, fresh_session}
-use Rattle.ipc_text.proofs.LineLemmas.{kept_whole, kept_last, kept_more, split_feed, split_byte, complete_more}
+use Rattle.ipc_words.proofs.LineLemmas.{kept_whole, kept_last, kept_more, split_feed, split_byte, complete_more}
 
 -- a line that was answered leads on
 pub LeadTo-line : (lines : List (Option (List ℕ))) (s : Session) (line : Option (List ℕ)) (new : Session) (front old rows : List ℕ)
@@ -76,7 +76,7 @@ output_grows p (input ∷ inputs) =
     ((answered p.session input).rows ++ more.0, more.1 ∙ append_assoc p.output (answered p.session input).rows more.0)
 
 unrefused : List (Option (List ℕ)) → List Input
-unrefused lines = map (λ line. (line, false)) lines
+unrefused lines = map (λ line. (line, [])) lines
 
 lines_in-unrefused : (lines : List (Option (List ℕ))) → lines_in (unrefused lines) ≡ lines
 unfolding unrefused

@@ -9,7 +9,7 @@ use Rattle.ipcsh.specs.declared.runs.Summary.{Summary}
 use Rattle.ipcsh.specs.declared.runs.Fault.{Fault}
 use Rattle.ipcsh.specs.declared.runs.Fault.TheVariants as faults
 use Rattle.ipcsh.specs.Inputs.{HasRead, Takes}
-use Rattle.ipc_text.specs.Lines.{complete_lines, lines_of}
+use Rattle.ipc_words.specs.Lines.{complete_lines, lines_of}
 use Rattle.ipcsh.specs.Output.{Printed}
 use Rattle.ipcsh.specs.Runs.{LeadTo, Transfer, WritesWhole, WritesFront, StopsBy, summary_of}
 use Rattle.ipcsh.specs.Session.{fresh_session}

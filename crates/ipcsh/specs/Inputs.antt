@@ -1,7 +1,7 @@
 -- What the reader of a script holds between two bytes.
 use Rattle.std.specs.Prelude.{◌≡◌, ℕ, List, ◌++◌, take, string_bytes}
 use Rattle.ipcsh.specs.declared.input.ScriptInput.{ScriptInput}
-use Rattle.ipc_text.specs.Lines.{complete_lines, split}
+use Rattle.ipc_words.specs.Lines.{complete_lines, split}
 use Rattle.ipcsh.specs.Runs.{LeadTo}
 
 -- the text was read and its complete lines answered; of their rows these were written, and the others are held

@@ -1,5 +1,7 @@
+pub mod Commands
 pub mod Inputs
 pub mod Inside
+pub mod Leading
 pub mod Output
 pub mod Readings
 pub mod Runs

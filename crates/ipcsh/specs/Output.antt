@@ -1,15 +1,11 @@
--- The output of a script, for any applications that memory refused.
-use Rattle.std.specs.Prelude.{◌≡◌, ℕ, ◌+◌, Bool, true, false, List, [], ◌∷◌, ◌++◌, length, map, fold, Option, Some}
-use Rattle.ipc_call.specs.declared.calls.Call.{Call}
-use Rattle.ipc_call.specs.declared.replies.Reply.TheVariants.{Memory}
-use Rattle.ipc_model.specs.History.{History, next_step, with_event}
-use Rattle.ipc_model.specs.Step.{Event, Stepped}
-use Rattle.ipc_space.specs.Spaces.{own_reply, other_replies}
+-- The output of a script, for any calls that memory refused.
+use Rattle.std.specs.Prelude.{◌≡◌, ℕ, ◌+◌, Bool, List, [], ◌∷◌, ◌++◌, map, fold, Option}
+use Rattle.ipcsh.specs.Commands.{Progress, parts_made}
 use Rattle.ipcsh.specs.declared.readings.Reading.{Reading}
 use Rattle.ipcsh.specs.declared.readings.Reading.TheVariants as readings
 use Rattle.ipcsh.specs.Readings.{reading_of}
-use Rattle.ipc_text.specs.Rows.{bad_row, effect_rows, reply_row, name_at}
-use Rattle.ipcsh.specs.Session.{Session, fresh_session, history_of}
+use Rattle.ipc_text.specs.Rows.{bad_row}
+use Rattle.ipcsh.specs.Session.{Session, fresh_session}
 use Rattle.ipc_call.specs.Limits.{with_limit}
 
 -- a session, and all that was printed on the way to it
@@ -22,32 +18,20 @@ pub record Answered : Type 0 where
   pub session : Session
   pub rows : List ℕ
 
-abbrev pub call_event : Session → ℕ → Call → Event
-call_event s client call = record { client = client; now = s.time; call = call }
+abbrev pub answer_in : Progress → Answered
+answer_in p = record { session = p.session; rows = p.rows }
 
-abbrev pub event_rows : List (List ℕ) → ℕ → ℕ → Stepped → List ℕ
-event_rows names client place stepped =
-    effect_rows names client place (own_reply place stepped.own) (other_replies place stepped.ended)
-
--- the event is entered, or memory was refused: then it is left out of the history
-abbrev pub called : Session → ℕ → Call → History → Bool → Answered
-called s client call h true =
-    record { session = record s { history = Some h }; rows = reply_row (name_at s.names client) Memory }
-called s client call h false = record {
-  session = record s { history = Some (with_event h (call_event s client call)) };
-  rows = event_rows s.names client (length h.events + 1) (next_step h (call_event s client call));
-}
-
-abbrev pub carried_out : Session → Reading → Bool → Answered
-carried_out s readings.Skip refused = record { session = s; rows = [] }
-carried_out s (readings.Bad reason) refused =
+abbrev pub carried_out : Session → Reading → List Bool → Answered
+carried_out s readings.Skip refusals = record { session = s; rows = [] }
+carried_out s (readings.Bad reason) refusals =
     record { session = record s { bad = s.bad + 1 }; rows = bad_row s.lines reason }
-carried_out s (readings.Client name creds) refused =
+carried_out s (readings.Client name creds) refusals =
     record { session = record s { names = s.names ++ name ∷ []; clients = s.clients ++ creds ∷ [] }; rows = [] }
-carried_out s (readings.Limit limit n) refused =
+carried_out s (readings.Limit limit n) refusals =
     record { session = record s { limits = with_limit s.limits limit n }; rows = [] }
-carried_out s (readings.Clock now) refused = record { session = record s { time = now }; rows = [] }
-carried_out s (readings.Call client call) refused = called s client call (history_of s) refused
+carried_out s (readings.Clock now) refusals = record { session = record s { time = now }; rows = [] }
+carried_out s (readings.Command client parts) refusals =
+    answer_in (parts_made client parts (record { session = s; rows = []; refusals = refusals }))
 
 abbrev pub counted : Session → Session
 counted s = record s { lines = s.lines + 1 }
@@ -57,22 +41,23 @@ pub record IsAnswer (a : Answered) (new : Session) (old_rows new_rows : List ℕ
   pub session : new ≡ a.session
   pub rows : new_rows ≡ old_rows ++ a.rows
 
--- carried out, whether or not memory refused the call
+-- carried out, for some refusals of memory
 abbrev pub CarriesOut : Session → Reading → Session → List ℕ → List ℕ → Type 0
 CarriesOut old reading new old_rows new_rows =
-    (refused : Bool) × IsAnswer (carried_out old reading refused) new old_rows new_rows
+    (refusals : List Bool) × IsAnswer (carried_out old reading refusals) new old_rows new_rows
 
--- a line, and whether memory refused the call that it makes
+-- a line, and for each call that it makes, in order, whether memory was refused to it; to calls beyond the end of the
+-- list it wasn't
 abbrev pub Input : Type 0
-Input = Option (List ℕ) × Bool
+Input = Option (List ℕ) × List Bool
 
 unfoldable pub answered : Session → Input → Answered
 answered s input = carried_out (counted s) (reading_of (counted s) input.0) input.1
 
--- the line was answered, whether or not memory refused its call
+-- the line was answered, for some refusals of memory
 abbrev pub Answers : Session → Option (List ℕ) → Session → List ℕ → List ℕ → Type 0
 Answers old line new old_rows new_rows =
-    (refused : Bool) × IsAnswer (answered old (line, refused)) new old_rows new_rows
+    (refusals : List Bool) × IsAnswer (answered old (line, refusals)) new old_rows new_rows
 
 abbrev pub with_rows : Printed → Answered → Printed
 with_rows p a = record { session = a.session; output = p.output ++ a.rows }

@@ -1,16 +1,16 @@
 -- What a line says at its place in a script.
-use Rattle.std.specs.Prelude.{◌≡◌, ◌<◌, ℕ, Bool, true, false, ◌==◌, List, [], ◌∷◌, length, codes, bytes_eq, nat_le, Option, Some, None, if◌then◌else◌, is_some}
-use Rattle.ipc_call.specs.declared.calls.Call.{Call}
+use Rattle.std.specs.Prelude.{◌≡◌, ◌<◌, ℕ, Bool, true, false, ◌==◌, List, [], ◌∷◌, length, codes, bytes_eq, nat_le, Option, Some, None, Result, Ok, Err, if◌then◌else◌, is_some}
 use Rattle.ipc_creds.specs.Credentials.{Credentials}
 use Rattle.ipcsh.specs.declared.readings.Reading.{Reading}
 use Rattle.ipcsh.specs.declared.readings.Reading.TheVariants as readings
+use Rattle.ipc_commands.specs.declared.parts.Part.{Part}
 use Rattle.ipc_text.specs.declared.reasons.Reason.{Reason}
 use Rattle.ipc_text.specs.declared.reasons.Reason.TheVariants as reasons
 use Rattle.ipc_call.specs.declared.limits.Limit.{Limit}
-use Rattle.ipc_text.specs.Calls.{call_of}
+use Rattle.ipc_text.specs.Commands.{command_of}
 use Rattle.ipc_text.specs.Grammar.{client_of, limit_of, clock_of}
 use Rattle.ipc_call.specs.Limits.{is_in_range}
-use Rattle.ipc_text.specs.Words.{words_of, is_plain}
+use Rattle.ipc_words.specs.Words.{words_of, is_plain}
 use Rattle.ipcsh.specs.Session.{Session, has_started, waits, client_named}
 
 abbrev pub begins_comment : List ℕ → Bool
@@ -40,13 +40,13 @@ abbrev pub clock_line : Option ℕ → Reading
 clock_line None = readings.Bad reasons.BadLine
 clock_line (Some now) = readings.Clock now
 
-abbrev pub call_by : Session → ℕ → Option Call → Reading
-call_by s client None = readings.Bad reasons.BadLine
-call_by s client (Some call) = if waits s client then readings.Bad reasons.Busy else readings.Call client call
+abbrev pub command_by : Session → ℕ → Result (List Part) Reason → Reading
+command_by s client (Err reason) = readings.Bad reason
+command_by s client (Ok parts) = if waits s client then readings.Bad reasons.Busy else readings.Command client parts
 
-abbrev pub call_line : Session → Option ℕ → List (List ℕ) → Reading
-call_line s None words = readings.Bad reasons.UnknownClient
-call_line s (Some client) words = call_by s client (call_of words)
+abbrev pub command_line : Session → Option ℕ → List (List ℕ) → Reading
+command_line s None words = readings.Bad reasons.UnknownClient
+command_line s (Some client) words = command_by s client (command_of words)
 
 -- the first word is a directive or a client's name
 abbrev pub words_line : Session → List ℕ → List (List ℕ) → Reading
@@ -54,7 +54,7 @@ words_line s word words =
     if bytes_eq word (codes "client") then client_line s (client_of words)
     else (if bytes_eq word (codes "limit") then limit_line s (limit_of words)
     else (if bytes_eq word (codes "clock") then clock_line (clock_of words)
-    else call_line s (client_named s word) words))
+    else command_line s (client_named s word) words))
 
 -- a line without a word, or whose first word begins with a number sign, is skipped, whatever bytes it has
 abbrev pub text_line : Session → List ℕ → List (List ℕ) → Reading
@@ -79,4 +79,4 @@ IsSound s (readings.Bad reason) = Unit {0}
 IsSound s (readings.Client name creds) = CanJoin s
 IsSound s (readings.Limit limit n) = (has_started s ≡ false) × (is_in_range limit n ≡ true)
 IsSound s (readings.Clock now) = Unit {0}
-IsSound s (readings.Call client call) = (client < length s.names) × (waits s client ≡ false)
+IsSound s (readings.Command client parts) = client < length s.names

@@ -5,7 +5,7 @@ use Rattle.std.specs.Io.KnownBytes.{Appends, Consumes, IsAtEnd}
 use Rattle.ipcsh.specs.declared.runs.Summary.{Summary}
 use Rattle.ipcsh.specs.declared.runs.Fault.{Fault}
 use Rattle.ipcsh.specs.declared.runs.Fault.TheVariants as faults
-use Rattle.ipc_text.specs.Lines.{complete_lines, lines_of}
+use Rattle.ipc_words.specs.Lines.{complete_lines, lines_of}
 use Rattle.ipcsh.specs.Output.{Input, Printed, after_lines, lines_in}
 use Rattle.ipcsh.specs.Session.{Session, events_of}
 

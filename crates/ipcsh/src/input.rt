@@ -3,7 +3,7 @@
 ghost use Rattle.std.specs.Prelude.{◌≡◌, ◌<◌, ◌≤◌, ◌+◌, ◌^◌, ◌++◌, ◌∷◌, [], List, ℕ, OnOk, OnErr, IfErr, length, string_bytes};
 ghost use Rattle.std.specs.Io.KnownBytes.{Appends};
 ghost use Rattle.ipcsh.specs.Session.{fresh_session};
-ghost use Rattle.ipc_text.specs.Lines.{lines_of};
+ghost use Rattle.ipc_words.specs.Lines.{lines_of};
 ghost use Rattle.ipcsh.specs.Runs.{LeadTo};
 ghost use Rattle.ipcsh.specs.Inputs.{HasRead, Takes};
 

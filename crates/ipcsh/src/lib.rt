@@ -2,6 +2,7 @@
 //! row for each reply.
 #![tactic(auto)]
 
+mod commands;
 mod input;
 mod output;
 mod readings;

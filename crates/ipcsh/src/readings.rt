@@ -1,8 +1,8 @@
 // What a line says at its place in a script.
 
 ghost use Rattle.std.specs.Prelude.{◌≡◌, IfOk, IfNone};
-ghost use Rattle.ipc_text.specs.LineText.{content_of};
-ghost use Rattle.ipc_text.specs.Words.{words_of};
+ghost use Rattle.ipc_words.specs.LineText.{content_of};
+ghost use Rattle.ipc_words.specs.Words.{words_of};
 ghost use Rattle.ipcsh.specs.Readings.{
   begins_comment as comments,
   reading_of,
@@ -13,16 +13,18 @@ ghost use Rattle.ipcsh.specs.Readings.{
   CanJoin,
   limit_line,
   clock_line,
-  call_line,
+  command_line,
   IsSound,
 };
 ghost use Rattle.ipcsh.specs.Session.{client_named as client_with};
 ghost use Rattle.ipc_text.specs.Grammar.{client_of as client_in, limit_of as limit_in, clock_of as clock_in};
 
 use crate::session::{CLIENTS_MAX, Session};
-use ipc_call::{Call, Limit, Memory};
+use ipc_call::{Limit, Memory};
 use ipc_creds::Creds;
-use ipc_text::{Line, Name, Reason, call_of, client_of, clock_of, is_plain, limit_of, split_word};
+use ipc_text::{
+    Command, Line, Name, Reason, client_of, clock_of, command_of, is_plain, limit_of, split_word,
+};
 use std::alloc::Global;
 
 /// What a line says.
@@ -38,8 +40,8 @@ pub(crate) enum Reading {
     Limit(Limit, u32),
     /// The time from here on, in seconds.
     Clock(u64),
-    /// A call of the client of this number.
-    Call(u32, Call),
+    /// Calls of the client of this number.
+    Command(u32, Command),
 }
 
 impl Session {
@@ -83,7 +85,7 @@ impl Session {
         } else if word == b"clock".as_slice() {
             Ok(read_clock(words))
         } else {
-            self.read_call(alloc, word, words)
+            self.read_command(alloc, word, words)
         }
     }
 
@@ -129,20 +131,21 @@ impl Session {
         Reading::Limit(limit, value)
     }
 
-    fn read_call(&self, alloc: Global, word: &[u8], words: &[u8]) -> Result<Reading, Memory>
-        ensures value { IfOk result (λ r. r ≡ call_line self.now (client_with self.now word.now) (words_of words.now)) }
+    fn read_command(&self, alloc: Global, word: &[u8], words: &[u8]) -> Result<Reading, Memory>
+        ensures value { IfOk result (λ r. r ≡ command_line self.now (client_with self.now word.now) (words_of words.now)) }
         ensures sound { IfOk result (IsSound self.now) }
     {
         let Some(client) = self.client_named(word) else {
             return Ok(Reading::Bad(Reason::UnknownClient));
         };
-        let Some(call) = call_of(alloc, words)? else {
-            return Ok(Reading::Bad(Reason::BadLine));
+        let command = match command_of(alloc, words)? {
+            Ok(command) => command,
+            Err(reason) => return Ok(Reading::Bad(reason)),
         };
         if self.is_waiting(client) {
             return Ok(Reading::Bad(Reason::Busy));
         }
-        Ok(Reading::Call(client, call))
+        Ok(Reading::Command(client, command))
     }
 }
 

@@ -5,11 +5,12 @@ ghost use Rattle.std.specs.List.{position_from};
 ghost use Rattle.ipcsh.specs.Session.{fresh_session, has_started as started, client_named as client_with, events_of, history_of, waits};
 ghost use Rattle.ipc_space.specs.Spaces.{own_reply, other_replies};
 ghost use Rattle.ipc_model.specs.History.{next_step, with_event};
-ghost use Rattle.ipcsh.specs.Output.{Answers, CarriesOut, call_event};
+ghost use Rattle.ipcsh.specs.Commands.{call_event};
+ghost use Rattle.ipcsh.specs.Output.{Answers, CarriesOut};
 ghost use Rattle.ipcsh.specs.Readings.{CanJoin, IsSound};
 ghost use Rattle.ipc_text.specs.Rows.{bad_row, effect_rows, other_row, name_at as name_in};
 ghost use Rattle.ipc_call.specs.Limits.{is_in_range, with_limit as limits_with};
-ghost use Rattle.ipc_text.specs.LineText.{content_of};
+ghost use Rattle.ipc_words.specs.LineText.{content_of};
 ghost use Rattle.ipcsh.specs.Runs.{summary_of};
 
 use crate::readings::Reading;
@@ -150,7 +151,7 @@ impl Session {
                 self.set_time(now);
                 Ok(())
             }
-            Reading::Call(client, call) => self.call(alloc, client, call, rows),
+            Reading::Command(client, command) => self.make_all(alloc, client, command, rows),
         }
     }
 
@@ -188,28 +189,8 @@ impl Session {
         self.time = now;
     }
 
-    /// Makes a call, and prints the rows of its event, or the row of a refusal of memory.
-    fn call(
-        &mut self,
-        alloc: Global,
-        client: u32,
-        call: Call,
-        rows: &mut String,
-    ) -> Result<(), Memory>
-        requires known { client < length self.old.names }
-        requires free { waits self.old client ≡ false }
-        ensures does { OnOk result (CarriesOut self.old (Reading.Call client call) self.new (string_bytes rows.old) (string_bytes rows.new)) }
-        ensures lines { OnOk result (self.new.lines ≡ self.old.lines) }
-    {
-        self.start(alloc)?;
-        match self.apply(client, call) {
-            Ok(effects) => self.print_effects(client, effects, rows),
-            Err(_) => print_reply(rows, self.name_at(client), &Reply::Memory),
-        }
-    }
-
     /// Starts the namespace, where no call has done so.
-    fn start(&mut self, alloc: Global) -> Result<(), Memory>
+    pub(crate) fn start(&mut self, alloc: Global) -> Result<(), Memory>
         requires { 1 ≤ length self.old.names }
         ensures { OnOk result (self.new ≡ record self.old { history = Some (history_of self.old) }) }
     {
@@ -222,7 +203,7 @@ impl Session {
     }
 
     /// Enters a call in the namespace, at the time passed in.
-    fn apply(&mut self, client: u32, call: Call) -> Result<Effects, Memory>
+    pub(crate) fn apply(&mut self, client: u32, call: Call) -> Result<Effects, Memory>
         requires started { started self.old ≡ true }
         requires known { client < length self.old.names }
         requires free { waits self.old client ≡ false }
@@ -240,8 +221,14 @@ impl Session {
         space.apply(client, self.time, call)
     }
 
-    fn print_effects(&self, client: u32, effects: Effects, rows: &mut String) -> Result<(), Memory>
-        ensures { OnOk result (string_bytes rows.new ≡ string_bytes rows.old ++ effect_rows self.now.names client effects.place effects.own effects.others.items) }
+    /// Prints the rows of a client's event.
+    pub(crate) fn print_effects(
+        &self,
+        client: u32,
+        effects: &Effects,
+        rows: &mut String,
+    ) -> Result<(), Memory>
+        ensures { OnOk result (string_bytes rows.new ≡ string_bytes rows.old ++ effect_rows self.now.names client effects.now.place effects.now.own effects.now.others.items) }
     {
         match &effects.own {
             Some(reply) => print_reply(rows, self.name_at(client), reply)?,
@@ -259,7 +246,7 @@ impl Session {
         Ok(())
     }
 
-    fn name_at(&self, client: u32) -> &str
+    pub(crate) fn name_at(&self, client: u32) -> &str
         ensures { result.now ≡ name_in self.now.names client }
     {
         match self.names.get(client as usize) {

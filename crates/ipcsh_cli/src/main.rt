@@ -3,6 +3,8 @@
 #![tactic(auto)]
 
 use ipcsh::Fault;
+use std::alloc::{AllocError, Global};
+use std::env::Args;
 use std::io::ErrorKind;
 use std::process::ExitCode;
 use std::rt::Env;
@@ -17,18 +19,25 @@ const FAULT: u8 = 2;
 /// Words that the program doesn't take.
 const USAGE: u8 = 3;
 
-/// Whether the program was given words behind its name. A word that is no text is one too.
-fn has_words<R: Env + AllocGlobal>(rt: &R) -> Result<bool, Fault> {
+/// Whether the program takes the words that it was given: none behind its name, or `--` alone. A word that is no text
+/// it doesn't take.
+fn takes_words<R: Env + AllocGlobal>(rt: &R) -> Result<bool, Fault> {
     match env::args(rt) {
-        Ok(args) => Ok(args.skip(1).count() > 0),
+        Ok(given) => Ok(takes(rt.alloc(), given)?),
         Err(error) if error.kind() == ErrorKind::OutOfMemory => Err(Fault::Memory),
-        Err(_) => Ok(true),
+        Err(_) => Ok(false),
     }
+}
+
+fn takes(alloc: Global, given: Args) -> Result<bool, AllocError> {
+    let texts: Vec<String> = given.collect(alloc)?;
+    let words: Vec<&str> = texts.iter().map(|text| text.as_str()).collect(alloc)?;
+    ipc_commands::takes_words(alloc, words.as_slice())
 }
 
 /// Runs the script on standard input.
 fn run_script<R: Env + Input + Print + AllocGlobal>(rt: &R) -> Result<u8, Fault> {
-    if has_words(rt)? {
+    if !takes_words(rt)? {
         return Ok(USAGE);
     }
     let summary = ipcsh::run(rt.alloc(), &mut rt.reader(), &mut io::writer(rt))?;

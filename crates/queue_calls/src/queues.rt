@@ -19,7 +19,7 @@ ghost use Rattle.std.specs.Prelude.{
   option_copied,
   option_map,
 };
-ghost use Rattle.ipc_ids.specs.Table.{empty_table, find_object, next_id as id_of_next, with_object, without_object};
+ghost use Rattle.ipc_ids.specs.Table.{empty_table, find_object, ids_of, next_id as id_of_next, with_object, without_object};
 ghost use Rattle.ipc_call.specs.Flags.{has_flag, msg_except};
 ghost use Rattle.ipc_model.specs.Controls.{perm_in, with_settings};
 ghost use Rattle.ipc_model.specs.Gets.{object_of_key};
@@ -33,9 +33,9 @@ ghost use Rattle.queue_calls.specs.Held.{one_if, queue_of, queues_of, room};
 
 use crate::queue::Queue;
 use ipc_call::{Items, Memory, Outcome, Settings};
-use ipc_objects::{Object, Objects, Owner};
-use ipc_perm::{Mode, Perm};
-use object_calls::Caller;
+use ipc_objects::{Object, Objects};
+use ipc_perm::Perm;
+use object_calls::{Caller, owner_of};
 use std::alloc::Global;
 use std::marker::Model;
 
@@ -99,6 +99,13 @@ impl Queues {
         self.objects.perm(id)
     }
 
+    /// The identifiers of the queues, by rising slot. Memory comes where a growth was refused.
+    pub fn ids(&self) -> Result<Vec<u32>, Memory>
+        ensures { IfOk result (λ ids. ids.items ≡ ids_of (queues_of self.now)) }
+    {
+        self.objects.ids()
+    }
+
     /// The identifier of the next new queue, None where each slot holds one or is retired.
     pub(super) fn next_id(&self) -> Option<u32>
         ensures { result ≡ id_of_next (queues_of self.now) }
@@ -131,12 +138,7 @@ impl Queues {
             unreachable!()
         };
         queue.set_qbytes(new.qbytes);
-        let owner = Owner {
-            uid: new.uid,
-            gid: new.gid,
-            mode: Mode::from_low_bits(new.mode),
-        };
-        self.objects.set_owner(id, owner, now);
+        self.objects.set_owner(id, owner_of(new), now);
     }
 
     /// Reserves a place for a message to come in the queue of an identifier, which there is. Memory comes where a

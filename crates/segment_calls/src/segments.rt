@@ -1,16 +1,17 @@
 //! The shared memory segments of a namespace.
 
-ghost use Rattle.std.specs.Prelude.{◌≡◌, ◌≤◌, IsSome, option_copied};
-ghost use Rattle.ipc_ids.specs.Table.{empty_table};
+ghost use Rattle.std.specs.Prelude.{◌≡◌, ◌≤◌, IfOk, IsSome, option_copied};
+ghost use Rattle.ipc_ids.specs.Table.{empty_table, ids_of};
 ghost use Rattle.ipc_model.specs.Controls.{marked, perm_in, with_new_owner, without_segment};
 ghost use Rattle.ipc_model.specs.Segments.{segment_at};
 ghost use Rattle.ipc_objects.specs.Objects.{changed};
 ghost use Rattle.shm_seg.specs.Attachments.{attach_count, none_attached};
 
 use crate::segment::Segment;
-use ipc_call::Settings;
-use ipc_objects::{Object, Objects, Owner};
-use ipc_perm::{Mode, Perm};
+use ipc_call::{Memory, Settings};
+use ipc_objects::{Object, Objects};
+use ipc_perm::Perm;
+use object_calls::owner_of;
 use shm_seg::Attachments;
 use std::alloc::Global;
 use std::marker::Model;
@@ -63,6 +64,13 @@ impl Segments {
         self.segments.perm(id)
     }
 
+    /// The identifiers of the segments, by rising slot. The error comes only where an allocation fails.
+    pub fn ids(&self) -> Result<Vec<u32>, Memory>
+        ensures { IfOk result (λ ids. ids.items ≡ ids_of self.now.segments) }
+    {
+        self.segments.ids()
+    }
+
     /// How many attachments are to the segment of an identifier, those of all clients (shm_nattch of shmctl(2)).
     pub fn nattch(&self, id: u32) -> u64
         ensures { result ≡ attach_count self.now.attached id }
@@ -76,12 +84,7 @@ impl Segments {
         requires { IsSome (segment_at self.old id) }
         ensures { self.new ≡ record self.old { segments = changed self.old.segments id (with_new_owner now new) } }
     {
-        let owner = Owner {
-            uid: new.uid,
-            gid: new.gid,
-            mode: Mode::from_low_bits(new.mode),
-        };
-        self.segments.set_owner(id, owner, now);
+        self.segments.set_owner(id, owner_of(new), now);
     }
 
     /// Removes the segment of an identifier, which there is, and frees its key (IPC_RMID of shmctl(2)). One that is

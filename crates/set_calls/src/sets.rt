@@ -1,18 +1,19 @@
 //! The semaphore sets of a namespace.
 
-ghost use Rattle.std.specs.Prelude.{◌≡◌, ◌≤◌, ℕ, true, IsSome, option_copied};
+ghost use Rattle.std.specs.Prelude.{◌≡◌, ◌≤◌, ℕ, true, IfOk, IsSome, option_copied};
 ghost use Rattle.std.specs.FinMap as finite;
-ghost use Rattle.ipc_ids.specs.Table.{empty_table};
+ghost use Rattle.ipc_ids.specs.Table.{empty_table, ids_of};
 ghost use Rattle.ipc_model.specs.Controls.{perm_in, with_new_owner, without_set};
-ghost use Rattle.ipc_model.specs.Semaphores.{set_at};
+ghost use Rattle.ipc_model.specs.Semaphores.{set_at, values_at};
 ghost use Rattle.ipc_objects.specs.Objects.{changed};
 ghost use Rattle.sem_undo.specs.Entries.{nothing_undone};
 ghost use Rattle.set_calls.specs.Held.{row_at, sems_of};
 
 use crate::set::Set;
-use ipc_call::Settings;
-use ipc_objects::{Object, Objects, Owner};
-use ipc_perm::{Mode, Perm};
+use ipc_call::{Memory, Settings};
+use ipc_objects::{Object, Objects};
+use ipc_perm::Perm;
+use object_calls::owner_of;
 use sem_undo::Undo;
 use std::alloc::Global;
 use std::marker::Model;
@@ -65,18 +66,31 @@ impl Sets {
         self.sets.perm(id)
     }
 
+    /// The identifiers of the sets, by rising slot. The error comes only where an allocation fails.
+    pub fn ids(&self) -> Result<Vec<u32>, Memory>
+        ensures { IfOk result (λ ids. ids.items ≡ ids_of self.now.sets) }
+    {
+        self.sets.ids()
+    }
+
+    /// The values of all semaphores of the set of an identifier; none where there is no such set. The error comes only
+    /// where an allocation fails.
+    pub fn values(&self, id: u32) -> Result<Vec<u16>, Memory>
+        ensures { IfOk result (λ values. values.items ≡ values_at (sems_of self.now) id) }
+    {
+        match self.get(id) {
+            Some(set) => set.contents.semaphores.values(self.alloc),
+            None => Ok(Vec::new(self.alloc)),
+        }
+    }
+
     /// Sets the owner and the mode of the set of an identifier, which there is, at a time in seconds (IPC_SET of
     /// semctl(2)). It takes no memory.
     pub fn set(&mut self, id: u32, new: Settings, now: u64)
         requires { IsSome (set_at (sems_of self.old) id) }
         ensures { self.new ≡ record self.old { sets = changed self.old.sets id (with_new_owner now new) } }
     {
-        let owner = Owner {
-            uid: new.uid,
-            gid: new.gid,
-            mode: Mode::from_low_bits(new.mode),
-        };
-        self.sets.set_owner(id, owner, now);
+        self.sets.set_owner(id, owner_of(new), now);
     }
 
     /// Takes out the set of an identifier, which there is, with what exit undoes of it, and frees its key. It takes no

@@ -1,7 +1,7 @@
 -- the capabilities so far with those of the fields that are left are those of the whole list
 use Rattle.std.proofs.Common.{◌≡◌}
 use Rattle.ipc_text.specs.Grammar.{with_capabilities}
-use Rattle.ipc_text.specs.Words.{fields_of}
+use Rattle.ipc_words.specs.Words.{fields_of}
 use Rattle.ipc_text.proofs.GrammarLemmas.{bytes_left, fields_left}
 use Rattle.ipc_text.proofs.grammar.capability_list.Given as goal
 

@@ -1,6 +1,6 @@
 -- the groups so far with those of the fields that are left are those of the whole list
 use Rattle.std.proofs.Common.{◌≡◌, ◌≤◌, [], vec_len}
-use Rattle.ipc_text.specs.Words.{fields_of}
+use Rattle.ipc_words.specs.Words.{fields_of}
 use Rattle.ipc_text.proofs.GrammarLemmas.{bytes_left, fields_left, with_groups}
 use Rattle.ipc_text.proofs.grammar.group_list.Given as goal
 

@@ -2,7 +2,7 @@
 use Rattle.std.proofs.Common.{◌≡◌, ◌++◌, length}
 use Rattle.std.specs.Prelude.{option_map}
 use Rattle.ipc_text.specs.Grammar.{each_of}
-use Rattle.ipc_text.specs.Words.{words_of}
+use Rattle.ipc_words.specs.Words.{words_of}
 use Rattle.ipc_text.proofs.lists.items_of.Given as goal
 
 abbrev pub invariant-loop-word : goal.invariant-loop-word

@@ -1,8 +1,8 @@
 use Rattle.std.proofs.Common.{◌≡◌, ◌<◌, ℕ, List, [], ◌∷◌, length, arith, refl, sym}
 use Rattle.std.specs.Prelude.{None}
 use Rattle.ipc_text.specs.Sets.{oper_flags}
-use Rattle.ipc_text.specs.Words.{fields_of}
-use Rattle.ipc_text.proofs.WordLemmas.{some_field}
+use Rattle.ipc_words.specs.Words.{fields_of}
+use Rattle.ipc_words.proofs.WordLemmas.{some_field}
 use Rattle.ipc_text.proofs.sets.flags_of.Goals as goal
 
 -- a field behind the flags

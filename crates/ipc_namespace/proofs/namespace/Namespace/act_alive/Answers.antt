@@ -3,7 +3,7 @@ use mir.Val.{SFits}
 use Rattle.std.proofs.lemmas.Int.{to_z-of_z}
 use Rattle.std.proofs.lemmas.Result.{on_ok_weaker}
 use Rattle.ipc_call.specs.declared.calls.Call.{Call}
-use Rattle.ipc_call.specs.declared.calls.Call.TheVariants.{MsgGet, MsgSnd, MsgRcv, SemOp, GetNcnt, GetZcnt, IpcStat, Exit}
+use Rattle.ipc_call.specs.declared.calls.Call.TheVariants.{MsgGet, MsgSnd, MsgRcv, SemOp, GetNcnt, GetZcnt, IpcStat, Listing, Exit}
 use Rattle.ipc_call.specs.declared.rules.Rule.TheVariants.{BadId}
 use Rattle.sem_set.specs.declared.sets.Semaphore.{Semaphore}
 use Rattle.ipc_model.specs.State.{Sems, State, caller, creds_at}
@@ -60,6 +60,14 @@ returns-in-IpcStat-clause-state c =
 pub returns-in-IpcStat-clause-ended : goal.returns-in-IpcStat-clause-ended
 returns-in-IpcStat-clause-ended c =
     c.requires.empty ∙ none-ended c.args.self.now c.args.client c.args.call (IpcStat c.in-IpcStat.kind c.in-IpcStat.id) c.in-IpcStat.is (λ new w. refl)
+
+pub returns-in_ok-list-in-Listing-clause-state : goal.returns-in_ok-list-in-Listing-clause-state
+returns-in_ok-list-in-Listing-clause-state c =
+    sym (ap (λ (m : Moved). m.state) (moved-nothing c.args.self.now c.args.client c.args.call (Listing c.in-Listing.kind) _ c.in-Listing.is (λ new w. refl) c.in_ok-list-in-Listing.ensures.outcome c.in_ok-list-in-Listing.ensures.same))
+
+pub returns-in_ok-list-in-Listing-clause-ended : goal.returns-in_ok-list-in-Listing-clause-ended
+returns-in_ok-list-in-Listing-clause-ended c =
+    c.requires.empty ∙ none-ended c.args.self.now c.args.client c.args.call (Listing c.in-Listing.kind) c.in-Listing.is (λ new w. refl)
 
 pub returns-in_ok-on_sets-in-SemGet-clause-state : goal.returns-in_ok-on_sets-in-SemGet-clause-state
 returns-in_ok-on_sets-in-SemGet-clause-state c =

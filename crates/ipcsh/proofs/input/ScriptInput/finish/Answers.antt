@@ -2,8 +2,8 @@ use Rattle.std.proofs.Common.{◌≡◌, ℕ, List, [], ◌∷◌, ◌++◌, sub
 use Rattle.std.specs.Prelude.{string_bytes, Option}
 use Rattle.std.proofs.lemmas.Result.{on_ok_weaker}
 use Rattle.std.proofs.lemmas.Bool.{both_ways}
-use Rattle.ipc_text.specs.LineText.{content_of}
-use Rattle.ipc_text.specs.Lines.{split, complete_lines}
+use Rattle.ipc_words.specs.LineText.{content_of}
+use Rattle.ipc_words.specs.Lines.{split, complete_lines}
 use Rattle.ipcsh.specs.Runs.{LeadTo}
 use Rattle.ipcsh.proofs.InputLemmas.{LeadTo-line, last_is, lines_with_last, lines_without_last, none_kept, some_kept}
 use Rattle.ipcsh.proofs.input.ScriptInput.finish.Goals as goal

@@ -1,6 +1,6 @@
 use Rattle.std.proofs.Common.{ℕ, List, [], ◌∷◌, ◌++◌, subst, sym}
 use Rattle.std.specs.Prelude.{string_bytes, Option}
-use Rattle.ipc_text.specs.LineText.{content_of}
+use Rattle.ipc_words.specs.LineText.{content_of}
 use Rattle.ipcsh.specs.Inputs.{HasRead}
 use Rattle.ipcsh.specs.Runs.{LeadTo}
 use Rattle.ipcsh.proofs.InputLemmas.{HasRead-feed, kept_byte, complete_byte}

@@ -1,0 +1,12 @@
+use Rattle.std.proofs.Common.{ap₂, ◌∙◌}
+use Rattle.std.proofs.lemmas.Result.{IfOk-weaker}
+use Rattle.clap.specs.Words.{with_rule}
+use Rattle.ipc_commands.specs.Options.{ipcs_app}
+use Rattle.ipc_commands.proofs.options.ipcs.Goals as goal
+
+pub returns : goal.returns
+unfolding ipcs_app
+returns c =
+    let one = c.in_ok-arg.ensures.shape c.flag.ensures.local ∙ ap₂ with_rule c.new.ensures.app c.flag.ensures.rule in
+    let two = c.in_ok-arg-2.ensures.shape c.flag-2.ensures.local ∙ ap₂ with_rule one c.flag-2.ensures.rule in
+    IfOk-weaker c.arg-3.result _ _ (λ command h. h.shape c.flag-3.ensures.local ∙ ap₂ with_rule two c.flag-3.ensures.rule) c.arg-3.ensures

@@ -1,0 +1,123 @@
+-- Lines whose bytes come one after the other.
+use Rattle.std.proofs.Common.{◌≡◌, ℕ, ◌-◌, ◌<◌, ◌≤◌, ◌⊎◌, Bool, true, false, cond, List, [], ◌∷◌, ◌++◌, length, take, arith, refl, ap, sym, zero, suc, inl, inr, ◌∙◌, length-append, append_assoc}
+use Rattle.std.proofs.lemmas.Bool.Decides.{nat_tests}
+use Rattle.std.proofs.lemmas.Grind.{common_steps}
+use Rattle.std.proofs.lemmas.List.{append-nil, length-take-le, map-append, take-append-le, take_all}
+use Rattle.std.proofs.lemmas.Bool.{cases_lt}
+use Rattle.std.specs.Prelude.{◌==◌, map, Option, None, slice_index}
+use Rattle.ipc_words.specs.Lines.{Split, complete_lines, last_lines, lines_of, onto, onto_first, split, whole_line, within_limit, without_return}
+
+-- one line
+
+too_long : (line : List ℕ) → 65536 < length line → within_limit line ≡ None
+too_long line h = grind (arith, nat_tests)
+
+without_return_if : (b : Bool) (line : List ℕ) → 65537 < length line → 65536 < length (cond b (take (length line - 1) line) line)
+without_return_if true line h = grind (arith, common_steps)
+without_return_if false line h = omega arith
+
+too_long_whole : (line : List ℕ) → 65537 < length line → whole_line line ≡ None
+too_long_whole line h = too_long (without_return line) (without_return_if (slice_index line (length line - 1) == 13) line h)
+
+-- what is kept of a line tells as much as the line
+
+long_kept : (n m : ℕ) (line : List ℕ) → m < n → n < length line → m < length (take n line)
+long_kept n m line h k = let e = length-take-le n line (omega arith) in omega (arith, e)
+
+kept_whole_if : (line : List ℕ) → (65538 < length line) ⊎ (length line ≤ 65538) → whole_line (take 65538 line) ≡ whole_line line
+kept_whole_if line (inl long) =
+    let kept : 65537 < length (take 65538 line) = long_kept 65538 65537 line (omega arith) (omega arith) in
+    let all : 65537 < length line = omega arith in
+    too_long_whole (take 65538 line) kept ∙ sym (too_long_whole line all)
+kept_whole_if line (inr short) = ap whole_line (take_all 65538 line short)
+
+pub kept_whole : (line : List ℕ) → whole_line (take 65538 line) ≡ whole_line line
+kept_whole line = kept_whole_if line (cases_lt 65538 (length line))
+
+kept_last_if : (line : List ℕ) → (65538 < length line) ⊎ (length line ≤ 65538) → within_limit (take 65538 line) ≡ within_limit line
+kept_last_if line (inl long) =
+    let kept : 65536 < length (take 65538 line) = long_kept 65538 65536 line (omega arith) (omega arith) in
+    let all : 65536 < length line = omega arith in
+    too_long (take 65538 line) kept ∙ sym (too_long line all)
+kept_last_if line (inr short) = ap within_limit (take_all 65538 line short)
+
+pub kept_last : (line : List ℕ) → within_limit (take 65538 line) ≡ within_limit line
+kept_last line = kept_last_if line (cases_lt 65538 (length line))
+
+-- a byte more, and the same for each bound in place of 65538
+more_kept : (n : ℕ) (line : List ℕ) (b : ℕ) → take n (take n line ++ b ∷ []) ≡ take n (line ++ b ∷ [])
+more_kept zero line b = refl
+more_kept (suc n) [] b = refl
+more_kept (suc n) (c ∷ cs) b = ap (λ (xs : List ℕ). c ∷ xs) (more_kept n cs b)
+
+-- a byte more that is kept, and one that isn't
+pub push_kept : (n : ℕ) (line : List ℕ) (b : ℕ) → length line < n → line ++ b ∷ [] ≡ take n (line ++ b ∷ [])
+push_kept n line b h = let e = length-append line (b ∷ []) in sym (take_all n (line ++ b ∷ []) (omega (arith, e)))
+
+pub push_past : (n : ℕ) (line : List ℕ) (b : ℕ) → length line ≡ n → line ≡ take n (line ++ b ∷ [])
+push_past n line b h = sym (take-append-le n line (b ∷ []) (omega arith) ∙ take_all n line (omega arith))
+
+pub kept_more : (line : List ℕ) (b : ℕ) → take 65538 (take 65538 line ++ b ∷ []) ≡ take 65538 (line ++ b ∷ [])
+kept_more line b = more_kept 65538 line b
+
+-- the lines of a text with a line feed more
+
+abbrev fed : Split → Split
+fed s = record { whole = s.whole ++ s.rest ∷ []; rest = [] }
+
+fed_first : (b : ℕ) (lines : List (List ℕ)) (rest : List ℕ) → onto_first b (lines ++ rest ∷ []) [] ≡ fed (onto_first b lines rest)
+fed_first b [] rest = refl
+fed_first b (line ∷ lines) rest = refl
+
+fed_onto_if : (feed : Bool) (b : ℕ) (s : Split) → cond feed (record { whole = [] ∷ (fed s).whole; rest = [] }) (onto_first b (fed s).whole []) ≡ fed (cond feed (record { whole = [] ∷ s.whole; rest = s.rest }) (onto_first b s.whole s.rest))
+fed_onto_if true b s = refl
+fed_onto_if false b s = fed_first b s.whole s.rest
+
+pub split_feed : (text : List ℕ) → split (text ++ 10 ∷ []) ≡ record { whole = (split text).whole ++ (split text).rest ∷ []; rest = [] }
+split_feed [] = refl
+split_feed (b ∷ bs) = ap (onto b) (split_feed bs) ∙ fed_onto_if (b == 10) b (split bs)
+
+-- and with another byte more
+
+abbrev grown : ℕ → Split → Split
+grown b s = record { whole = s.whole; rest = s.rest ++ b ∷ [] }
+
+grown_first : (b c : ℕ) (lines : List (List ℕ)) (rest : List ℕ) → onto_first c lines (rest ++ b ∷ []) ≡ grown b (onto_first c lines rest)
+grown_first b c [] rest = refl
+grown_first b c (line ∷ lines) rest = refl
+
+grown_onto_if : (feed : Bool) (b c : ℕ) (s : Split) → cond feed (record { whole = [] ∷ s.whole; rest = s.rest ++ b ∷ [] }) (onto_first c s.whole (s.rest ++ b ∷ [])) ≡ grown b (cond feed (record { whole = [] ∷ s.whole; rest = s.rest }) (onto_first c s.whole s.rest))
+grown_onto_if true b c s = refl
+grown_onto_if false b c s = grown_first b c s.whole s.rest
+
+one_byte_if : (feed : Bool) (b : ℕ) → feed ≡ false → cond feed (record { whole = [] ∷ []; rest = [] }) (onto_first b [] []) ≡ record { whole = []; rest = b ∷ [] }
+one_byte_if true b h = cc
+one_byte_if false b h = refl
+
+pub split_byte : (text : List ℕ) (b : ℕ) → (b ≡ 10 → ⊥) → split (text ++ b ∷ []) ≡ record { whole = (split text).whole; rest = (split text).rest ++ b ∷ [] }
+split_byte [] b h = let no : (b == 10) ≡ false = grind (arith, nat_tests) in one_byte_if (b == 10) b no
+split_byte (c ∷ cs) b h = ap (onto c) (split_byte cs b h) ∙ grown_onto_if (c == 10) b c (split cs)
+
+-- a text's complete lines stay when more comes
+
+whole_next_if : (feed : Bool) (text : List ℕ) (b : ℕ) → (b == 10) ≡ feed → (more : List (List ℕ)) × ((split (text ++ b ∷ [])).whole ≡ (split text).whole ++ more)
+whole_next_if true text b h = let ten : b ≡ 10 = grind (arith, nat_tests) in ((split text).rest ∷ [], rw ten (ap (λ (s : Split). s.whole) (split_feed text)))
+whole_next_if false text b h = let no : b ≡ 10 → ⊥ = grind (arith, nat_tests) in ([], ap (λ (s : Split). s.whole) (split_byte text b no) ∙ sym (append-nil (split text).whole))
+
+whole_more : (a b : List ℕ) → (more : List (List ℕ)) × ((split (a ++ b)).whole ≡ (split a).whole ++ more)
+whole_more a [] = ([], ap (λ (t : List ℕ). (split t).whole) (append-nil a) ∙ sym (append-nil (split a).whole))
+whole_more a (b ∷ bs) =
+    let next = whole_next_if (b == 10) a b refl in
+    let rest = whole_more (a ++ b ∷ []) bs in
+    let same : (a ++ b ∷ []) ++ bs ≡ a ++ b ∷ bs = append_assoc a (b ∷ []) bs in (
+      next.0 ++ rest.0,
+      ap (λ (t : List ℕ). (split t).whole) (sym same) ∙ rest.1 ∙ ap (λ (t : List (List ℕ)). t ++ rest.0) next.1 ∙ append_assoc (split a).whole next.0 rest.0,
+    )
+
+pub complete_more : (a b : List ℕ) → (more : List (Option (List ℕ))) × (lines_of (a ++ b) ≡ complete_lines a ++ more)
+complete_more a b =
+    let grew = whole_more a b in
+    let last = last_lines (split (a ++ b)).rest in (
+      map whole_line grew.0 ++ last,
+      ap (λ (t : List (List ℕ)). map whole_line t ++ last) grew.1 ∙ ap (λ (t : List (Option (List ℕ))). t ++ last) (map-append whole_line (split a).whole grew.0) ∙ append_assoc (complete_lines a) (map whole_line grew.0) last,
+    )

@@ -1,0 +1,5 @@
+pub mod LineText
+pub mod Lines
+pub mod Numbers
+pub mod Steps
+pub mod Words

@@ -1,0 +1,12 @@
+//! The lines of a script, the words of a line, the fields of a word and the numbers that words write.
+//!
+//! The text of scripts is the project's own; numbers are written as strtoul(3) reads them.
+#![tactic(auto)]
+
+mod lines;
+mod numbers;
+mod words;
+
+pub use lines::{Line, Pending};
+pub use numbers::{number, number_16, number_32, numeral, signed_16, signed_32, signed_64};
+pub use words::{is_plain, split_field, split_word};

@@ -1,0 +1,124 @@
+// The calls of a line, one after another.
+
+ghost use Rattle.std.specs.Prelude.{◌≡◌, ◌<◌, IfOk, OnOk, length, string_bytes};
+ghost use Rattle.ipcsh.specs.Commands.{get_of as get_by_key, id_in, made, part_made};
+ghost use Rattle.ipcsh.specs.Leading.{Leads};
+ghost use Rattle.ipcsh.specs.Output.{CarriesOut};
+
+use crate::readings::Reading;
+use crate::session::Session;
+use ipc_call::{Answer, Call, Kind, Memory, Reply};
+use ipc_space::Effects;
+use ipc_text::{Command, Part, print_reply};
+use std::alloc::Global;
+
+impl Session {
+    /// Makes the calls of a line in turn, and prints their rows. Where one waits, those behind it aren't made.
+    pub(crate) fn make_all(
+        &mut self,
+        alloc: Global,
+        client: u32,
+        command: Command,
+        rows: &mut String,
+    ) -> Result<(), Memory>
+        requires { client < length self.old.names }
+        ensures does { OnOk result (CarriesOut self.old (Reading.Command client command) self.new (string_bytes rows.old) (string_bytes rows.new)) }
+        ensures lines { OnOk result (self.new.lines ≡ self.old.lines) }
+    {
+        let parts = command.into_vec();
+        for part in parts {
+            self.make(alloc, client, part, rows)?;
+        }
+        Ok(())
+    }
+
+    /// Makes the calls of a part in turn, and prints their rows.
+    fn make(
+        &mut self,
+        alloc: Global,
+        client: u32,
+        part: Part,
+        rows: &mut String,
+    ) -> Result<(), Memory>
+        requires { client < length self.old.names }
+        ensures does { OnOk result (Leads (λ p. part_made client p part) (λ p. p) self.old self.new (string_bytes rows.old) (string_bytes rows.new)) }
+        ensures names { OnOk result (self.new.names ≡ self.old.names) }
+        ensures lines { OnOk result (self.new.lines ≡ self.old.lines) }
+    {
+        match part {
+            Part::Plain(call) => {
+                self.call(alloc, client, call, rows)?;
+            }
+            Part::RemoveByKey(kind, key) => {
+                if let Some(id) = self.call(alloc, client, get_of(kind, key), rows)? {
+                    self.call(alloc, client, Call::IpcRmid { kind, id }, rows)?;
+                }
+            }
+        }
+        Ok(())
+    }
+
+    /// Makes a call, unless the client waits, and prints the rows of its event, or the row of a refusal of
+    /// memory. Gives the identifier that it is answered.
+    fn call(
+        &mut self,
+        alloc: Global,
+        client: u32,
+        call: Call,
+        rows: &mut String,
+    ) -> Result<Option<u32>, Memory>
+        requires { client < length self.old.names }
+        ensures does { IfOk result (λ id. Leads (made client call) (λ p. (p, id)) self.old self.new (string_bytes rows.old) (string_bytes rows.new)) }
+        ensures names { OnOk result (self.new.names ≡ self.old.names) }
+        ensures lines { OnOk result (self.new.lines ≡ self.old.lines) }
+    {
+        if self.is_waiting(client) {
+            return Ok(None);
+        }
+        self.start(alloc)?;
+        match self.apply(client, call) {
+            Ok(effects) => {
+                self.print_effects(client, &effects, rows)?;
+                Ok(answered_id(&effects))
+            }
+            Err(_) => {
+                print_reply(rows, self.name_at(client), &Reply::Memory)?;
+                Ok(None)
+            }
+        }
+    }
+}
+
+/// The identifier that an event's own call is answered.
+fn answered_id(effects: &Effects) -> Option<u32>
+    ensures { result ≡ id_in effects.now.own }
+{
+    match &effects.own {
+        Some(
+            Reply::Entered {
+                outcome: Ok(Answer::Id(id)),
+                ..
+            },
+        ) => Some(*id),
+        _ => None,
+    }
+}
+
+/// The get of a key without a flag: it asks for no right, and creates an object for key 0 (IPC_PRIVATE) alone.
+fn get_of(kind: Kind, key: u32) -> Call
+    ensures { result ≡ get_by_key kind key }
+{
+    match kind {
+        Kind::Queue => Call::MsgGet { key, flags: 0 },
+        Kind::Sems => Call::SemGet {
+            key,
+            nsems: 0,
+            flags: 0,
+        },
+        Kind::Segment => Call::ShmGet {
+            key,
+            size: 0,
+            flags: 0,
+        },
+    }
+}
