@@ -248,15 +248,17 @@ fn line_is(rt: &impl Abort, line: Option<&(Row, Vec<u16>)>, row: Row, values: &[
 fn lines_are(rt: &impl Abort, space: &Space) -> Result<(), Fail> {
     let lines = space.lines()?;
     assert_eq!(rt; lines.len(), 3);
-    let (object, cbytes, qnum) = (shown(0o600), 0, 0);
     let queue = Row::Queue {
-        object,
-        cbytes,
-        qnum,
+        object: shown(0o600),
+        cbytes: 0,
+        qnum: 0,
+    };
+    let set = Row::Set {
+        object: shown(0o600),
+        nsems: 2,
     };
     line_is(rt, lines.get(0), queue, &[]);
-    let nsems = 2;
-    line_is(rt, lines.get(1), Row::Set { object, nsems }, &[0, 3]);
+    line_is(rt, lines.get(1), set, &[0, 3]);
     line_is(rt, lines.get(2), segment_shown(), &[]);
     Ok(())
 }
