@@ -18,7 +18,7 @@ others-free client (w ∷ ws) free =
     let apart = parts.0 in
     rw apart (ap (λ (vs : List Waiting). w ∷ vs) (others-free client ws parts.1))
 
-none-found : (any test : Waiting → Bool) (ws : List Waiting) (w : Waiting) → list_any any ws ≡ false → find test ws ≡ Some w → any w ≡ false
+pub none-found : (any test : Waiting → Bool) (ws : List Waiting) (w : Waiting) → list_any any ws ≡ false → find test ws ≡ Some w → any w ≡ false
 none-found any test [] w none found = absurd (none-some w found)
 none-found any test (v ∷ ws) w none found =
     ⊎_elim

@@ -11,7 +11,7 @@ use Rattle.ipc_model.specs.History.{History, run, next_step}
 use Rattle.ipc_namespace.proofs.Settling.{quiet-at_time, settled-none, still_quiet}
 use Rattle.ipc_space.proofs.Quiet.{IsQuiet, quiet-run}
 
-ends_none : (s : State) (client : ℕ) (call : Call) (d : Decision State) → d ≡ decide s client call → IsQuiet s → outcome_of d ≡ None → (entered s client call d).ended ≡ []
+pub ends_none : (s : State) (client : ℕ) (call : Call) (d : Decision State) → d ≡ decide s client call → IsQuiet s → outcome_of d ≡ None → (entered s client call d).ended ≡ []
 ends_none s client call (Refuse rule) is quiet none = absurd (none-some _ (sym none))
 ends_none s client call Wait is quiet none = ap (λ m. m.ended) (settled-none (record s { parked = s.parked ++ record { client = client; call = call } ∷ [] }) (still_quiet s client call quiet (sym (ap proceeds is))))
 ends_none s client call (Grant answer new) is quiet none = absurd (none-some _ (sym none))

@@ -248,7 +248,7 @@ none-step n s e known legal apart none r above =
 clients-step : (s : State) (e : Event) → (step s e).state.clients ≡ s.clients
 clients-step s e = (Follows-step s e).clients
 
-clients-run : (s : State) (es : List Event) → (run_from s es).clients ≡ s.clients
+pub clients-run : (s : State) (es : List Event) → (run_from s es).clients ≡ s.clients
 clients-run s [] = refl
 clients-run s (e ∷ es) = clients-run (step s e).state es ∙ clients-step s e
 

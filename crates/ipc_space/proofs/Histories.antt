@@ -12,19 +12,21 @@ run_from-push : (s : State) (es : List Event) (e : Event) → run_from s (es ++ 
 run_from-push s [] e = refl
 run_from-push s (x ∷ es) e = run_from-push (step s x).state es e
 
-legal-push : (s : State) (es : List Event) (e : Event) → AreLegalFrom s es → IsLegalAt (run_from s es) e → AreLegalFrom s (es ++ e ∷ [])
+pub legal-push : (s : State) (es : List Event) (e : Event) → AreLegalFrom s es → IsLegalAt (run_from s es) e → AreLegalFrom s (es ++ e ∷ [])
 legal-push s [] e legal here = (here, tt)
 legal-push s (x ∷ es) e legal here = (legal.0, legal-push (step s x).state es e legal.1 here)
 
-rows_from-push : (place : ℕ) (s : State) (es : List Event) (e : Event) → rows_from place s (es ++ e ∷ []) ≡ rows_from place s es ++ rows_by (length es + place) e (step (run_from s es) e)
-rows_from-push place s [] e =
-    let same : place ≡ 0 + place = omega arith in
-    append-nil (rows_by place e (step s e)) ∙ ap (λ n. rows_by n e (step s e)) same
-rows_from-push place s (x ∷ es) e =
+pub rows_from-append : (place : ℕ) (s : State) (es fs : List Event) → rows_from place s (es ++ fs) ≡ rows_from place s es ++ rows_from (length es + place) (run_from s es) fs
+rows_from-append place s [] fs = let same : place ≡ 0 + place = omega arith in ap (λ n. rows_from n s fs) same
+rows_from-append place s (x ∷ es) fs =
     let later = (step s x).state in
     let same : length es + (place + 1) ≡ suc (length es) + place = omega arith in
-    ap (λ rows. rows_by place x (step s x) ++ rows) (rows_from-push (place + 1) later es e ∙ ap (λ n. rows_from (place + 1) later es ++ rows_by n e (step (run_from later es) e)) same)
-    ∙ sym (append_assoc (rows_by place x (step s x)) (rows_from (place + 1) later es) (rows_by (suc (length es) + place) e (step (run_from later es) e)))
+    ap (λ rows. rows_by place x (step s x) ++ rows) (rows_from-append (place + 1) later es fs ∙ ap (λ n. rows_from (place + 1) later es ++ rows_from n (run_from later es) fs) same)
+    ∙ sym (append_assoc (rows_by place x (step s x)) (rows_from (place + 1) later es) (rows_from (suc (length es) + place) (run_from later es) fs))
+
+pub rows_from-push : (place : ℕ) (s : State) (es : List Event) (e : Event) → rows_from place s (es ++ e ∷ []) ≡ rows_from place s es ++ rows_by (length es + place) e (step (run_from s es) e)
+rows_from-push place s es e =
+    rows_from-append place s es (e ∷ []) ∙ ap (λ rows. rows_from place s es ++ rows) (append-nil (rows_by (length es + place) e (step (run_from s es) e)))
 
 events_in-append : (a b : List JournalRow) → events_in (a ++ b) ≡ events_in a ++ events_in b
 events_in-append [] b = refl

@@ -1,6 +1,9 @@
+pub mod Alone
+pub mod Answering
+pub mod Balance
+pub mod Fronts
 pub mod Histories
+pub mod Longest
 pub mod Once
 pub mod Permitted
 pub mod Quiet
-pub mod Alone
-pub mod Balance

@@ -1,3 +1,5 @@
-pub mod Journal
+pub mod Answers
+pub mod Following
+pub mod Replays
 pub mod Spaces
 pub mod Telling

@@ -8,14 +8,18 @@ ghost use Rattle.ipc_call.specs.declared.calls.Kind.{Kind as KindOf};
 ghost use Rattle.ipc_call.specs.declared.rules.Rule.{Rule as RuleOf};
 ghost use Rattle.ipc_call.specs.declared.replies.Answer.{Answer as AnswerOf};
 ghost use Rattle.ipc_model.specs.Access.{AreMet, IsDenied, caller_of, checks_of, needs_of};
+ghost use Rattle.ipc_model.specs.Decide.{can_wait};
 ghost use Rattle.ipc_model.specs.Plan.{is_denial};
 ghost use Rattle.ipc_model.specs.Step.{Event, Stepped, at_time};
 ghost use Rattle.ipc_model.specs.State.{is_waiting};
 ghost use Rattle.ipc_model.specs.History.{History, IsLegal, run, own, replies, with_event, next_step};
+ghost use Rattle.ipc_space.specs.Answers.{can_give, is_end_of};
 ghost use Rattle.ipc_space.specs.Telling.{told_of, replies_in};
 ghost use Rattle.ipc_model.specs.Made.{made};
 ghost use Rattle.ipc_model.specs.Attached.{AreAttached};
 ghost use Rattle.ipc_model.specs.Waits.{AreNotReady, ArePermitted, WaitOnce};
+
+pub use ipc_laws::two_worlds;
 
 /// No identifier is given to two objects of one kind: of the objects of a kind that the events of a history
 /// made, each has another identifier than all before it. A get that finds its key makes none. That an
@@ -58,6 +62,15 @@ pub fn access()
 /// A client has as many calls as it has replies, and one more where its last call waits.
 pub fn calls_have_replies_or_wait()
     ensures { (h : History) (client : ℕ) → IsLegal h → length (own h client) ≡ length (replies h client) + (if is_waiting (run h) client then 1 else 0) }
+{}
+
+/// Each call has answers of its own: a call is granted with one of these, none but a msgsnd, a msgrcv or a semop is made to
+/// wait, and a waiting call that ends was one of its client's, and ends with an answer of its own or with a refusal. So a
+/// caller may match the answers of its call and prove the others away.
+pub fn calls_end_with_their_answers()
+    ensures own { (h : History) (e : Event) (answer : AnswerOf) → (next_step h e).own ≡ Some (Ok answer) → can_give e.call answer ≡ true }
+    ensures waits { (h : History) (e : Event) → (next_step h e).own ≡ None → can_wait e.call ≡ true }
+    ensures others { (h : History) (e : Event) → All (λ told. is_end_of (run h).parked told ≡ true) (next_step h e).ended }
 {}
 
 /// An event tells a client one thing at most, and tells none but clients of the namespace.

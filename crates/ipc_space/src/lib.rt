@@ -1,10 +1,10 @@
 //! A namespace of System V IPC objects that serves its clients' calls one at a time, and the journal
-//! of what it was asked and what it answered. A program that uses a namespace names this crate alone:
-//! the types of calls, replies and credentials are re-exported here.
+//! of what it was asked and what it answered, which can be replayed. A program that uses a namespace names this
+//! crate alone: the types of calls, replies and credentials are re-exported here.
 #![tactic(auto)]
 
-mod journal;
 pub mod laws;
+mod replaying;
 mod spaces;
 
 pub use bitflags::Flags;
@@ -14,4 +14,5 @@ pub use ipc_call::{
     SHM_RDONLY, SegmentStatus, SemOper, SetStatus, Status, errno,
 };
 pub use ipc_creds::{Caps, Creds, GROUPS_MAX};
+pub use replaying::{Replayed, replay};
 pub use spaces::{Effects, Space};

@@ -28,9 +28,9 @@ ghost use Rattle.ipc_model.specs.Listings.{lines_of};
 ghost use Rattle.ipc_model.specs.Waits.{AreNotReady, ArePermitted, WaitOnce};
 ghost use Rattle.ipc_space.specs.Spaces.{own_reply, other_replies};
 
-use crate::journal::Journal;
 use ipc_call::{Call, Ended, JournalRow, Limits, Memory, Outcome, Reply, Row, Rule};
 use ipc_creds::Creds;
+use ipc_journal::Journal;
 use ipc_namespace::Namespace;
 use std::marker::Model;
 use std::mem;

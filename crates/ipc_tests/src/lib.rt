@@ -9,6 +9,8 @@ mod creds;
 #[cfg(test)]
 mod ids;
 #[cfg(test)]
+mod journal;
+#[cfg(test)]
 mod messages;
 #[cfg(test)]
 mod objects;
@@ -16,6 +18,8 @@ mod objects;
 mod parked;
 #[cfg(test)]
 mod queues;
+#[cfg(test)]
+mod replays;
 #[cfg(test)]
 mod semaphores;
 #[cfg(test)]

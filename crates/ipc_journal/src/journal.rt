@@ -1,6 +1,4 @@
-// The journal: the rows of the events of a namespace, oldest first.
-
-ghost use Rattle.std.specs.Prelude.{◌≡◌, ◌+◌, ◌-◌, ◌<◌, ◌≤◌, ◌^◌, [], ◌∷◌, ◌++◌, length, IfOk, OnOk};
+ghost use Rattle.std.specs.Prelude.{◌≡◌, ◌+◌, ◌<◌, ◌≤◌, ◌^◌, [], ◌∷◌, ◌++◌, length, IsOk, OnOk, OnErr};
 
 use ipc_call::{JournalRow, Memory};
 use std::alloc::Global;
@@ -14,7 +12,7 @@ pub struct Journal {
 
 impl Model for Journal {
     ghost use Rattle.std.specs.Prelude.{◌-◌, vec_len, vec_capacity};
-    ghost use Rattle.ipc_space.specs.Journal.{Entries};
+    ghost use Rattle.ipc_journal.specs.Journal.{Entries};
 
     ghost Value = { Entries };
 
@@ -22,7 +20,7 @@ impl Model for Journal {
 }
 
 impl Journal {
-    /// A journal with no row.
+    /// A journal with no row. It takes no memory.
     pub fn new(alloc: Global) -> Journal
         ensures { result.rows ≡ [] }
     {
@@ -31,17 +29,20 @@ impl Journal {
         }
     }
 
-    /// Makes room for so many more rows. The room at least doubles where it has to grow. Memory comes
+    /// Makes room for so many more rows. The room at least doubles where it has to grow. Memory (ENOMEM) comes
     /// where that is refused.
     pub fn reserve(&mut self, rows: usize) -> Result<(), Memory>
         ensures rows { self.new.rows ≡ self.old.rows }
         ensures room { OnOk result (rows ≤ self.new.room) }
+        ensures kept { self.old.room ≤ self.new.room }
         ensures fits { OnOk result (length self.new.rows + rows < 2 ^ 64) }
+        ensures at_hand { rows ≤ self.old.room → IsOk result }
+        ensures refused { OnErr result (self.new ≡ self.old) }
     {
         self.rows.reserve(rows)
     }
 
-    /// Adds a row, in room that there is.
+    /// Adds a row at the end, in room that there is. It takes no memory.
     pub fn enter(&mut self, row: JournalRow)
         requires { 0 < self.old.room }
         ensures rows { self.new.rows ≡ self.old.rows ++ row ∷ [] }
@@ -50,7 +51,7 @@ impl Journal {
         self.rows.push(row).unwrap();
     }
 
-    /// The rows.
+    /// The rows, oldest first.
     pub fn entries(&self) -> &[JournalRow]
         ensures { result.now ≡ self.now.rows }
     {

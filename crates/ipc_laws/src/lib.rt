@@ -1,0 +1,18 @@
+//! What a client can't learn of other clients. A law is a function that does nothing: what it ensures is the law.
+#![tactic(auto)]
+
+ghost use Rattle.std.specs.Prelude.{ℕ, List};
+ghost use Rattle.ipc_model.specs.State.{State};
+ghost use Rattle.ipc_model.specs.Step.{Event};
+ghost use Rattle.ipc_laws.specs.Worlds.{AreTwoWorlds, IsUnaware};
+
+/// A client can't tell apart two states that differ only in the contents of queues, sets and segments to which it has
+/// no right, no control and no attachment. Whatever others read, and whatever they send, receive, operate, set or write
+/// there, at times that don't move the clock, in each of them or in one alone: the client's own calls come out alike,
+/// its waiting calls end alike, and what the two states lead to it can't tell apart either. In sight are which objects
+/// there are, their permissions and sizes, and who has attached what. The law speaks of replies, and not of how long a
+/// call takes or of memory that runs out.
+pub fn two_worlds()
+    ensures { (client : ℕ) (s t : State) (es fs : List Event) → AreTwoWorlds client s t es fs
+        → IsUnaware client s t es fs }
+{}

@@ -1,0 +1,211 @@
+// Random calls of every kind.
+
+use crate::numbers::Numbers;
+use ipc_space::{
+    Call, IPC_CREAT, IPC_NOWAIT, Items, Kind, MSG_EXCEPT, MSG_NOERROR, Memory, Row, SEM_UNDO,
+    SHM_RDONLY, SemOper, Space,
+};
+use std::alloc::Global;
+
+/// A client's next call. Of these clients the last makes none that waits, so that one can always go on; and the
+/// first three may end.
+pub fn any_call(
+    alloc: Global,
+    numbers: &mut Numbers,
+    space: &Space,
+    client: u32,
+) -> Result<Call, Memory> {
+    if client < 3 && numbers.once_in(1000) {
+        return Ok(Call::Exit);
+    }
+    let kind = any_kind(numbers);
+    let id = any_id(numbers, space, kind)?;
+    if client == 7 || numbers.once_in(10) {
+        return Ok(control(numbers, kind, id));
+    }
+    match kind {
+        Kind::Queue => queue_call(alloc, numbers, id),
+        Kind::Sems => set_call(alloc, numbers, id),
+        Kind::Segment => segment_call(alloc, numbers, id),
+    }
+}
+
+fn any_kind(numbers: &mut Numbers) -> Kind {
+    match numbers.below(3) {
+        0 => Kind::Queue,
+        1 => Kind::Sems,
+        _ => Kind::Segment,
+    }
+}
+
+/// The identifier of an object of the kind, mostly.
+fn any_id(numbers: &mut Numbers, space: &Space, kind: Kind) -> Result<u32, Memory> {
+    let lines = space.lines()?;
+    Ok(id_in(numbers, lines.as_slice(), kind))
+}
+
+/// The identifier of an object of the kind among these, where a few tries find one.
+fn id_in(numbers: &mut Numbers, lines: &[(Row, Vec<u16>)], kind: Kind) -> u32 {
+    let count = u32::try_from(lines.len()).unwrap_or(u32::MAX);
+    for _ in 0..8 {
+        let at = numbers.below(count) as usize;
+        if let Some(id) = lines.get(at).and_then(|line| id_of(&line.0, kind)) {
+            return id;
+        }
+    }
+    numbers.below(4)
+}
+
+/// The identifier of an object of the kind.
+fn id_of(row: &Row, kind: Kind) -> Option<u32> {
+    match (kind, row) {
+        (Kind::Queue, Row::Queue { object, .. }) => Some(object.id),
+        (Kind::Sems, Row::Set { object, .. }) => Some(object.id),
+        (Kind::Segment, Row::Segment { object, .. }) => Some(object.id),
+        _ => None,
+    }
+}
+
+/// The mode of an object, the more rights the more often.
+fn any_mode(numbers: &mut Numbers) -> u32 {
+    match numbers.below(8) {
+        0 => 0o600,
+        1 => 0o640,
+        2 => 0o444,
+        _ => 0o666,
+    }
+}
+
+/// A flag in one of so many cases, else 0.
+fn once_in(cases: u32, numbers: &mut Numbers, flag: u32) -> u32 {
+    if numbers.once_in(cases) { flag } else { 0 }
+}
+
+/// Up to four bytes.
+fn any_bytes(alloc: Global, numbers: &mut Numbers) -> Result<Items<u8>, Memory> {
+    let mut bytes = Vec::new(alloc);
+    for _ in 0..numbers.below(5) {
+        bytes.push(numbers.below(256) as u8)?;
+    }
+    Ok(Items::new(bytes))
+}
+
+fn queue_call(alloc: Global, numbers: &mut Numbers, id: u32) -> Result<Call, Memory> {
+    Ok(match numbers.below(10) {
+        0 => Call::MsgGet {
+            key: numbers.below(4),
+            flags: any_mode(numbers) | IPC_CREAT,
+        },
+        1..5 => Call::MsgSnd {
+            id,
+            mtype: i64::from(numbers.below(4)),
+            text: any_bytes(alloc, numbers)?,
+            flags: once_in(8, numbers, IPC_NOWAIT),
+        },
+        _ => Call::MsgRcv {
+            id,
+            size: u64::from(numbers.below(5)),
+            msgtyp: i64::from(numbers.below(7)) - 3,
+            flags: once_in(8, numbers, IPC_NOWAIT)
+                | once_in(2, numbers, MSG_NOERROR)
+                | once_in(2, numbers, MSG_EXCEPT),
+        },
+    })
+}
+
+/// The flags of an operation, mostly none.
+fn operation_flags(numbers: &mut Numbers) -> u16 {
+    match numbers.below(8) {
+        0 => IPC_NOWAIT as u16,
+        1..4 => SEM_UNDO as u16,
+        _ => 0,
+    }
+}
+
+/// One operation or two, seldom none.
+fn any_operations(alloc: Global, numbers: &mut Numbers) -> Result<Items<SemOper>, Memory> {
+    let mut ops = Vec::new(alloc);
+    for _ in 0..numbers.below(9).min(2) {
+        ops.push(SemOper {
+            num: numbers.below(2) as u16,
+            op: numbers.below(6) as i16 - 3,
+            flags: operation_flags(numbers),
+        })?;
+    }
+    Ok(Items::new(ops))
+}
+
+fn set_call(alloc: Global, numbers: &mut Numbers, id: u32) -> Result<Call, Memory> {
+    let num = numbers.below(3);
+    Ok(match numbers.below(16) {
+        0 => Call::SemGet {
+            key: numbers.below(4),
+            nsems: numbers.below(3).saturating_add(1),
+            flags: any_mode(numbers) | IPC_CREAT,
+        },
+        1 => Call::GetVal { id, num },
+        2 => Call::GetPid { id, num },
+        3 => Call::GetNcnt { id, num },
+        4 => Call::GetZcnt { id, num },
+        5 => Call::GetAll { id },
+        6 => Call::SetVal {
+            id,
+            num,
+            value: numbers.below(5) as i32 - 1,
+        },
+        7 => Call::SetAll {
+            id,
+            values: Items::new(Vec::from_elem(alloc, 1, num as usize)?),
+        },
+        _ => Call::SemOp {
+            id,
+            ops: any_operations(alloc, numbers)?,
+        },
+    })
+}
+
+fn segment_call(alloc: Global, numbers: &mut Numbers, id: u32) -> Result<Call, Memory> {
+    let att = numbers.below(2);
+    let offset = u64::from(numbers.below(3));
+    Ok(match numbers.below(6) {
+        0 => Call::ShmGet {
+            key: numbers.below(4),
+            size: u64::from(numbers.below(9)),
+            flags: any_mode(numbers) | IPC_CREAT,
+        },
+        1 => Call::ShmAt {
+            id,
+            flags: once_in(2, numbers, SHM_RDONLY),
+        },
+        2 => Call::ShmDt { att },
+        3 => Call::ShmRead {
+            att,
+            offset,
+            len: u64::from(numbers.below(5)),
+        },
+        _ => Call::ShmWrite {
+            att,
+            offset,
+            bytes: any_bytes(alloc, numbers)?,
+        },
+    })
+}
+
+fn control(numbers: &mut Numbers, kind: Kind, id: u32) -> Call {
+    match numbers.below(12) {
+        0 => Call::IpcRmid { kind, id },
+        1..4 => Call::IpcStat { kind, id },
+        4..6 => Call::IpcSet {
+            kind,
+            id,
+            uid: numbers.below(3) * 100,
+            gid: 10,
+            mode: any_mode(numbers),
+            qbytes: None,
+        },
+        6..8 => Call::Listing { kind },
+        _ => Call::Interrupt {
+            pid: numbers.below(9),
+        },
+    }
+}

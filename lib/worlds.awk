@@ -1,0 +1,123 @@
+# Prints random pairs of worlds, scripts of ipcsh: awk -v pairs=N -v seed=S -v folder=F -f worlds.awk writes F/1.with and
+# F/1.without up to F/N.with and F/N.without. Both scripts of a pair begin alike. Then eve makes the same calls in both, and
+# between these, in the first alone, the others call at objects that are hidden from her: she has no right on them, no
+# attachment and nothing there that her exit would undo. With -v all=1 they call at any object, so that she can notice.
+
+function below(n) { return int(rand() * n) }
+function one_of(list,  parts) { return parts[1 + below(split(list, parts, " "))] }
+function say(line) { print line > with; print line > without }
+
+function other() { return one_of("bob carol dan owen") }
+function anyone() { return one_of("eve eve bob carol dan") }
+function kind() { return one_of("q s m") }
+
+# The identifier of an object, or one that no object has.
+function object(k) { return below(made[k] + 1) }
+
+# A client makes an object of the next key. The mode gives eve something where its last digit isn't 0.
+function make(client, k, mode) {
+    if (k == "q") say(client " msgget " ++key " " mode)
+    if (k == "s") say(client " semget " ++key " 3 " mode)
+    if (k == "m") say(client " shmget " ++key " 16 " mode)
+    seen[k, made[k]] = client == "eve" || mode !~ /0$/
+    owner[k, made[k]++] = client
+}
+
+# A client attaches a segment, as its next number.
+function attach(client, id) {
+    say(client " shmat " id " 0")
+    segment[client, attached[client]++] = id
+    if (client == "eve") seen["m", id] = 1
+}
+
+function operation() { return below(3) ":" below(6) - 3 one_of(":0 :04000 :04000 :04000 :014000 :014000 :014000") }
+
+# Calls that read or change what an object holds.
+function queue_call(id) {
+    if (below(5) < 3) return "msgsnd " id " " 1 + below(3) " t:" substr("abcdefghij", 1, 1 + below(9)) " " one_of("0 04000 04000 04000 04000")
+    return "msgrcv " id " " below(9) " " below(5) - 2 " " one_of("0 04000 04000 04000 014000 024000")
+}
+
+function set_call(id,  which) {
+    which = below(10)
+    if (which < 6) return "semop " id " " operation() (which < 3 ? " " operation() : "")
+    if (which == 6) return "setval " id " " below(4) " " below(5)
+    if (which == 7) return "setall " id " 1 2 " below(5)
+    return which == 8 ? "getall " id : one_of("getval getpid getncnt getzcnt") " " id " " below(3)
+}
+
+function segment_call(number) {
+    if (below(3)) return "shmwrite " number " " below(14) " t:" substr("klmnopqrst", 1, 1 + below(5))
+    return "shmread " number " " below(12) " " below(6)
+}
+
+# What eve may notice of a client's calls there: an object, or for a segment the client's number of it.
+function may_notice(client, k, id) {
+    return k == "m" ? id >= attached[client] || seen["m", segment[client, id]] : id >= made[k] || seen[k, id]
+}
+
+# A client's call at what an object holds. In the first world alone it is one that eve may not notice, of the first object
+# of nine picked ones that is hidden from her.
+function use(client, hidden,  k, id, tries, line) {
+    do {
+        k = kind()
+        id = k == "m" ? below(3) : object(k)
+    } while (hidden && !all && may_notice(client, k, id) && ++tries < 9)
+    if (tries == 9 || k == "m" && id >= attached[client]) return
+    line = client " " (k == "q" ? queue_call(id) : k == "s" ? set_call(id) : segment_call(id))
+    if (hidden) print line > with; else say(line)
+}
+
+# A get of a key, but for its flags.
+function get_of(key) { return below(2) ? "msgget " key : one_of("semget shmget") " " key " " below(3) }
+
+# What eve may call beside: what is there, whose it is, and her own end.
+function eves_call(  which, k) {
+    which = below(12)
+    k = kind()
+    if (which < 3) say("eve stat " k " " object(k))
+    else if (which == 3) say("eve ipcs -" one_of("q s m"))
+    else if (which == 4) make("eve", k, "01600")
+    else if (which == 5) say("eve set " k " " object(k) " " one_of("100 200") " 10 06" one_of("00 66"))
+    else if (which == 6) say("eve rmid " k " " object(k))
+    else if (which == 7) say("eve interrupt " 1 + below(6))
+    else if (which == 8) say("eve shmat " object("m") " " one_of("0 010000"))
+    else if (which == 9) say("eve shmdt " below(3))
+    else if (which == 10) say("eve " get_of(below(key + 1)) " 0")
+    else say(below(20) ? "eve getall " object("s") : "eve exit")
+}
+
+# One pair: the world as it is, and then eve's calls, the others' at what is hidden from her between them.
+function pair(n,  i, client, k) {
+    with = folder "/" n ".with"
+    without = folder "/" n ".without"
+    split("", made); split("", seen); split("", owner); split("", attached); split("", segment)
+    key = made["q"] = made["s"] = made["m"] = 0
+    say("limit msgmnb 40")
+    say("client eve 100 10")
+    say("client bob 200 20")
+    say("client carol 300 30 groups=20")
+    say("client dan 200 20")
+    say("client owen 400 40 caps=IPC_OWNER")
+    say("clock " 1 + below(9))
+    for (i = 0; i < 9; i++) make(one_of("eve bob carol dan"), kind(), one_of("01600 01660 01660 01666 01606 01660"))
+    for (i = 0; i < 6; i++) if (made["m"]) {
+        id = below(made["m"])
+        client = other()
+        if (owner["m", id] == "eve" || !seen["m", id]) client = below(2) && owner["m", id] == "eve" ? "eve" : "owen"
+        attach(client, id)
+    }
+    for (i = 0; i < 12; i++) use(other())
+    for (i = 0; i < 4; i++) use("eve")
+    for (i = 0; i < 40; i++) if (below(2)) use(other(), 1); else if (below(3)) use("eve"); else eves_call()
+    for (i = 0; i < made["q"]; i++) say("eve msgrcv " i " 99 0 04000")
+    for (i = 0; i < made["s"]; i++) say("eve getall " i)
+    say("eve ipcs")
+    close(with)
+    close(without)
+}
+
+BEGIN {
+    srand(seed)
+    for (n = 1; n <= pairs; n++) pair(n)
+}
