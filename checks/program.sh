@@ -3,6 +3,7 @@
 check_program() {
     attempt ipcsh built ipcsh_cli
     attempt bench built ipc_bench
+    attempt 'bench threads' built thread_bench
 }
 
 check_start() { with_program start_checks; }
@@ -56,6 +57,7 @@ answers_each_line() {
     exec 3>&- 4<&-
     status=0
     wait "$program" || status=$?
+    rm "$scratch/lines" "$scratch/rows"
     [ "$answered" = 0 ] || return 1
     why="status $status, not 1"
     [ "$status" = 1 ]
@@ -78,16 +80,17 @@ is_fault() {
     same 'its standard error' "$scratch/wanted" "$scratch/err"
 }
 
-# A folder can be opened as standard input, but not read.
+# These checks of faults hand their words to the program. A folder can be opened as standard input, but not read.
 cannot_read() {
     status=0
-    ./ipcsh <. 2>"$scratch/err" || status=$?
-    is_fault 'read failed' "$status"
+    ./ipcsh "$@" <. >"$scratch/out" 2>"$scratch/err" || status=$?
+    is_fault 'read failed' "$status" || return 1
+    same 'its output' /dev/null "$scratch/out"
 }
 
 cannot_write() {
     status=0
-    ./ipcsh <examples/first-run.ipcsh >/dev/full 2>"$scratch/err" || status=$?
+    ./ipcsh "$@" <examples/first-run.ipcsh >/dev/full 2>"$scratch/err" || status=$?
     is_fault 'write failed' "$status"
 }
 
@@ -97,13 +100,13 @@ line_feeds() {
 
 reads_16777216_bytes() {
     why='it fails'
-    line_feeds 16777216 | ./ipcsh >"$scratch/out" || return 1
+    line_feeds 16777216 | ./ipcsh "$@" >"$scratch/out" || return 1
     same 'its output' /dev/null "$scratch/out"
 }
 
 reads_no_byte_more() {
     status=0
-    line_feeds 16777217 | ./ipcsh >"$scratch/out" 2>"$scratch/err" || status=$?
+    line_feeds 16777217 | ./ipcsh "$@" >"$scratch/out" 2>"$scratch/err" || status=$?
     is_fault 'input too long' "$status" || return 1
     same 'its output' /dev/null "$scratch/out"
 }

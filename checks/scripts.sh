@@ -22,11 +22,13 @@ names_are_whole() {
     same 'the list of scripts, crates/rows/data/names.txt,' "$scratch/wanted" crates/rows/data/names.txt
 }
 
-# matches BASE END: ./ipcsh on the script BASE.END, with the words of BASE.words, prints BASE.out, and BASE.err on standard
-# error, and ends with the status of BASE.status. A file that is absent stands for nothing, or for status 0.
+# matches BASE END [PROGRAM]: ./ipcsh, or this program, on the script BASE.END, with the words of BASE.words, prints
+# BASE.out, and BASE.err on standard error, and ends with the status of BASE.status. A file that is absent stands for
+# nothing, or for status 0.
 matches() {
     base=$1
     script=$1.$2
+    runner=${3-./ipcsh}
     wanted=0
     [ ! -f "$base.status" ] || wanted=$(cat "$base.status")
     complaint=/dev/null
@@ -36,7 +38,7 @@ matches() {
         while IFS= read -r word; do set -- "$@" "$word"; done <"$base.words"
     fi
     status=0
-    timeout 60 ./ipcsh "$@" <"$script" >"$scratch/out" 2>"$scratch/err" || status=$?
+    timeout 60 "$runner" "$@" <"$script" >"$scratch/out" 2>"$scratch/err" || status=$?
     same 'its output' "$base.out" "$scratch/out" || return 1
     same 'its standard error' "$complaint" "$scratch/err" || return 1
     why="status $status, not $wanted"

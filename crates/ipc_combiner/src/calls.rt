@@ -59,6 +59,13 @@ impl Unjoined {
 }
 
 impl Idle {
+    /// The client's number, from 0 in the order of the credentials.
+    pub fn client(&self) -> u32
+        ensures { result ≡ self.now.joined.client }
+    {
+        self.joined.client()
+    }
+
     /// Posts a call at a time in seconds: whoever combines may serve it from now on.
     pub fn post(self, service: &Service, now: u64, call: Call) -> InFlight
         requires { IsOf service.now.list self.joined }

@@ -1,3 +1,4 @@
 pub mod OptionLemmas
 pub mod PartLemmas
+pub mod ProgramLemmas
 pub mod WordLemmas

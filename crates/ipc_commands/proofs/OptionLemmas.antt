@@ -4,7 +4,8 @@ use Rattle.clap.specs.Words.{App, HasKind, Kinds, Row, Text, fault_of, is_simple
 use Rattle.clap.specs.declared.error.Error.{Error}
 use Rattle.clap.specs.declared.error.kind.ErrorKind.TheVariants.{OutOfMemory}
 use Rattle.clap.proofs.OnLiterals.{clap_on_literals}
-use Rattle.ipc_commands.specs.Options.{app_of_tool, ipcmk_app, ipcrm_app, ipcs_app, ipcsh_app, matched, without_fault}
+use Rattle.ipc_commands.specs.Options.{app_of_tool, ipcmk_app, ipcrm_app, ipcs_app, matched, without_fault}
+use Rattle.ipc_commands.specs.Programs.{ipcsh_app}
 use Rattle.ipc_commands.specs.declared.tools.Tool.{Tool}
 use Rattle.ipc_commands.specs.declared.tools.Tool.TheVariants.{Ipcs, Ipcrm, Ipcmk}
 

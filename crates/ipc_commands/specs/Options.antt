@@ -44,10 +44,6 @@ ipcmk_app =
     ∷ value_rule (codes "p") 112
     ∷ [])
 
--- the words of the program itself: as yet no option and no subcommand
-unfoldable pub ipcsh_app : App
-ipcsh_app = new_app (codes "ipcsh")
-
 -- the command of this name
 unfoldable pub tool_named : Text → Option Tool
 tool_named word =

@@ -1,7 +1,7 @@
 // The options of the commands, and what words give of them.
 
-ghost use Rattle.std.specs.Prelude.{◌≡◌, IfOk, false, map, option_map, true};
-ghost use Rattle.clap.specs.Words.{app_of, found_of, is_simple_and_free, rows_of, rule_of, first_of};
+ghost use Rattle.std.specs.Prelude.{◌≡◌, IfOk, IfSome, false, map, option_map, true};
+ghost use Rattle.clap.specs.Words.{app_of, found_of, is_simple_and_free, rows_of, rule_of, first_of, subcommand_of, subcommand_rows_of};
 ghost use Rattle.ipc_commands.specs.Options.{flag_rule, ipcmk_app, ipcrm_app, ipcs_app, is_set as set_in, matched, value_rule};
 
 use clap::error::ErrorKind;
@@ -59,7 +59,8 @@ pub(crate) fn matches<'a>(
     words: &'a [&'a str],
 ) -> Result<Option<ArgMatches<'a>>, AllocError>
     requires { is_simple_and_free (app_of command) ≡ true }
-    ensures { IfOk result (λ found. option_map (λ m. rows_of (found_of m)) found ≡ matched (app_of command.entry) (map (λ s. s.now) words.now)) }
+    ensures rows { IfOk result (λ found. option_map (λ m. rows_of (found_of m)) found ≡ matched (app_of command.entry) (map (λ s. s.now) words.now)) }
+    ensures subcommand { IfOk result (λ found. IfSome found (λ m. subcommand_rows_of m ≡ subcommand_of (app_of command.entry) (map (λ s. s.now) words.now))) }
 {
     match command.try_get_matches_from(words) {
         Ok(matches) => Ok(Some(matches)),

@@ -1,23 +1,41 @@
 // The words of the program itself.
 
-ghost use Rattle.std.specs.Prelude.{◌≡◌, IfOk, is_some, map};
+ghost use Rattle.std.specs.Prelude.{◌≡◌, IfOk, map};
 ghost use Rattle.clap.specs.Words.{app_of};
-ghost use Rattle.ipc_commands.specs.Options.{ipcsh_app, matched};
+ghost use Rattle.ipc_commands.specs.Programs.{ipcsh_app, program_in};
 
 use crate::options::matches;
 use clap::Command;
 use std::alloc::{AllocError, Global};
 
-/// Whether the program `ipcsh` takes these words, of which the first is its own name. It has neither options nor
-/// subcommands as yet, so behind its name it takes `--` alone. `AllocError` comes where memory was refused.
-pub fn takes_words(alloc: Global, words: &[&str]) -> Result<bool, AllocError>
-    ensures { IfOk result (λ takes. takes ≡ is_some (matched ipcsh_app (map (λ word. word.now) words.now))) }
-{
-    Ok(matches(ipcsh(alloc), words)?.is_some())
+/// What the program `ipcsh` does with its script.
+#[derive(Clone, Copy, Debug, PartialEq, Eq)]
+pub enum Program {
+    /// Answers each line as it comes.
+    Script,
+    /// Reads all lines, and makes the calls of each client in a thread of its own.
+    Threads,
 }
 
-fn ipcsh<'a>(alloc: Global) -> Command<'a>
-    ensures { app_of result ≡ ipcsh_app }
+/// What the program `ipcsh` does by its words, of which the first is its own name; `None` where it doesn't take them.
+/// Behind its name it takes the subcommand `threads` or none, and `--` behind that. `AllocError` comes where
+/// memory was refused.
+pub fn program_of(alloc: Global, words: &[&str]) -> Result<Option<Program>, AllocError>
+    ensures { IfOk result (λ program. program ≡ program_in ipcsh_app (map (λ word. word.now) words.now)) }
+{
+    let Some(matches) = matches(ipcsh(alloc)?, words)? else {
+        return Ok(None);
+    };
+    match matches.subcommand_name() {
+        Some(_) => Ok(Some(Program::Threads)),
+        None => Ok(Some(Program::Script)),
+    }
+}
+
+fn ipcsh<'a>(alloc: Global) -> Result<Command<'a>, AllocError>
+    ensures { IfOk result (λ command. app_of command ≡ ipcsh_app) }
 {
     Command::new(alloc, "ipcsh")
+        .disable_help_subcommand(true)
+        .subcommand(Command::new(alloc, "threads"))
 }

@@ -1,17 +1,16 @@
 -- What the calls of a line do, one after another, for any of them to which memory was refused.
-use Rattle.std.specs.Prelude.{ℕ, ◌+◌, Bool, true, false, List, [], ◌∷◌, ◌++◌, length, fold, Option, Some, None, Ok, if◌then◌else◌}
+use Rattle.std.specs.Prelude.{ℕ, ◌+◌, Bool, true, false, List, [], ◌∷◌, ◌++◌, length, fold, Option, Some, None, option_and_then, if◌then◌else◌}
 use Rattle.ipc_call.specs.declared.calls.Call.{Call}
-use Rattle.ipc_call.specs.declared.calls.Call.TheVariants.{MsgGet, SemGet, ShmGet, IpcRmid}
+use Rattle.ipc_call.specs.declared.calls.Call.TheVariants.{IpcRmid}
 use Rattle.ipc_call.specs.declared.calls.Kind.{Kind}
-use Rattle.ipc_call.specs.declared.calls.Kind.TheVariants.{Queue, Sems, Segment}
-use Rattle.ipc_call.specs.declared.replies.Answer.TheVariants.{Id}
 use Rattle.ipc_call.specs.declared.replies.Reply.{Reply}
-use Rattle.ipc_call.specs.declared.replies.Reply.TheVariants.{Entered, Memory}
+use Rattle.ipc_call.specs.declared.replies.Reply.TheVariants.{Memory}
 use Rattle.ipc_model.specs.History.{History, next_step, with_event}
 use Rattle.ipc_model.specs.Step.{Event, Stepped}
 use Rattle.ipc_space.specs.Spaces.{own_reply, other_replies}
 use Rattle.ipc_commands.specs.declared.parts.Part.{Part}
 use Rattle.ipc_commands.specs.declared.parts.Part.TheVariants.{Plain, RemoveByKey}
+use Rattle.ipc_commands.specs.Removals.{get_of, id_in}
 use Rattle.ipc_text.specs.Rows.{effect_rows, reply_row, name_at}
 use Rattle.ipcsh.specs.Session.{Session, history_of, waits}
 
@@ -48,11 +47,6 @@ called s client call h false = record {
   reply = own_reply (length h.events + 1) (next_step h (call_event s client call)).own;
 }
 
--- the identifier that a reply gives
-abbrev pub id_in : Option Reply → Option ℕ
-id_in (Some (Entered place turn (Ok (Id id)))) = Some id
-id_in other = None
-
 -- whether memory is refused to the next call, and what is said of those behind it
 abbrev pub is_refused : List Bool → Bool
 is_refused [] = false
@@ -62,21 +56,19 @@ abbrev pub later : List Bool → List Bool
 later [] = []
 later (refused ∷ refusals) = refusals
 
+-- the identifier that a call is answered, where it has its reply
+abbrev pub id_told : Option Reply → Option ℕ
+id_told reply = option_and_then id_in reply
+
 -- where a call leads to, and the identifier that it is answered, if any
 abbrev pub after_call : Progress → Called → Progress × Option ℕ
-after_call p c = (record { session = c.session; rows = p.rows ++ c.rows; refusals = later p.refusals }, id_in c.reply)
+after_call p c = (record { session = c.session; rows = p.rows ++ c.rows; refusals = later p.refusals }, id_told c.reply)
 
 -- a call of a line; where the client waits, none is made any more
 unfoldable pub made : ℕ → Call → Progress → Progress × Option ℕ
 made client call p =
     if waits p.session client then (p, None)
     else after_call p (called p.session client call (history_of p.session) (is_refused p.refusals))
-
--- the get of a key without a flag: it asks for no right, and creates an object for key 0 (IPC_PRIVATE) alone
-abbrev pub get_of : Kind → ℕ → Call
-get_of Queue key = MsgGet key 0
-get_of Sems key = SemGet key 0 0
-get_of Segment key = ShmGet key 0 0
 
 -- the removal of the object whose identifier a get was answered, if it was
 abbrev pub removed : ℕ → Kind → Progress × Option ℕ → Progress

@@ -1,13 +1,14 @@
 // The calls of a line, one after another.
 
 ghost use Rattle.std.specs.Prelude.{◌≡◌, ◌<◌, IfOk, OnOk, length, string_bytes};
-ghost use Rattle.ipcsh.specs.Commands.{get_of as get_by_key, id_in, made, part_made};
+ghost use Rattle.ipcsh.specs.Commands.{id_told, made, part_made};
 ghost use Rattle.ipcsh.specs.Leading.{Leads};
 ghost use Rattle.ipcsh.specs.Output.{CarriesOut};
 
 use crate::readings::Reading;
 use crate::session::Session;
-use ipc_call::{Answer, Call, Kind, Memory, Reply};
+use ipc_call::{Call, Memory, Reply};
+use ipc_commands::{answered_id, get_of};
 use ipc_space::Effects;
 use ipc_text::{Command, Part, print_reply};
 use std::alloc::Global;
@@ -79,7 +80,7 @@ impl Session {
         match self.apply(client, call) {
             Ok(effects) => {
                 self.print_effects(client, &effects, rows)?;
-                Ok(answered_id(&effects))
+                Ok(id_of(&effects))
             }
             Err(_) => {
                 print_reply(rows, self.name_at(client), &Reply::Memory)?;
@@ -90,35 +91,11 @@ impl Session {
 }
 
 /// The identifier that an event's own call is answered.
-fn answered_id(effects: &Effects) -> Option<u32>
-    ensures { result ≡ id_in effects.now.own }
+fn id_of(effects: &Effects) -> Option<u32>
+    ensures { result ≡ id_told effects.now.own }
 {
     match &effects.own {
-        Some(
-            Reply::Entered {
-                outcome: Ok(Answer::Id(id)),
-                ..
-            },
-        ) => Some(*id),
-        _ => None,
-    }
-}
-
-/// The get of a key without a flag: it asks for no right, and creates an object for key 0 (IPC_PRIVATE) alone.
-fn get_of(kind: Kind, key: u32) -> Call
-    ensures { result ≡ get_by_key kind key }
-{
-    match kind {
-        Kind::Queue => Call::MsgGet { key, flags: 0 },
-        Kind::Sems => Call::SemGet {
-            key,
-            nsems: 0,
-            flags: 0,
-        },
-        Kind::Segment => Call::ShmGet {
-            key,
-            size: 0,
-            flags: 0,
-        },
+        Some(reply) => answered_id(reply),
+        None => None,
     }
 }

@@ -1,12 +1,16 @@
 //! The script tool of the service: reads a script of calls, makes them in one namespace, and prints a
-//! row for each reply.
+//! row for each reply; or reads the script to its end, and makes none of its calls.
 #![tactic(auto)]
 
 mod commands;
 mod input;
 mod output;
+mod pieces;
+mod plans;
 mod readings;
 mod runs;
 mod session;
 
+pub use output::write_bytes;
+pub use plans::{Plan, read_plan};
 pub use runs::{Fault, Summary, run};

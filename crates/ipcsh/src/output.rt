@@ -6,8 +6,9 @@ ghost use Rattle.std.specs.Io.KnownBytes.{Appends};
 use crate::runs::Fault;
 use std::io::Write;
 
-/// Writes all the bytes.
-pub(crate) fn write_bytes<W: Write>(writer: &mut W, bytes: &[u8]) -> Result<(), Fault>
+/// Writes all the bytes. The fault is `Write`: the writer's error, an interruption too, or a write that took no byte; a
+/// front of the bytes was written.
+pub fn write_bytes<W: Write>(writer: &mut W, bytes: &[u8]) -> Result<(), Fault>
     ensures ok { OnOk result (Appends (W.contents writer.old) (W.contents writer.new) bytes.now) }
     ensures err { OnErr result ((done : List ℕ) × (rest : List ℕ) × (bytes.now ≡ done ++ rest) × Appends (W.contents writer.old) (W.contents writer.new) done) }
     ensures fault { IfErr result (λ fault. fault ≡ Fault.Write) }

@@ -1,12 +1,12 @@
 // A run of a script from its first byte to its end or a fault.
 
-ghost use Rattle.std.specs.Prelude.{◌≡◌, ◌+◌, ◌<◌, ◌≤◌, [], IfOk, IfErr, OnErr, length, string_bytes, take};
-ghost use Rattle.std.specs.Io.KnownBytes.{Consumes, IsAtEnd, Keeps};
+ghost use Rattle.std.specs.Prelude.{◌≡◌, [], IfOk, IfErr, length, string_bytes};
 ghost use Rattle.ipcsh.specs.Runs.{WritesWhole, StopsBy};
 ghost use Rattle.ipcsh.specs.Session.{fresh_session};
 ghost use Rattle.ipcsh.specs.declared.runs.Fault.TheVariants.{Memory as out_of_memory};
 
 use crate::input::ScriptInput;
+use crate::pieces::{INPUT_MAX, PIECE, read_piece, room_after};
 use std::alloc::{AllocError, Global};
 use std::io::{Read, Write};
 use thiserror::Error;
@@ -47,12 +47,6 @@ impl From<AllocError> for Fault {
         Fault::Memory
     }
 }
-
-/// The longest script, in bytes.
-const INPUT_MAX: usize = 16_777_216;
-
-/// How many bytes are asked for at once.
-const PIECE: usize = 65536;
 
 /// Runs a script in the language of `docs/LANGUAGE.md`, the project's own: reads it to its end, makes
 /// its calls in one namespace, and writes a row for each reply. The rows of the lines that have come are
@@ -120,38 +114,5 @@ fn answer_all<R: Read, W: Write>(
         count += taken;
         input.take(alloc, &piece[..taken])?;
         input.flush(writer)?;
-    }
-}
-
-/// How many bytes may be asked for behind so many. Byte 16777217 is asked for by itself, when all rows
-/// before it are written.
-fn room_after(count: usize) -> usize
-    requires { count ≤ 16777216 }
-    ensures some { 1 ≤ result }
-    ensures piece { result ≤ 65536 }
-    ensures within { count < 16777216 → count + result ≤ 16777216 }
-    ensures one { count ≡ 16777216 → result ≡ 1 }
-{
-    if count == INPUT_MAX {
-        1
-    } else {
-        (INPUT_MAX - count).min(PIECE)
-    }
-}
-
-/// Reads at most so many bytes to the front of the piece. Each error of the reader is a fault, also an
-/// interruption.
-fn read_piece<R: Read>(reader: &mut R, piece: &mut [u8], most: usize) -> Result<usize, Fault>
-    requires some { 1 ≤ most }
-    requires room { most ≤ length piece.old }
-    ensures bound { IfOk result (λ taken. taken ≤ most) }
-    ensures bytes { IfOk result (λ taken. Consumes (R.remaining reader.old) (R.remaining reader.new) (take taken piece.new)) }
-    ensures end { IfOk result (λ taken. taken ≡ 0 → IsAtEnd (R.remaining reader.new)) }
-    ensures err { OnErr result (Keeps (R.remaining reader.old) (R.remaining reader.new)) }
-    ensures fault { IfErr result (λ fault. fault ≡ Fault.Read) }
-{
-    match reader.read(&mut piece[..most]) {
-        Ok(taken) => Ok(taken),
-        Err(_) => Err(Fault::Read),
     }
 }

@@ -6,10 +6,10 @@ ghost use Rattle.ipcsh.specs.Session.{fresh_session, has_started as started, cli
 ghost use Rattle.ipc_space.specs.Spaces.{own_reply, other_replies};
 ghost use Rattle.ipc_model.specs.History.{next_step, with_event};
 ghost use Rattle.ipcsh.specs.Commands.{call_event};
-ghost use Rattle.ipcsh.specs.Output.{Answers, CarriesOut};
+ghost use Rattle.ipcsh.specs.Output.{Answers, CarriesOut, counted};
 ghost use Rattle.ipcsh.specs.Readings.{CanJoin, IsSound};
 ghost use Rattle.ipc_text.specs.Rows.{bad_row, effect_rows, other_row, name_at as name_in};
-ghost use Rattle.ipc_call.specs.Limits.{is_in_range, with_limit as limits_with};
+ghost use Rattle.ipc_call.specs.Limits.{are_in_range, is_in_range, with_limit as limits_with};
 ghost use Rattle.ipc_words.specs.LineText.{content_of};
 ghost use Rattle.ipcsh.specs.Runs.{summary_of};
 
@@ -111,6 +111,40 @@ impl Session {
         }
     }
 
+    /// The time passed in, in seconds.
+    pub(crate) fn time(&self) -> u64
+        ensures { result ≡ self.now.time }
+    {
+        self.time
+    }
+
+    /// The names and the credentials of the clients, and the limits.
+    pub(crate) fn into_setting(self) -> (Vec<Name>, Vec<Creds>, Limits)
+        ensures names { result.0.items ≡ self.names }
+        ensures clients { result.1.items ≡ self.clients }
+        ensures limits { result.2 ≡ self.limits }
+        ensures range { IsTrue (are_in_range result.2) }
+        ensures few { length self.names ≤ 64 }
+        ensures alike { length self.clients ≡ length self.names }
+    {
+        let Session {
+            names,
+            clients,
+            limits,
+            ..
+        } = self;
+        (names, clients, limits)
+    }
+
+    /// One more line was read.
+    pub(crate) fn count_line(&mut self)
+        requires { self.old.lines + 1 < 2 ^ 64 }
+        ensures value { self.new ≡ counted self.old }
+        ensures good { self.new.bad < self.new.lines }
+    {
+        self.lines += 1;
+    }
+
     /// Reads one line, does what it says, and prints its rows.
     #[tactic(auto, unfolding(crate::specs::Output::answered))]
     pub(crate) fn answer(
@@ -123,12 +157,13 @@ impl Session {
         ensures answer { OnOk result (Answers self.old (content_of line.now) self.new (string_bytes rows.old) (string_bytes rows.new)) }
         ensures lines { OnOk result (self.new.lines ≡ self.old.lines + 1) }
     {
-        self.lines += 1;
+        self.count_line();
         let reading = self.read(alloc, line)?;
         self.carry_out(alloc, reading, rows)
     }
 
-    fn carry_out(
+    /// Does what a line says, and prints its rows.
+    pub(crate) fn carry_out(
         &mut self,
         alloc: Global,
         reading: Reading,
@@ -164,7 +199,8 @@ impl Session {
         print_bad(rows, self.lines, reason)
     }
 
-    fn add_client(&mut self, name: Name, creds: Creds) -> Result<(), Memory>
+    /// Adds a client.
+    pub(crate) fn add_client(&mut self, name: Name, creds: Creds) -> Result<(), Memory>
         requires { CanJoin self.old }
         ensures { OnOk result (self.new ≡ record self.old { names = self.old.names ++ name ∷ []; clients = self.old.clients ++ creds ∷ [] }) }
     {

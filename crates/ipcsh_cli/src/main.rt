@@ -1,13 +1,18 @@
-//! The program `ipcsh`: runs the script on standard input and prints its rows. Status 0: all lines were
-//! good. 1: some line was bad. 2: a fault. 3: words that the program doesn't take.
+//! The program `ipcsh`: runs the script on standard input and prints its rows, or makes the calls of each of its clients
+//! in a thread of its own. Status 0: all lines were good. 1: some line was bad. 2: a fault. 3: words that the program
+//! doesn't take.
 #![tactic(auto)]
 
+use ipc_commands::{Program, program_of};
 use ipcsh::Fault;
+use ipcsh_threads::threads;
 use std::alloc::{AllocError, Global};
 use std::env::Args;
 use std::io::ErrorKind;
 use std::process::ExitCode;
 use std::rt::Env;
+use std::sync::Wait;
+use std::thread::Threads;
 use std::{env, io};
 
 /// A run that read all its lines, some of them bad.
@@ -19,28 +24,34 @@ const FAULT: u8 = 2;
 /// Words that the program doesn't take.
 const USAGE: u8 = 3;
 
-/// Whether the program takes the words that it was given: none behind its name, or `--` alone. A word that is no text
-/// it doesn't take.
-fn takes_words<R: Env + AllocGlobal>(rt: &R) -> Result<bool, Fault> {
+/// What the program does by the words that it was given; `None` where it doesn't take them. A word that is no text it
+/// doesn't take.
+fn program<R: Env + AllocGlobal>(rt: &R) -> Result<Option<Program>, Fault> {
     match env::args(rt) {
-        Ok(given) => Ok(takes(rt.alloc(), given)?),
+        Ok(given) => Ok(named(rt.alloc(), given)?),
         Err(error) if error.kind() == ErrorKind::OutOfMemory => Err(Fault::Memory),
-        Err(_) => Ok(false),
+        Err(_) => Ok(None),
     }
 }
 
-fn takes(alloc: Global, given: Args) -> Result<bool, AllocError> {
+fn named(alloc: Global, given: Args) -> Result<Option<Program>, AllocError> {
     let texts: Vec<String> = given.collect(alloc)?;
     let words: Vec<&str> = texts.iter().map(|text| text.as_str()).collect(alloc)?;
-    ipc_commands::takes_words(alloc, words.as_slice())
+    program_of(alloc, words.as_slice())
 }
 
 /// Runs the script on standard input.
-fn run_script<R: Env + Input + Print + AllocGlobal>(rt: &R) -> Result<u8, Fault> {
-    if !takes_words(rt)? {
+fn run_script<R: Env + Input + Print + Threads + Sync + Wait + AllocGlobal>(
+    rt: &R,
+) -> Result<u8, Fault> {
+    let Some(program) = program(rt)? else {
         return Ok(USAGE);
-    }
-    let summary = ipcsh::run(rt.alloc(), &mut rt.reader(), &mut io::writer(rt))?;
+    };
+    let (alloc, mut reader, mut writer) = (rt.alloc(), rt.reader(), io::writer(rt));
+    let summary = match program {
+        Program::Script => ipcsh::run(alloc, &mut reader, &mut writer)?,
+        Program::Threads => threads(rt, alloc, &mut reader, &mut writer)?,
+    };
     Ok(if summary.bad == 0 { 0 } else { BAD_LINE })
 }
 

@@ -485,7 +485,7 @@ struct Gate {
 }
 
 /// Waits for a word to be set, for so many turns at most. Whether it was.
-fn wait_for(word: &AtomicU64) -> bool {
+pub(crate) fn wait_for(word: &AtomicU64) -> bool {
     let backoff = Backoff::new();
     for _ in 0..TURNS {
         if word.load(Ordering::SeqCst) == 1 {

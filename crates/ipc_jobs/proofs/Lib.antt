@@ -1,0 +1,4 @@
+mod Counted
+mod Ended
+mod Going
+mod Making

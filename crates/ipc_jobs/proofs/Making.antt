@@ -1,0 +1,105 @@
+-- One call after another.
+use Rattle.std.proofs.Common.{◌≡◌, ℕ, List, [], ◌∷◌, ◌++◌, map, length, refl, sym, ap, ◌∙◌, subst, arith, append-nil, append_assoc, length-append, Option, Some, None}
+use Rattle.std.proofs.lemmas.List.{map-append}
+use Rattle.std.proofs.lemmas.List.Concat.{flat_map-append}
+use Rattle.ipc_call.specs.declared.calls.Call.{Call}
+use Rattle.ipc_call.specs.declared.calls.Call.TheVariants.{IpcRmid}
+use Rattle.ipc_call.specs.declared.calls.Kind.{Kind}
+use Rattle.ipc_call.specs.declared.replies.Reply.{Reply}
+use Rattle.ipc_call.specs.declared.replies.Reply.TheVariants.{Entered, Memory}
+use Rattle.ipc_commands.specs.declared.parts.Part.{Part}
+use Rattle.ipc_commands.specs.declared.parts.Part.TheVariants.{Plain, RemoveByKey}
+use Rattle.ipc_commands.specs.Removals.{get_of, id_in}
+use Rattle.pub_rule.specs.declared.work.Work.{Work}
+use Rattle.pub_rule.specs.WorkSteps.{asking}
+use Rattle.ipc_combiner.specs.declared.entries.Entry.{Entry}
+use Rattle.ipc_combiner.specs.Asking.{HasCalled}
+use Rattle.ipc_commands.specs.declared.jobs.Job.{Job}
+use Rattle.ipc_jobs.specs.Calls.{AreCallsOf, Replied, Timed, calls_in, entered, parts_in, removal, replies_in, rest_of, timed}
+use Rattle.ipc_jobs.specs.Working.{HasAsked, HasDone, HasMade}
+
+abbrev Known : Type 0
+Known = Work Entry (ℕ × Call) Reply
+
+pub none_left : {X : Type 0} (xs : List X) → length xs ≡ 0 → xs ≡ []
+none_left [] none = refl
+none_left (x ∷ xs) none = absurd (omega (arith, none))
+
+pub calls_on : (cs ds : List Replied) (ps qs : List Timed) → AreCallsOf cs ps → AreCallsOf ds qs → AreCallsOf (cs ++ ds) (ps ++ qs)
+calls_on [] ds ps qs a b = subst (λ (x : List Timed). AreCallsOf ds (x ++ qs)) (sym a) b
+calls_on (c ∷ cs) ds [] qs a b = absurd a
+calls_on (c ∷ cs) ds (p ∷ ps) qs a b = (a.0, subst (λ (x : List Timed). AreCallsOf (cs ++ ds) x) (append_assoc (rest_of p c.1) ps qs) (calls_on cs ds (rest_of p c.1 ++ ps) qs a.1 b))
+
+entered-append : (cs ds : List Replied) → entered (cs ++ ds) ≡ entered cs ++ entered ds
+entered-append [] ds = refl
+entered-append ((call, Entered place turn outcome) ∷ cs) ds = ap (λ l. (call, Entered place turn outcome) ∷ l) (entered-append cs ds)
+entered-append ((call, Memory) ∷ cs) ds = entered-append cs ds
+
+pub calls-append : (cs ds : List Replied) → calls_in (cs ++ ds) ≡ calls_in cs ++ calls_in ds
+calls-append cs ds = ap (map (λ (c : Replied). c.0)) (entered-append cs ds) ∙ map-append (λ (c : Replied). c.0) (entered cs) (entered ds)
+
+pub replies-append : (cs ds : List Replied) → replies_in (cs ++ ds) ≡ replies_in cs ++ replies_in ds
+replies-append cs ds = ap (map (λ (c : Replied). c.1)) (entered-append cs ds) ∙ map-append (λ (c : Replied). c.1) (entered cs) (entered ds)
+
+pub made_none : (v : Known) → HasMade [] v v
+made_none v = record { posts = omega arith; entered = sym (append-nil v.entered); got = sym (append-nil v.got) }
+
+pub made_more : (cs ds : List Replied) (v u w : Known) → HasMade cs v u → HasMade ds u w → HasMade (cs ++ ds) v w
+made_more cs ds v u w a b = record {
+  posts = let first = a.posts in let second = b.posts in let all = length-append cs ds in omega (arith, first, second, all);
+  entered = b.entered ∙ ap (λ l. l ++ calls_in ds) a.entered ∙ append_assoc v.entered (calls_in cs) (calls_in ds) ∙ ap (λ l. v.entered ++ l) (sym (calls-append cs ds));
+  got = b.got ∙ ap (λ l. l ++ replies_in ds) a.got ∙ append_assoc v.got (replies_in cs) (replies_in ds) ∙ ap (λ l. v.got ++ l) (sym (replies-append cs ds));
+}
+
+-- a call that ended
+pub made_one : (client now : ℕ) (call : Call) (v w : Known) (reply : Reply) → HasCalled client (asking client (now, call) v) w reply → HasMade (((now, call), reply) ∷ []) v w
+made_one client now call v w (Entered place turn outcome) (u, further, (c, h, stage, goes, law, calls, got, is)) =
+    let same : c ≡ (now, call) = (let asks = further.stage in cc) in record {
+      posts = let all = ap (λ (x : Known). x.posts) is in let one = further.posts in omega (arith, all, one);
+      entered = ap (λ (x : Known). x.entered) is ∙ ap (λ l. l ++ c ∷ []) further.entered ∙ ap (λ x. v.entered ++ x ∷ []) same;
+      got = ap (λ (x : Known). x.got) is ∙ ap (λ l. l ++ Entered place turn outcome ∷ []) further.got;
+    }
+made_one client now call v w Memory (u, further, (h, goes, law, calls, got, is)) = record {
+  posts = let all = ap (λ (x : Known). x.posts) is in let one = further.posts in omega (arith, all, one);
+  entered = ap (λ (x : Known). x.entered) is ∙ further.entered ∙ sym (append-nil v.entered);
+  got = ap (λ (x : Known). x.got) is ∙ further.got ∙ sym (append-nil v.got);
+}
+
+pub asked : (client now : ℕ) (call : Call) (id : Option ℕ) (v w : Known) (reply : Reply) → id ≡ id_in reply → HasCalled client (asking client (now, call) v) w reply → HasAsked (now, call) id v w
+asked client now call id v w reply is called = (reply, is, made_one client now call v w reply called)
+
+-- a part that is one call
+pub done_plain : (now : ℕ) (part : Part) (call : Call) (id : Option ℕ) (v w : Known) → part ≡ Plain call → HasAsked (now, call) id v w → HasDone ((now, part) ∷ []) v w
+done_plain now part call id v w is a =
+    subst (λ (p : Part). HasDone ((now, p) ∷ []) v w) (sym is) (((now, call), a.0) ∷ [], (refl, refl), a.2)
+
+-- a removal by key, of an object that wasn't found, and of one that was
+pub done_get : (now key : ℕ) (part : Part) (kind : Kind) (call : Call) (v w : Known) → part ≡ RemoveByKey kind key → call ≡ get_of kind key → HasAsked (now, call) None v w → HasDone ((now, part) ∷ []) v w
+done_get now key part kind call v w is gets a =
+    subst (λ (p : Part). HasDone ((now, p) ∷ []) v w) (sym is) (((now, call), a.0) ∷ [], (ap (λ x. (now, x)) gets, ap (λ (o : Option ℕ). map (λ (p : Part). (now, p)) (removal kind o) ++ []) (sym a.1)), a.2)
+
+pub done_removal : (now key id : ℕ) (part : Part) (kind : Kind) (call : Call) (last : Option ℕ) (v u w : Known) → part ≡ RemoveByKey kind key → call ≡ get_of kind key
+    → HasAsked (now, call) (Some id) v u → HasAsked (now, IpcRmid kind id) last u w → HasDone ((now, part) ∷ []) v w
+done_removal now key id part kind call last v u w is gets a b =
+    let get : Replied = ((now, call), a.0) in
+    let gone : Replied = ((now, IpcRmid kind id), b.0) in
+    let rest : AreCallsOf (gone ∷ []) ((now, Plain (IpcRmid kind id)) ∷ []) = (refl, refl) in
+    subst (λ (p : Part). HasDone ((now, p) ∷ []) v w) (sym is) (
+      get ∷ gone ∷ [],
+      (ap (λ x. (now, x)) gets, subst (λ (o : Option ℕ). AreCallsOf (gone ∷ []) (map (λ (p : Part). (now, p)) (removal kind o) ++ [])) a.1 rest),
+      made_more (get ∷ []) (gone ∷ []) v u w a.2 b.2,
+    )
+
+-- a job's parts, one after another: what was done goes on to all of them
+pub done_more : (now : ℕ) (part : Part) (rest : List Part) (all : List Timed) (cs ds : List Replied)
+    → ((more : List Replied) → AreCallsOf more (map (λ p. (now, p)) (part ∷ rest)) → AreCallsOf (cs ++ more) all) → AreCallsOf ds ((now, part) ∷ [])
+    → (more : List Replied) → AreCallsOf more (map (λ p. (now, p)) rest) → AreCallsOf ((cs ++ ds) ++ more) all
+done_more now part rest all cs ds before one more are =
+    subst (λ (l : List Replied). AreCallsOf l all) (sym (append_assoc cs ds more)) (before (ds ++ more) (calls_on ds more ((now, part) ∷ []) (map (λ p. (now, p)) rest) one are))
+
+-- one more job
+parts_more : (done : List Job) (job : Job) → parts_in (done ++ job ∷ []) ≡ parts_in done ++ timed job
+parts_more done job = flat_map-append timed done (job ∷ []) ∙ ap (λ l. parts_in done ++ l) (append-nil (timed job))
+
+pub jobs_more : (done : List Job) (job : Job) (cs ds : List Replied) → AreCallsOf cs (parts_in done) → AreCallsOf ds (timed job) → AreCallsOf (cs ++ ds) (parts_in (done ++ job ∷ []))
+jobs_more done job cs ds a b = subst (λ (l : List Timed). AreCallsOf (cs ++ ds) l) (sym (parts_more done job)) (calls_on cs ds (parts_in done) (timed job) a b)

@@ -1,0 +1,9 @@
+use Rattle.std.proofs.Common.{◌≡◌}
+use Rattle.pub_list.specs.Clients.{work}
+use Rattle.ipc_combiner.specs.States.{IsOf}
+use Rattle.ipc_jobs.proofs.Going.{IsAsFar}
+use Rattle.ipc_jobs.proofs.working.work.Given as goal
+
+abbrev pub invariant-loop-job : goal.invariant-loop-job
+invariant-loop-job g l = IsOf l.service.list l.idle.joined × (l.idle.joined.client ≡ l.fn.worker.client.fresh.client) × (l.own ≡ l.fn.worker.client.fresh.client)
+    × IsAsFar l.fn.worker.jobs.items l.job-iterator.rest.items l.nth (work l.idle.joined)

@@ -1,0 +1,4 @@
+pub mod Calls
+pub mod Courses
+pub mod Rows
+pub mod Working

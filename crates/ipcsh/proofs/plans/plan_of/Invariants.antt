@@ -1,0 +1,12 @@
+use Rattle.std.proofs.Common.{◌≤◌, take}
+use Rattle.ipcsh.specs.Plans.{IsReady}
+use Rattle.ipcsh.proofs.PlanLemmas.{Has}
+use Rattle.ipcsh.proofs.plans.plan_of.Given as goal
+
+-- the complete lines of the bytes so far are planned, and what follows them is kept
+abbrev pub invariant-loop-b : goal.invariant-loop-b
+invariant-loop-b l = record {
+  has : Has (take l.b-index l.text) l.pending l.planning;
+  count : l.planning.session.lines ≤ l.b-index;
+  ready : IsReady l.planning;
+}

@@ -1,0 +1,167 @@
+// Plans: scripts that were read to their end before any of their calls is made.
+
+ghost use Rattle.std.specs.Prelude.{◌≡◌, ◌<◌, ◌≤◌, ◌+◌, ◌^◌, IfErr, IfOk, OnOk, length};
+ghost use Rattle.ipc_words.specs.LineText.{content_of};
+ghost use Rattle.ipc_words.specs.Lines.{lines_of};
+ghost use Rattle.ipcsh.specs.Plans.{IsPlan, IsReady, ReadsPlan, StopsReading, after_plan_line, begun, nothing_planned, planned, with_client, with_job};
+ghost use Rattle.ipcsh.specs.Readings.{CanJoin};
+ghost use Rattle.ipcsh.specs.Runs.{longest_input};
+
+use crate::pieces::read_text;
+use crate::readings::Reading;
+use crate::runs::Fault;
+use crate::session::Session;
+use ipc_call::{Limits, Memory};
+use ipc_commands::Job;
+use ipc_creds::Creds;
+use ipc_text::{Command, Line, Name, Pending};
+use std::alloc::Global;
+use std::io::Read;
+use std::marker::Model;
+
+/// What a script says, of which no call was made. A client's line is a job of its calls, at the time passed in; its
+/// calls aren't answered, so no line is `busy`.
+#[derive(Debug, Drop)]
+pub struct Plan {
+    /// The clients' names, at most 64.
+    pub names: Vec<Name>,
+    /// Their credentials.
+    pub clients: Vec<Creds>,
+    /// The limits of the namespace, in their ranges.
+    pub limits: Limits,
+    /// Each client's jobs, in the order of its lines.
+    pub jobs: Vec<Vec<Job>>,
+    /// Whether there is a job.
+    pub has_jobs: bool,
+    /// The rows of the bad lines.
+    pub rows: String,
+    /// The lines that were read, skipped ones too.
+    pub lines: u64,
+    /// The bad ones among them.
+    pub bad: u64,
+}
+
+/// Reads a script to its end, and makes none of its calls. The faults are `Read`, `TooMuch`, and `Memory` for an
+/// allocation that was refused.
+pub fn read_plan<R: Read>(alloc: Global, reader: &mut R) -> Result<Plan, Fault>
+    ensures ok { IfOk result (ReadsPlan (R.remaining reader.old) (R.remaining reader.new)) }
+    ensures fault { IfErr result (StopsReading (R.remaining reader.old) (R.remaining reader.new)) }
+{
+    let text = read_text(alloc, reader)?;
+    Ok(plan_of(alloc, text.as_slice())?)
+}
+
+fn plan_of(alloc: Global, text: &[u8]) -> Result<Plan, Memory>
+    requires { length text.now ≤ longest_input }
+    ensures { IfOk result (IsPlan (planned (lines_of text.now))) }
+{
+    let mut planning = Planning::new(alloc);
+    let mut pending = Pending::new(alloc);
+    for b in text {
+        if *b == b'\n' {
+            planning.take_line(alloc, &pending.whole())?;
+            pending.clear();
+        } else {
+            pending.push(*b)?;
+        }
+    }
+    if !pending.is_empty() {
+        planning.take_line(alloc, &pending.last())?;
+    }
+    Ok(planning.into_plan())
+}
+
+/// A plan between two lines.
+#[derive(Drop)]
+pub(crate) struct Planning {
+    session: Session,
+    jobs: Vec<Vec<Job>>,
+    rows: String,
+}
+
+impl Model for Planning {
+    ghost use Rattle.ipcsh.specs.Plans.{Planned};
+
+    ghost Value = { Planned };
+
+    ghost use Rattle.ipcsh.specs.PlansInside.{planned_of};
+
+    ghost view = { planned_of };
+}
+
+impl Planning {
+    /// Before the first line.
+    fn new(alloc: Global) -> Planning
+        ensures value { result ≡ nothing_planned }
+        ensures ready { IsReady result }
+    {
+        Planning {
+            session: Session::new(alloc),
+            jobs: Vec::new(alloc),
+            rows: String::new(alloc),
+        }
+    }
+
+    /// Reads one line.
+    fn take_line(&mut self, alloc: Global, line: &Line<'_>) -> Result<(), Memory>
+        requires lines { self.old.session.lines + 1 < 2 ^ 64 }
+        requires ready { IsReady self.old }
+        ensures takes { OnOk result (self.new ≡ after_plan_line self.old (content_of line.now)) }
+        ensures lines { OnOk result (self.new.session.lines ≡ self.old.session.lines + 1) }
+        ensures ready { OnOk result (IsReady self.new) }
+    {
+        self.session.count_line();
+        match self.session.read(alloc, line)? {
+            Reading::Command(client, command) => self.add_job(alloc, client, command),
+            Reading::Client(name, creds) => self.add_client(alloc, name, creds),
+            reading => self.session.carry_out(alloc, reading, &mut self.rows),
+        }
+    }
+
+    fn add_job(&mut self, alloc: Global, client: u32, command: Command) -> Result<(), Memory>
+        requires client { client < length self.old.session.names }
+        requires ready { IsReady self.old }
+        ensures value { OnOk result (self.new ≡ with_job self.old client command) }
+        ensures ready { OnOk result (IsReady self.new) }
+    {
+        self.session.start(alloc)?;
+        let now = self.session.time();
+        self.jobs[client as usize].push(Job { now, command })?;
+        Ok(())
+    }
+
+    fn add_client(&mut self, alloc: Global, name: Name, creds: Creds) -> Result<(), Memory>
+        requires joins { CanJoin self.old.session }
+        requires ready { IsReady self.old }
+        ensures value { OnOk result (self.new ≡ with_client self.old name creds) }
+        ensures ready { OnOk result (IsReady self.new) }
+    {
+        self.jobs.reserve(1)?;
+        self.session.add_client(name, creds)?;
+        self.jobs.push(Vec::new(alloc)).unwrap();
+        Ok(())
+    }
+
+    fn into_plan(self) -> Plan
+        requires { IsReady self }
+        ensures { IsPlan self result }
+    {
+        let Planning {
+            session,
+            jobs,
+            rows,
+        } = self;
+        let (summary, has_jobs) = (session.summary(), session.has_started());
+        let (names, clients, limits) = session.into_setting();
+        Plan {
+            names,
+            clients,
+            limits,
+            jobs,
+            has_jobs,
+            rows,
+            lines: summary.lines,
+            bad: summary.bad,
+        }
+    }
+}

@@ -1,0 +1,97 @@
+// A script whose clients have a thread each.
+
+ghost use Rattle.std.specs.Prelude.{◌≡◌, ◌≤◌, ◌++◌, IfErr, IfOk, length, string_bytes};
+ghost use Rattle.ipc_model.specs.History.{run as run_of};
+ghost use Rattle.ipc_model.specs.Listings.{lines_of};
+ghost use Rattle.ipcsh_threads.specs.Rows.{count_rows, object_lines};
+ghost use Rattle.ipcsh_threads.specs.Threads.{CanRun, EndsSo, StopsThreads, WritesThreads, setup_of};
+
+use crate::rows::{print_counts, print_objects};
+use ipc_call::Memory;
+use ipc_jobs::{OpenGate, ThreadsEnd, run_threads};
+use ipc_text::Name;
+use ipcsh::{Fault, Plan, Summary, read_plan, write_bytes};
+use std::alloc::Global;
+use std::io::{Read, Write};
+use std::sync::Wait;
+use std::thread::Threads;
+
+/// Reads a script in the language of `docs/LANGUAGE.md`, the project's own, to its end, and writes the rows of its bad
+/// lines. Where a client has a call, it then makes the calls of each client, in the order of its lines, in a thread of
+/// its own; when all have ended it writes for each client how many calls it made and how many were refused, and the
+/// lines of all objects. It may never return: a call that waits ends by another client's call alone. After `Read` and
+/// `TooMuch` nothing was written.
+pub fn threads<R: Threads + Sync + Wait, I: Read, W: Write>(
+    rt: &R,
+    alloc: Global,
+    reader: &mut I,
+    writer: &mut W,
+) -> Result<Summary, Fault>
+    ensures ok { IfOk result (WritesThreads (record {
+      read_before = I.remaining reader.old;
+      read_after = I.remaining reader.new;
+      written_before = W.contents writer.old;
+      written_after = W.contents writer.new;
+    })) }
+    ensures fault { IfErr result (StopsThreads (record {
+      read_before = I.remaining reader.old;
+      read_after = I.remaining reader.new;
+      written_before = W.contents writer.old;
+      written_after = W.contents writer.new;
+    })) }
+{
+    let plan = read_plan(alloc, reader)?;
+    write_bytes(writer, plan.rows.as_bytes())?;
+    let (lines, bad) = (plan.lines, plan.bad);
+    if !plan.has_jobs {
+        return Ok(Summary {
+            lines,
+            bad,
+            events: 0,
+        });
+    }
+    let ending = run_plan(rt, alloc, plan)?;
+    write_bytes(writer, ending.rows.as_bytes())?;
+    Ok(Summary {
+        lines,
+        bad,
+        events: ending.events,
+    })
+}
+
+/// What the threads leave behind.
+#[derive(Drop)]
+struct Ending {
+    /// The rows at the end.
+    rows: String,
+    /// The calls that were entered.
+    events: u64,
+}
+
+/// Makes the calls of a plan.
+fn run_plan<R: Threads + Sync + Wait>(rt: &R, alloc: Global, plan: Plan) -> Result<Ending, Memory>
+    requires { CanRun plan }
+    ensures { IfOk result (EndsSo (setup_of plan)) }
+{
+    let Plan {
+        names,
+        clients,
+        limits,
+        jobs,
+        ..
+    } = plan;
+    let end = run_threads(rt, alloc, limits, clients, jobs, &OpenGate)?;
+    ending_of(alloc, names.as_slice(), &end)
+}
+
+fn ending_of(alloc: Global, names: &[Name], end: &ThreadsEnd) -> Result<Ending, Memory>
+    requires { length names.now ≤ length end.now.counts.items }
+    ensures { IfOk result (λ e. (string_bytes e.rows ≡ count_rows names.now end.now.counts.items ++ object_lines (lines_of (run_of end.now.space))) × (e.events ≡ length end.now.space.events)) }
+{
+    let lines = end.space.lines()?;
+    let mut rows = String::new(alloc);
+    print_counts(&mut rows, names, end.counts.as_slice())?;
+    print_objects(&mut rows, lines.as_slice())?;
+    let events = end.space.events();
+    Ok(Ending { rows, events })
+}

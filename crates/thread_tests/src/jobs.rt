@@ -1,0 +1,438 @@
+// Clients do their jobs, each in a thread of its own.
+ghost use Rattle.std.specs.Prelude.{⊤};
+
+use crate::services::wait_for;
+use bitflags::Flags;
+use ipc_call::{Call, Items, JournalRow, Kind, Limits, Listed, Mode, Row, Rule, SemOper};
+use ipc_commands::Part;
+use ipc_creds::{Caps, Creds};
+use ipc_jobs::{Gate, Job, OpenGate, ThreadsEnd, run_threads};
+use ipc_space::Space;
+use std::alloc::{AllocError, Global};
+use std::process::Abort;
+use std::sync::Wait;
+use std::sync::atomic::{AtomicU64, Ordering};
+use std::test::Fail;
+use std::thread::Threads;
+
+/// A job of one part.
+fn job_of(alloc: Global, now: u64, part: Part) -> Result<Job, AllocError> {
+    let mut parts = Vec::new(alloc);
+    parts.push(part)?;
+    let command = Items::new(parts);
+    Ok(Job { now, command })
+}
+
+/// A job of one call.
+pub(crate) fn job(alloc: Global, now: u64, call: Call) -> Result<Job, AllocError> {
+    job_of(alloc, now, Part::Plain(call))
+}
+
+/// So many clients of one user.
+pub(crate) fn creds_of(alloc: Global, count: usize) -> Result<Vec<Creds>, AllocError> {
+    let mut creds = Vec::new(alloc);
+    for _ in 0..count {
+        creds.push(Creds::new(100, 10, Vec::new(alloc), Caps::empty()))?;
+    }
+    Ok(creds)
+}
+
+/// Each list of jobs is done by a client in a thread of its own.
+pub(crate) fn end_of<R: Threads + Sync + Wait + Abort + AllocGlobal, G: Gate + Sync>(
+    rt: &R,
+    jobs: Vec<Vec<Job>>,
+    gate: &G,
+) -> Result<ThreadsEnd, Fail> {
+    let alloc = rt.alloc();
+    let limits = Limits::default();
+    assert!(rt; limits.in_range());
+    let creds = creds_of(alloc, jobs.len())?;
+    assert!(rt; 1 <= creds.len() && creds.len() <= 64);
+    assert!(rt; jobs.len() == creds.len());
+    Ok(run_threads(rt, alloc, limits, creds, jobs, gate)?)
+}
+
+/// How many calls of the client are in the journal. They are at the times 1, 2 and so on.
+fn calls_of(rt: &impl Abort, space: &Space, number: u32) -> u64 {
+    let mut count: u64 = 0;
+    for row in space.journal() {
+        if let JournalRow::Called { client, now, .. } = *row
+            && client == number
+        {
+            count = count.wrapping_add(1);
+            assert_eq!(rt; now, count, "of client {number}");
+        }
+    }
+    count
+}
+
+/// Each client has so many calls, at the times of its jobs, and so many refusals.
+fn check_counts(rt: &impl Abort, end: &ThreadsEnd, wanted: &[(u64, u64)]) {
+    assert_eq!(rt; end.counts.as_slice(), wanted);
+    let mut client: u32 = 0;
+    for (calls, _) in wanted {
+        assert_eq!(rt; calls_of(rt, &end.space, client), *calls);
+        client = client.wrapping_add(1);
+    }
+}
+
+/// The queue of a key, which is made where there is none.
+fn queue(key: u32) -> Call {
+    let flags = 0o1666;
+    Call::MsgGet { key, flags }
+}
+
+/// The set of key 7 with so many semaphores, the first of the namespace.
+fn set(nsems: u32) -> Call {
+    let (key, flags) = (7, 0o1666);
+    Call::SemGet { key, nsems, flags }
+}
+
+/// One operation on a semaphore of the first set.
+fn semop(alloc: Global, num: u16, op: i16) -> Result<Call, AllocError> {
+    let mut ops = Vec::new(alloc);
+    ops.push(SemOper { num, op, flags: 0 })?;
+    let ops = Items::new(ops);
+    Ok(Call::SemOp { id: 0, ops })
+}
+
+/// Gets the set, and adds 1 a hundred times.
+fn additions(alloc: Global) -> Result<Vec<Job>, AllocError> {
+    let mut jobs = Vec::new(alloc);
+    jobs.push(job(alloc, 1, set(1))?)?;
+    for now in 2..102 {
+        jobs.push(job(alloc, now, semop(alloc, 0, 1)?)?)?;
+    }
+    Ok(jobs)
+}
+
+/// How many semops of the client are in the journal.
+fn semops_of(space: &Space, number: u32) -> u64 {
+    let mut count: u64 = 0;
+    for row in space.journal() {
+        if let JournalRow::Called {
+            client,
+            call: Call::SemOp { .. },
+            ..
+        } = row
+            && *client == number
+        {
+            count = count.wrapping_add(1);
+        }
+    }
+    count
+}
+
+/// The one object is the set, with these values.
+fn check_set(rt: &impl Abort, space: &Space, values: &[u16]) -> Result<(), Fail> {
+    let lines = space.lines()?;
+    assert_eq!(rt; lines.len(), 1);
+    assert_eq!(rt; lines[0].1.as_slice(), values);
+    let object = Listed {
+        key: 7,
+        id: 0,
+        uid: 100,
+        mode: Mode::from_low_bits(0o666),
+    };
+    let nsems = values.len() as u64;
+    assert_eq!(rt; lines[0].0, Row::Set { object, nsems });
+    Ok(())
+}
+
+#[test]
+fn four_clients_add_to_a_semaphore(rt: HostRuntime) -> Result<(), Fail> {
+    let mut jobs = Vec::new(rt.alloc());
+    for _ in 0..4 {
+        jobs.push(additions(rt.alloc())?)?;
+    }
+    let end = end_of(&rt, jobs, &OpenGate)?;
+    assert_eq!(rt; end.held, 0);
+    check_counts(&rt, &end, &[(101, 0), (101, 0), (101, 0), (101, 0)]);
+    for client in 0..4 {
+        assert_eq!(rt; semops_of(&end.space, client), 100);
+    }
+    check_set(&rt, &end.space, &[400])
+}
+
+/// So many jobs, each of one call, for the client of this number.
+fn gets(alloc: Global, client: u32, count: u64) -> Result<Vec<Job>, AllocError> {
+    let mut jobs = Vec::new(alloc);
+    for nth in 0..count {
+        let now = nth.wrapping_add(1);
+        jobs.push(job(alloc, now, queue(client.wrapping_add(1)))?)?;
+    }
+    Ok(jobs)
+}
+
+/// The lists of jobs of as many clients, each of so many jobs.
+fn gets_of(alloc: Global, counts: &[u64]) -> Result<Vec<Vec<Job>>, AllocError> {
+    let mut jobs = Vec::new(alloc);
+    let mut client: u32 = 0;
+    for count in counts {
+        jobs.push(gets(alloc, client, *count)?)?;
+        client = client.wrapping_add(1);
+    }
+    Ok(jobs)
+}
+
+/// Two clients wait for each other before their first jobs. Client 0 then waits until client 1 has done its first job,
+/// and client 1 after it until client 0 has done its second.
+#[derive(Drop)]
+struct Meeting {
+    zero_came: AtomicU64,
+    one_came: AtomicU64,
+    one_did: AtomicU64,
+    zero_did: AtomicU64,
+}
+
+impl Gate for Meeting {
+    ghost may_hold = { λ gate client nth. ⊤ };
+
+    fn before(&self, client: u32, nth: u64) -> bool {
+        match (client, nth) {
+            (0, 1) => {
+                self.zero_came.store(1, Ordering::SeqCst);
+                wait_for(&self.one_came)
+            }
+            (1, 1) => {
+                self.one_came.store(1, Ordering::SeqCst);
+                wait_for(&self.zero_came)
+            }
+            (0, 2) => wait_for(&self.one_did),
+            (0, 3) => {
+                self.zero_did.store(1, Ordering::SeqCst);
+                true
+            }
+            _ => true,
+        }
+    }
+
+    fn after(&self, client: u32, nth: u64) {
+        if client == 1 && nth == 1 {
+            self.one_did.store(1, Ordering::SeqCst);
+            wait_for(&self.zero_did);
+        }
+    }
+}
+
+/// The place of the client's call at a time, among the rows of the journal.
+fn place_of(space: &Space, number: u32, time: u64) -> Option<usize> {
+    let mut place: usize = 0;
+    for row in space.journal() {
+        if let JournalRow::Called { client, now, .. } = *row
+            && client == number
+            && now == time
+        {
+            return Some(place);
+        }
+        place = place.wrapping_add(1);
+    }
+    None
+}
+
+#[test]
+fn two_clients_meet_at_a_gate(rt: HostRuntime) -> Result<(), Fail> {
+    let gate = Meeting {
+        zero_came: AtomicU64::new(0),
+        one_came: AtomicU64::new(0),
+        one_did: AtomicU64::new(0),
+        zero_did: AtomicU64::new(0),
+    };
+    let end = end_of(&rt, gets_of(rt.alloc(), &[3, 2])?, &gate)?;
+    assert_eq!(rt; end.held, 0);
+    check_counts(&rt, &end, &[(3, 0), (2, 0)]);
+    let first = place_of(&end.space, 1, 1).expect(&rt, "client 1 called");
+    let second = place_of(&end.space, 0, 2).expect(&rt, "client 0 called twice");
+    assert!(rt; first < second);
+    Ok(())
+}
+
+/// Stops client 1 before its second job, and client 2 before its first. It counts how often it is asked, and how often
+/// it is told of a job.
+#[derive(Drop)]
+struct TwoStopped {
+    asked: AtomicU64,
+    told: AtomicU64,
+}
+
+impl Gate for TwoStopped {
+    ghost may_hold = { λ gate client nth. ⊤ };
+
+    fn before(&self, client: u32, nth: u64) -> bool {
+        self.asked.fetch_add(1, Ordering::SeqCst);
+        !matches!((client, nth), (1, 2) | (2, 1))
+    }
+
+    fn after(&self, _client: u32, _nth: u64) {
+        self.told.fetch_add(1, Ordering::SeqCst);
+    }
+}
+
+#[test]
+fn a_gate_stops_two_of_three(rt: HostRuntime) -> Result<(), Fail> {
+    let gate = TwoStopped {
+        asked: AtomicU64::new(0),
+        told: AtomicU64::new(0),
+    };
+    let end = end_of(&rt, gets_of(rt.alloc(), &[3, 3, 3])?, &gate)?;
+    assert_eq!(rt; end.held, 2);
+    assert_eq!(rt; gate.asked.load(Ordering::SeqCst), 6);
+    assert_eq!(rt; gate.told.load(Ordering::SeqCst), 4);
+    check_counts(&rt, &end, &[(3, 0), (1, 0), (0, 0)]);
+    assert_eq!(rt; end.space.events(), 4);
+    Ok(())
+}
+
+#[test]
+fn a_client_without_jobs(rt: HostRuntime) -> Result<(), Fail> {
+    let end = end_of(&rt, gets_of(rt.alloc(), &[2, 0, 3])?, &OpenGate)?;
+    assert_eq!(rt; end.held, 0);
+    check_counts(&rt, &end, &[(2, 0), (0, 0), (3, 0)]);
+    Ok(())
+}
+
+/// A message of one byte to the first queue.
+fn send(alloc: Global, mtype: i64) -> Result<Call, AllocError> {
+    let mut text = Vec::new(alloc);
+    text.push(b'x')?;
+    let text = Items::new(text);
+    Ok(Call::MsgSnd {
+        id: 0,
+        mtype,
+        text,
+        flags: 0,
+    })
+}
+
+/// The first message of a type in the first queue, for which the call waits.
+fn receive(msgtyp: i64) -> Call {
+    Call::MsgRcv {
+        id: 0,
+        size: 1,
+        msgtyp,
+        flags: 0,
+    }
+}
+
+/// Client 0 asks, and waits for the answer; client 1 waits for the question, and answers it: once by messages of the
+/// types 1 and 2, and once by the semaphores 0 and 1.
+fn round(alloc: Global, client: u32, jobs: &mut Vec<Job>, now: u64) -> Result<(), AllocError> {
+    let command = if client == 0 {
+        [
+            send(alloc, 1)?,
+            receive(2),
+            semop(alloc, 0, 1)?,
+            semop(alloc, 1, -1)?,
+        ]
+    } else {
+        [
+            receive(1),
+            send(alloc, 2)?,
+            semop(alloc, 0, -1)?,
+            semop(alloc, 1, 1)?,
+        ]
+    };
+    let mut at = now;
+    for call in Vec::from_array(alloc, command)? {
+        jobs.push(job(alloc, at, call)?)?;
+        at = at.wrapping_add(1);
+    }
+    Ok(())
+}
+
+/// A queue, a set of two semaphores, and a hundred rounds.
+fn rounds(alloc: Global, client: u32) -> Result<Vec<Job>, AllocError> {
+    let mut jobs = Vec::new(alloc);
+    jobs.push(job(alloc, 1, queue(5))?)?;
+    jobs.push(job(alloc, 2, set(2))?)?;
+    let mut now: u64 = 3;
+    for _ in 0..100 {
+        round(alloc, client, &mut jobs, now)?;
+        now = now.wrapping_add(4);
+    }
+    Ok(jobs)
+}
+
+/// How many answers are in the journal, and how many of them end a call that waited.
+fn answers(space: &Space) -> (u64, u64) {
+    let mut count: u64 = 0;
+    let mut late: u64 = 0;
+    for row in space.journal() {
+        if let JournalRow::Answered { turn, .. } = *row {
+            count = count.wrapping_add(1);
+            if turn > 0 {
+                late = late.wrapping_add(1);
+            }
+        }
+    }
+    (count, late)
+}
+
+#[test]
+fn waiting_calls_are_completed_by_others(rt: HostRuntime) -> Result<(), Fail> {
+    let mut jobs = Vec::new(rt.alloc());
+    for client in 0..2 {
+        jobs.push(rounds(rt.alloc(), client)?)?;
+    }
+    let end = end_of(&rt, jobs, &OpenGate)?;
+    assert_eq!(rt; end.held, 0);
+    check_counts(&rt, &end, &[(402, 0), (402, 0)]);
+    let (count, late) = answers(&end.space);
+    assert_eq!(rt; count, 804);
+    assert!(rt; late > 0, "no call of four hundred waits");
+    assert!(rt; !end.space.is_waiting(0) && !end.space.is_waiting(1));
+    Ok(())
+}
+
+/// A queue is made and removed by its key, and then one that there isn't.
+fn removals(alloc: Global) -> Result<Vec<Job>, AllocError> {
+    let mut jobs = Vec::new(alloc);
+    jobs.push(job(alloc, 1, queue(5))?)?;
+    jobs.push(job_of(alloc, 2, Part::RemoveByKey(Kind::Queue, 5))?)?;
+    jobs.push(job_of(alloc, 3, Part::RemoveByKey(Kind::Queue, 6))?)?;
+    Ok(jobs)
+}
+
+fn called(now: u64, call: Call) -> JournalRow {
+    JournalRow::Called {
+        client: 0,
+        now,
+        call,
+    }
+}
+
+fn answered(place: u64, rule: Option<Rule>) -> JournalRow {
+    JournalRow::Answered {
+        client: 0,
+        place,
+        turn: 0,
+        rule,
+    }
+}
+
+/// The rows of these removals.
+fn rows_of_removals(alloc: Global) -> Result<Vec<JournalRow>, AllocError> {
+    let (kind, flags) = (Kind::Queue, 0);
+    let mut rows = Vec::new(alloc);
+    rows.push(called(1, queue(5)))?;
+    rows.push(answered(1, None))?;
+    rows.push(called(2, Call::MsgGet { key: 5, flags }))?;
+    rows.push(answered(2, None))?;
+    rows.push(called(2, Call::IpcRmid { kind, id: 0 }))?;
+    rows.push(answered(3, None))?;
+    rows.push(called(3, Call::MsgGet { key: 6, flags }))?;
+    rows.push(answered(4, Some(Rule::NoKey)))?;
+    Ok(rows)
+}
+
+#[test]
+fn a_removal_by_key_is_a_get_and_a_removal(rt: HostRuntime) -> Result<(), Fail> {
+    let mut jobs = Vec::new(rt.alloc());
+    jobs.push(removals(rt.alloc())?)?;
+    let end = end_of(&rt, jobs, &OpenGate)?;
+    assert_eq!(rt; end.held, 0);
+    assert_eq!(rt; end.counts.as_slice(), [(4, 1)].as_slice());
+    let rows = rows_of_removals(rt.alloc())?;
+    assert_eq!(rt; end.space.journal(), rows.as_slice());
+    Ok(())
+}
