@@ -1,6 +1,11 @@
 # Proofs and times.
 
-check_bench() { attempt bench measures; }
+programs='ipcsh_cli ipc_bench thread_bench'
+
+check_bench() {
+    attempt bench measures
+    attempt 'bench threads' measures_threads
+}
 
 measures() {
     built ipc_bench || return 1
@@ -10,17 +15,32 @@ measures() {
     [ "$(grep -c '\.' "$scratch/out")" = "$rows" ]
 }
 
+# Two rows of a head, and one for each of 7 tasks and 5 numbers of clients. Where the kernel is measured, it is in each.
+measures_threads() {
+    built thread_bench || return 1
+    ./bench threads 200 "$scratch/picture" >"$scratch/out" || return 1
+    why='it prints no table of 35 rows'
+    [ "$(sed 1,2d "$scratch/out" | grep -c '^[a-z].*\.\.')" = 35 ] || return 1
+    why='it draws no picture'
+    [ "$(tail -n 1 "$scratch/picture")" = '</svg>' ]
+}
+
+# programs_made: what the programs are made of.
+programs_made() {
+    for crate in $programs; do sources_of "$crate"; done
+}
+
 # rt ci, with what it counts. It builds the programs.
 check_proofs() {
     mkfifo "$scratch/ci.pipe"
     tee "$scratch/ci" <"$scratch/ci.pipe" &
-    before=$(sources_of ipcsh_cli)$(sources_of ipc_bench)
+    before=$(programs_made)
     touch "$scratch/began"
     status=0
     in_group rt ci </dev/null >"$scratch/ci.pipe" || status=$?
     wait
     count_proofs "$(tail -n 1 "$scratch/ci")" "$status"
-    [ "$before" != "$(sources_of ipcsh_cli)$(sources_of ipc_bench)" ] || note_programs
+    [ "$before" != "$(programs_made)" ] || note_programs
 }
 
 # count_proofs LINE STATUS: adds what the last line of rt ci counts.
@@ -44,7 +64,7 @@ count_proofs() {
 
 # The programs that rt ci has built are current.
 note_programs() {
-    for crate in ipcsh_cli ipc_bench; do
+    for crate in $programs; do
         if [ -n "$(find "$(program_of "$crate")" -newer "$scratch/began" 2>/dev/null)" ]; then
             note "$crate"
         fi

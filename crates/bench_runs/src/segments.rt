@@ -43,8 +43,29 @@ impl Access {
         Ok(calls)
     }
 
-    /// Counts so many batches in a namespace of its own, each call on a whole segment of so many bytes.
+    /// Counts so many batches, each call on a whole segment of so many bytes.
     fn add_batches<R: Clock + AllocGlobal>(
+        self,
+        rt: &R,
+        space: &mut Space,
+        run: &mut Run,
+        bytes: u32,
+        batches: u32,
+    ) -> io::Result<()> {
+        let id = shmget(space, bytes)?;
+        let att = shmat(space, id)?;
+        for _ in 0..batches {
+            let calls = self.batch(rt.alloc(), att, bytes)?;
+            let start = Instant::now(rt)?;
+            let last = make_each(space, calls)?;
+            run.add_time(rt, start)?;
+            run.add_answer(last);
+        }
+        Ok(())
+    }
+
+    /// The same in a namespace of its own.
+    fn add_batches_apart<R: Clock + AllocGlobal>(
         self,
         rt: &R,
         run: &mut Run,
@@ -52,16 +73,7 @@ impl Access {
         batches: u32,
     ) -> io::Result<()> {
         let mut space = opened(rt.alloc(), 1)?;
-        let id = shmget(&mut space, bytes)?;
-        let att = shmat(&mut space, id)?;
-        for _ in 0..batches {
-            let calls = self.batch(rt.alloc(), att, bytes)?;
-            let start = Instant::now(rt)?;
-            let last = make_each(&mut space, calls)?;
-            run.add_time(rt, start)?;
-            run.add_answer(last);
-        }
-        Ok(())
+        self.add_batches(rt, &mut space, run, bytes, batches)
     }
 }
 
@@ -116,9 +128,9 @@ pub fn reach<R: Clock + AllocGlobal>(
 ) -> io::Result<Run> {
     let mut run = Run::new(calls / BATCH * BATCH);
     for _ in 0..calls / KEPT {
-        access.add_batches(rt, &mut run, bytes, KEPT / BATCH)?;
+        access.add_batches_apart(rt, &mut run, bytes, KEPT / BATCH)?;
     }
-    access.add_batches(rt, &mut run, bytes, calls % KEPT / BATCH)?;
+    access.add_batches_apart(rt, &mut run, bytes, calls % KEPT / BATCH)?;
     Ok(run)
 }
 
@@ -135,14 +147,18 @@ pub fn copy<R: Clock + AllocGlobal>(rt: &R, bytes: u32, calls: u32) -> io::Resul
     Ok(run)
 }
 
-/// Counts so many pairs of an attach and a detach.
+/// Counts so many pairs of an attach and a detach, by a client that has so many attachments with that one.
 fn add_pairs(
     rt: &impl Clock,
     space: &mut Space,
-    id: u32,
     run: &mut Run,
+    attachments: u32,
     pairs: u32,
 ) -> io::Result<()> {
+    let id = shmget(space, 1)?;
+    for _ in 1..attachments {
+        shmat(space, id)?;
+    }
     let start = Instant::now(rt)?;
     for _ in 0..pairs {
         let att = shmat(space, id)?;
@@ -152,7 +168,7 @@ fn add_pairs(
     run.add_time(rt, start)
 }
 
-/// The same in a namespace of its own, by a client that has so many attachments with that one.
+/// The same in a namespace of its own.
 fn add_pairs_apart<R: Clock + AllocGlobal>(
     rt: &R,
     run: &mut Run,
@@ -160,11 +176,7 @@ fn add_pairs_apart<R: Clock + AllocGlobal>(
     pairs: u32,
 ) -> io::Result<()> {
     let mut space = opened(rt.alloc(), 1)?;
-    let id = shmget(&mut space, 1)?;
-    for _ in 1..attachments {
-        shmat(&mut space, id)?;
-    }
-    add_pairs(rt, &mut space, id, run, pairs)
+    add_pairs(rt, &mut space, run, attachments, pairs)
 }
 
 /// Attaches a segment and detaches it again, by a client that then has so many attachments: pairs of calls.

@@ -1,22 +1,16 @@
-//! Measures the service on the machine that it runs on. Its word is how many calls each measurement makes,
+//! Measures single calls on the machine that it runs on. Its word is how many calls each measurement makes,
 //! 1,000 where it has none. The times go to standard error, and what the calls answered to standard output,
 //! which is the same on every run with as many calls.
 #![tactic(auto)]
 
-mod asking;
 mod combining;
-mod locked;
-mod service;
 
-use asking::Task;
 use bench_runs::measuring::Run;
 use bench_runs::messages::Way;
 use bench_runs::segments::Access;
 use bench_runs::semops::AtExit;
 use bench_runs::{keys, measuring, messages, segments, semops, slots, spaces};
 use std::process::ExitCode;
-use std::sync::Wait;
-use std::thread::Threads;
 use std::{env, io};
 
 /// How many objects the tables hold.
@@ -49,9 +43,6 @@ const ONE: [u32; 1] = [1];
 /// How many clients joined a list.
 const CLIENTS: [u32; 3] = [1, 8, 64];
 
-/// How many clients ask at once.
-const ASKING: [u32; 5] = [1, 2, 4, 16, 64];
-
 /// How many calls a measurement makes where the program has no word.
 const CALLS: u32 = 1_000;
 
@@ -77,13 +68,9 @@ enum Operation {
     EachStep,
     Alone,
     OneOf,
-    OfSpace(Task),
-    OfService(Task),
-    OfMutex(Task),
-    AmongIdle,
 }
 
-const OPERATIONS: [Operation; 32] = [
+const OPERATIONS: [Operation; 22] = [
     Operation::Find,
     Operation::UnbindAndBind,
     Operation::Get,
@@ -106,16 +93,6 @@ const OPERATIONS: [Operation; 32] = [
     Operation::EachStep,
     Operation::Alone,
     Operation::OneOf,
-    Operation::OfSpace(Task::Get),
-    Operation::OfService(Task::Get),
-    Operation::OfMutex(Task::Get),
-    Operation::OfSpace(Task::Message),
-    Operation::OfService(Task::Message),
-    Operation::OfMutex(Task::Message),
-    Operation::OfSpace(Task::Denied),
-    Operation::OfService(Task::Denied),
-    Operation::OfMutex(Task::Denied),
-    Operation::AmongIdle,
 ];
 
 /// The run of a measurement that has one.
@@ -154,16 +131,6 @@ impl Operation {
             Operation::EachStep => &["post", "seize", "take", "answer", "release", "collect"],
             Operation::Alone => &["post to collect"],
             Operation::OneOf => &["post to collect, with a walk"],
-            Operation::OfSpace(Task::Get) => &["Space, msgget of a key"],
-            Operation::OfSpace(Task::Message) => &["Space, msgsnd or msgrcv"],
-            Operation::OfSpace(Task::Denied) => &["Space, a denied msgrcv"],
-            Operation::OfService(Task::Get) => &["service, msgget of a key"],
-            Operation::OfService(Task::Message) => &["service, msgsnd or msgrcv"],
-            Operation::OfService(Task::Denied) => &["service, a denied msgrcv"],
-            Operation::OfMutex(Task::Get) => &["Mutex, msgget of a key"],
-            Operation::OfMutex(Task::Message) => &["Mutex, msgsnd or msgrcv"],
-            Operation::OfMutex(Task::Denied) => &["Mutex, a denied msgrcv"],
-            Operation::AmongIdle => &["service, the others idle"],
         }
     }
 
@@ -177,22 +144,14 @@ impl Operation {
             Operation::OperateBesideWaiting => (&WAITING_BESIDE, "waiting"),
             Operation::Copy | Operation::Reach(_) => (&SEGMENTS, "bytes"),
             Operation::AttachAndDetach => (&ATTACHMENTS, "attached"),
-            Operation::Readings | Operation::EachStep | Operation::Alone | Operation::OfSpace(_) =>
-                (&ONE, "clients"),
-            Operation::OneOf | Operation::AmongIdle => (&CLIENTS, "clients"),
-            Operation::OfService(_) | Operation::OfMutex(_) => (&ASKING, "clients"),
+            Operation::Readings | Operation::EachStep | Operation::Alone => (&ONE, "clients"),
+            Operation::OneOf => (&CLIENTS, "clients"),
             _ => (&OBJECTS, "objects"),
         }
     }
 
     /// One measurement of so many calls at a size: what each call took that has a name.
-    fn run<W: Threads + Wait + Sync>(
-        self,
-        rt: &HostRuntime,
-        workers: &W,
-        size: u32,
-        calls: u32,
-    ) -> io::Result<Vec<Run>> {
+    fn run(self, rt: &HostRuntime, size: u32, calls: u32) -> io::Result<Vec<Run>> {
         match self {
             Operation::Find => alone(rt, keys::find(rt, size, calls)?),
             Operation::UnbindAndBind => listed(rt, &keys::unbind_and_bind(rt, size, calls)?),
@@ -215,32 +174,18 @@ impl Operation {
             Operation::EachStep => listed(rt, &combining::each_step(rt, calls)?),
             Operation::Alone => alone(rt, combining::alone(rt, calls)?),
             Operation::OneOf => alone(rt, combining::one_of(rt, size, calls)?),
-            Operation::OfSpace(task) => alone(rt, locked::of_space(rt, task, calls)?),
-            Operation::OfService(task) => {
-                alone(rt, service::of_service(rt, workers, task, size, calls)?)
-            }
-            Operation::OfMutex(task) => {
-                alone(rt, locked::of_mutex(rt, workers, task, size, calls)?)
-            }
-            Operation::AmongIdle => alone(rt, service::among_idle(rt, workers, size, calls)?),
         }
     }
 }
 
 /// The median runs of an operation at a size, one for each of its names.
-fn medians<W: Threads + Wait + Sync>(
-    rt: &HostRuntime,
-    workers: &W,
-    operation: Operation,
-    size: u32,
-    calls: u32,
-) -> io::Result<Vec<Run>> {
+fn medians(rt: &HostRuntime, operation: Operation, size: u32, calls: u32) -> io::Result<Vec<Run>> {
     let mut columns: Vec<Vec<Run>> = Vec::new(rt.alloc());
     for _ in operation.names() {
         columns.push(Vec::new(rt.alloc()))?;
     }
     for _ in 0..measuring::RUNS {
-        let runs = operation.run(rt, workers, size, calls)?;
+        let runs = operation.run(rt, size, calls)?;
         for (column, run) in columns.iter_mut().zip(runs) {
             column.push(run)?;
         }
@@ -253,16 +198,11 @@ fn medians<W: Threads + Wait + Sync>(
 }
 
 /// The rows of an operation: for each of its names one for each size.
-fn print_rows<W: Threads + Wait + Sync>(
-    rt: &HostRuntime,
-    workers: &W,
-    operation: Operation,
-    calls: u32,
-) -> io::Result<()> {
+fn print_rows(rt: &HostRuntime, operation: Operation, calls: u32) -> io::Result<()> {
     let mut measured = Vec::new(rt.alloc());
     let (sizes, unit) = operation.sizes();
     for size in sizes {
-        measured.push((*size, medians(rt, workers, operation, *size, calls)?))?;
+        measured.push((*size, medians(rt, operation, *size, calls)?))?;
     }
     for (column, name) in operation.names().iter().enumerate() {
         let mut smallest = None;
@@ -308,7 +248,7 @@ fn main(rt: HostRuntime) -> io::Result<ExitCode> {
     let calls = calls_asked(&rt)?;
     eprintln!(rt; "operation                             size            ns a call      ratio")?;
     for operation in OPERATIONS {
-        print_rows(&rt, &rt, operation, calls)?;
+        print_rows(&rt, operation, calls)?;
     }
     Ok(ExitCode::SUCCESS)
 }

@@ -1,8 +1,9 @@
 //! Measurements of a namespace alone, and of a mutex round one, beside those of the service.
 
-use crate::asking::{Asker, Task};
-use bench_runs::measuring::Run;
+use crate::asking::{Asker, Receiving, Task, Took};
+use bench_runs::measuring::{Run, unanswered};
 use bench_runs::spaces::opened;
+use crossbeam_utils::Backoff;
 use ipc_call::{Call, Reply};
 use ipc_space::{Effects, Space};
 use std::alloc::AllocError;
@@ -10,6 +11,9 @@ use std::sync::{Mutex, Wait};
 use std::thread::Threads;
 use std::time::Instant;
 use std::{io, thread};
+
+/// How often a client asks for a message before it gives up.
+const TURNS: u64 = 10_000_000;
 
 /// A client by its number, and its calls.
 #[derive(Debug, Drop)]
@@ -29,16 +33,25 @@ fn call(space: &mut Space, client: u32, asked: Call) -> Option<Reply> {
     }
 }
 
-/// A client makes its queue.
+/// A client makes its queue and its set.
 fn begin(rt: &HostRuntime, space: &mut Space, task: Task, client: u32) -> io::Result<Worker> {
-    let mut asker = Asker::new(rt.alloc(), task)?;
-    if let Some(reply) = call(space, client, asker.first()) {
-        asker.begin(reply);
+    let mut asker = Asker::new(
+        rt.alloc(),
+        task,
+        Receiving::AsksAgain,
+        client,
+        space.clients(),
+    )?;
+    let queue = call(space, client, asker.queue_call()).ok_or(unanswered())?;
+    let set = call(space, client, asker.set_call()).ok_or(unanswered())?;
+    if asker.take_queue(queue) && asker.take_set(set) {
+        Ok(Worker { client, asker })
+    } else {
+        Err(unanswered())
     }
-    Ok(Worker { client, asker })
 }
 
-/// Each of so many clients makes its queue.
+/// Each of so many clients makes its queue and its set.
 fn begun(rt: &HostRuntime, space: &mut Space, task: Task, clients: u32) -> io::Result<Vec<Worker>> {
     let mut workers = Vec::new(rt.alloc());
     for client in 0..clients {
@@ -47,27 +60,50 @@ fn begun(rt: &HostRuntime, space: &mut Space, task: Task, clients: u32) -> io::R
     Ok(workers)
 }
 
-/// So many calls of a client, with no lock: how many were answered as they should.
+/// One call of a client, with no lock: whether it was answered as it should be.
+fn ask(space: &mut Space, client: u32, asker: &mut Asker) -> Took {
+    let Ok(asked) = asker.next() else {
+        return Took::Unwanted;
+    };
+    match call(space, client, asked) {
+        Some(reply) => asker.take(reply),
+        None => Took::Unwanted,
+    }
+}
+
+/// So many calls of a client, with no lock: how many were answered as they should be.
 fn ask_alone(space: &mut Space, mut asker: Asker, calls: u32) -> u32 {
     let mut answered: u32 = 0;
     for _ in 0..calls {
-        if let Some(reply) = call(space, 0, asker.next()) {
-            answered = answered.wrapping_add(u32::from(asker.take(reply)));
-        }
+        answered = answered.wrapping_add(u32::from(ask(space, 0, &mut asker) == Took::Wanted));
     }
     answered
 }
 
-/// The same, each under the lock.
-fn ask_locked<R: Wait>(rt: &R, space: &Mutex<Space>, worker: Worker, calls: u32) -> u32 {
+/// One call of a client under the lock, again and again while there is no message yet.
+fn ask_locked<R: Wait>(rt: &R, space: &Mutex<Space>, client: u32, asker: &mut Asker) -> Took {
+    let backoff = Backoff::new();
+    for _ in 0..TURNS {
+        let Ok(asked) = asker.next() else {
+            return Took::Unwanted;
+        };
+        let reply = call(&mut space.lock(rt), client, asked);
+        match reply.map(|reply| asker.take(reply)) {
+            Some(Took::NotYet) => backoff.snooze(),
+            Some(took) => return took,
+            None => return Took::Unwanted,
+        }
+    }
+    Took::NotYet
+}
+
+/// So many calls of a client, each under the lock: how many were answered as they should be.
+fn ask_often<R: Wait>(rt: &R, space: &Mutex<Space>, worker: Worker, calls: u32) -> u32 {
     let Worker { client, mut asker } = worker;
     let mut answered: u32 = 0;
     for _ in 0..calls {
-        let asked = asker.next();
-        let reply = call(&mut space.lock(rt), client, asked);
-        if let Some(reply) = reply {
-            answered = answered.wrapping_add(u32::from(asker.take(reply)));
-        }
+        let took = ask_locked(rt, space, client, &mut asker);
+        answered = answered.wrapping_add(u32::from(took == Took::Wanted));
     }
     answered
 }
@@ -83,7 +119,7 @@ fn asked<R: Threads + Wait + Sync>(
     thread::map_vec(
         rt,
         workers,
-        &|worker: Worker| -> u32 { ask_locked(rt, space, worker, calls) },
+        &|worker: Worker| -> u32 { ask_often(rt, space, worker, calls) },
     )
 }
 
@@ -101,7 +137,7 @@ pub fn of_space(rt: &HostRuntime, task: Task, calls: u32) -> io::Result<Run> {
     time_alone(rt, &mut space, task, calls)
 }
 
-/// A namespace of so many clients under a mutex, in which each has made its queue.
+/// A namespace of so many clients under a mutex, in which each has made its queue and its set.
 fn shared(rt: &HostRuntime, task: Task, clients: u32) -> io::Result<(Mutex<Space>, Vec<Worker>)> {
     let mut space = opened(rt.alloc(), clients)?;
     let workers = begun(rt, &mut space, task, clients)?;

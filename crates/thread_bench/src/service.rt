@@ -1,9 +1,9 @@
 //! Measurements of the service, whose clients combine.
 ghost use Rattle.std.specs.Prelude.{All, IfOk, IfSome};
-ghost use Rattle.ipc_bench.specs.Service.{IsClientOf, IsNewOf};
+ghost use Rattle.thread_bench.specs.Service.{IsClientOf, IsNewOf};
 
-use crate::asking::{Asker, Task};
-use bench_runs::measuring::Run;
+use crate::asking::{Asker, Receiving, Task, Took};
+use bench_runs::measuring::{Run, unanswered};
 use bench_runs::spaces::{limits, users};
 use crossbeam_utils::Backoff;
 use ipc_call::{Call, Reply};
@@ -44,21 +44,29 @@ fn call(service: &Service, idle: Idle, asked: Call) -> Option<(Idle, Reply)>
     None
 }
 
-/// A client joins, and makes its queue.
-fn begin(service: &Service, unjoined: Unjoined, alloc: Global, task: Task) -> Option<Worker>
+/// A client of so many joins, and makes its queue and its set.
+fn begin(
+    service: &Service,
+    unjoined: Unjoined,
+    alloc: Global,
+    task: Task,
+    clients: u32,
+) -> Option<Worker>
     requires { IsNewOf service.now unjoined }
     ensures { IfSome result (λ w. IsClientOf service.now w.idle) }
 {
-    let mut asker = Asker::new(alloc, task).ok()?;
-    let (idle, reply) = call(service, unjoined.join(service), asker.first())?;
-    if asker.begin(reply) {
+    let idle = unjoined.join(service);
+    let mut asker = Asker::new(alloc, task, Receiving::Waits, idle.client(), clients).ok()?;
+    let (idle, queue) = call(service, idle, asker.queue_call())?;
+    let (idle, set) = call(service, idle, asker.set_call())?;
+    if asker.take_queue(queue) && asker.take_set(set) {
         Some(Worker { idle, asker })
     } else {
         None
     }
 }
 
-/// So many calls of a client that joined: how many were answered as they should.
+/// So many calls of a client that joined: how many were answered as they should be.
 fn ask_often(worker: Option<Worker>, service: &Service, calls: u32) -> u32
     requires { IfSome worker (λ x. IsClientOf service.now x.idle) }
 {
@@ -73,13 +81,14 @@ fn ask_often(worker: Option<Worker>, service: &Service, calls: u32) -> u32
     };
     let mut answered: u32 = 0;
     for _ in 0..calls {
-        match call(service, idle, asker.next()) {
-            Some((next, reply)) => {
-                idle = next;
-                answered = answered.wrapping_add(u32::from(asker.take(reply)));
-            }
-            None => return answered,
-        }
+        let Ok(asked) = asker.next() else {
+            return answered;
+        };
+        let Some((next, reply)) = call(service, idle, asked) else {
+            return answered;
+        };
+        idle = next;
+        answered = answered.wrapping_add(u32::from(asker.take(reply) == Took::Wanted));
     }
     answered
 }
@@ -95,13 +104,14 @@ fn begun<R: Threads + Sync>(
     requires { All (λ u. IsNewOf service.now u) clients.items }
     ensures { IfOk result (λ m. All (λ w. IfSome w (λ x. IsClientOf service.now x.idle)) m.items) }
 {
+    let count = u32::try_from(clients.len()).unwrap_or(u32::MAX);
     thread::map_vec(
         rt,
         clients,
         &|unjoined: Unjoined| -> Option<Worker>
             requires { IsNewOf service.now unjoined }
             ensures { IfSome result (λ x. IsClientOf service.entry.now x.idle) }
-        { begin(service, unjoined, alloc, task) },
+        { begin(service, unjoined, alloc, task, count) },
     )
 }
 
@@ -150,17 +160,18 @@ pub fn of_service<W: Threads + Sync>(
     Run::of_each(rt, start, each, answered.as_slice())
 }
 
-/// One client of so many that joined gets a queue by its key; the others ask nothing.
+/// One client of so many that joined makes all calls; the others ask nothing.
 pub fn among_idle<W: Threads + Sync>(
     rt: &HostRuntime,
     threads: &W,
+    task: Task,
     clients: u32,
     calls: u32,
 ) -> io::Result<Run> {
     let (service, unjoined) = started(rt, clients)?;
-    let mut workers = begun(threads, &service, unjoined, rt.alloc(), Task::Get)?;
+    let mut workers = begun(threads, &service, unjoined, rt.alloc(), task)?;
     let Some(worker) = workers.pop() else {
-        return Ok(Run::new(calls));
+        return Err(unanswered());
     };
     let start = Instant::now(rt)?;
     let answered = ask_often(worker, &service, calls);

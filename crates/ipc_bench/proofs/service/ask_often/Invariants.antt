@@ -1,5 +1,0 @@
-use Rattle.ipc_bench.specs.Service.{IsClientOf}
-use Rattle.ipc_bench.proofs.service.ask_often.Given as goal
-
-abbrev pub invariant-loop : goal.invariant-loop
-invariant-loop l = IsClientOf l.service l.idle
