@@ -1,0 +1,20 @@
+# Wrong bodies and weakened plans, which the prover must refuse, over what `rt ci` has proved (lib/wrong_bodies.py).
+#
+# What a caller knows of a function are its clauses alone. So wrong bodies of several functions are tried in one check, in a
+# tenth of the time that one check for each takes: crates/CRATE/wrong has them. `rt ci` tries those of must-fail/ one by
+# one, which change what several functions or a whole law stand on.
+#
+# The law of access speaks of the plans of the calls, so it says as much as these. A plan from which a need is dropped, or in
+# which two checks are turned round, isn't that of the code: checks/weakened has such plans.
+
+check_wrong() { counted_edits bodies; }
+
+check_weakened() { counted_edits plans; }
+
+# counted_edits WORD: adds what the last line of the program counts, and prints its failures.
+counted_edits() {
+    status=0
+    in_group python3 lib/wrong_bodies.py "$1" >"$scratch/edits" 2>&1 || status=$?
+    grep '^FAILED ' "$scratch/edits" || :
+    count_proofs "$(tail -n 1 "$scratch/edits")" "$status"
+}

@@ -1,0 +1,215 @@
+"""Tries wrong bodies and weakened plans, at the top of a repository that 'rt ci' has proved: each must be refused.
+
+    wrong_bodies.py bodies [CRATE..]    the edits of crates/CRATE/wrong, of these crates or of all
+    wrong_bodies.py plans               the edits of checks/weakened
+
+An edit has lines 'refuses: FUNCTION', 'file: FILE', and pairs of 'old: TEXT' and 'new: TEXT', in which \\n is a line end;
+each old text stands in the file exactly once. Edits of several functions are tried in one check, since what a function's
+caller knows of it are its clauses alone: each must be refused for a goal of its own, and not for a function that it calls.
+"""
+
+import concurrent.futures
+import os
+import pathlib
+import re
+import shutil
+import subprocess
+import sys
+import tempfile
+
+TOP = pathlib.Path.cwd()
+KIT = pathlib.Path(os.path.realpath(shutil.which("rt") or sys.exit("wrong_bodies: the command rt is not on the path"))).parent.parent
+LOGIC = ["--antt-project", KIT / "rattle/logic/antt-project.json", "--logic-built", KIT / "logic_built"]
+PARTS = ("src", "specs", "proofs")
+# What a check says of a function beside its own goals: where its proof would stand, and that what it calls is not proved.
+OF_OTHERS = re.compile(r"(no proof: )?(expected |it calls |it passes )")
+# A function whose plan no edit weakens.
+UNTOUCHED = ("set_calls", "Sets::getpid")
+
+
+class Edit:
+    """A change of files below a folder that one function must refuse."""
+
+    def __init__(self, path):
+        self.path, self.function, self.pairs = path, "", []
+        file = old = ""
+        for line in path.read_text(encoding="utf-8").splitlines():
+            word, _, text = line.partition(": ")
+            text = text.replace("\\n", "\n")
+            if word == "refuses":
+                self.function = text
+            elif word == "file":
+                file = text
+            elif word == "old":
+                old = text
+            elif word == "new":
+                self.pairs.append((file, old, text))
+
+    def change(self, texts, folder):
+        """Changes texts by file, and returns whether each of its old texts stood there exactly once."""
+        new = dict(texts)
+        for file, old, text in self.pairs:
+            now = new.get(file) or (folder / file).read_text(encoding="utf-8")
+            if now.count(old) != 1:
+                return False
+            new[file] = now.replace(old, text)
+        texts.update(new)
+        return bool(self.pairs and self.function)
+
+
+def groups(folder, edits):
+    """Lists of edits that are tried together, each with its texts by file: in each there is one edit of a function."""
+    found = []
+    for edit in edits:
+        fits = (it for it in found if all(edit.function != other.function for other in it[0]) and edit.change(it[1], folder))
+        group = next(fits, None)
+        if group:
+            group[0].append(edit)
+            continue
+        texts = {}
+        if not edit.change(texts, folder):
+            sys.exit(f"wrong_bodies: {edit.path}: it names no function, or a text of it does not stand in its file exactly once")
+        found.append(([edit], texts))
+    return found
+
+
+def edits_in(folder):
+    return [Edit(path) for path in sorted(folder.glob("*.edit"))]
+
+
+class Crates:
+    """The crates of the repository by crates.txt, lowest first, with what each stands on, and libraries in place of their own."""
+
+    def __init__(self):
+        lines = ((TOP / "crates.txt").read_text(encoding="utf-8")).splitlines()
+        parts = (line.partition("#")[0].partition(":") for line in lines)
+        self.uses = {name.split()[0]: libraries.split() for name, _, libraries in parts if name.strip()}
+        self.replaced = {}
+
+    def below(self, crate):
+        """The crates of the repository that a crate stands on, through others too."""
+        found = [name for name in self.uses[crate] if name in self.uses]
+        return {*found, *(lower for name in found for lower in self.below(name))}
+
+    def library(self, name):
+        own = self.replaced.get(name) or TOP / f"crates/{name}/out/rlib/{name}.rlib"
+        return own if name in self.uses else KIT / f"rlibs/{name}.rlib"
+
+    def run(self, verb, crate, folder, flags):
+        """Runs the prover on a copy of a crate, and returns what it said."""
+        words = [KIT / "bin/rattle", verb, "--crate-name", crate, "src/lib.rt"]
+        for name in ["std", *self.uses[crate]]:
+            words += ["--extern", f"{name}={self.library(name)}"]
+        for path in [KIT / "rlibs", *(self.library(name).parent for name in self.below(crate))]:
+            words += ["-L", f"dependency={path}"]
+        how = {"cwd": folder, "stdin": subprocess.DEVNULL, "stdout": subprocess.PIPE, "stderr": subprocess.STDOUT}
+        return subprocess.run([str(it) for it in [*words, *LOGIC, *flags, "--jobs", "1"]], text=True, errors="replace", **how).stdout
+
+
+def copied(crate, texts, to):
+    """A copy of a crate with these texts by file in place of its own."""
+    shutil.rmtree(to, ignore_errors=True)
+    for part in PARTS:
+        if (TOP / "crates" / crate / part).is_dir():
+            shutil.copytree(TOP / "crates" / crate / part, to / part)
+    for file, text in texts.items():
+        (to / file).write_text(text, encoding="utf-8")
+    return to
+
+
+def told_of(crate, function, said):
+    """The path of a function whose name ends so, and what a check said of it."""
+    return re.findall(rf"^fn {crate}::((?:\S+::)?{re.escape(function)}): (.*)$", said, re.M)
+
+
+def failure(edit, crate, function, said):
+    """Why an edit failed, or None where the check refused its function for a goal of its own."""
+    told = told_of(crate, function, said)
+    if len(told) == 1:
+        path, verdict = told[0][0].replace("::", "/"), told[0][1]
+        # by an answer of its own, which is wrong now, or by a goal that has none and isn't found
+        wrong_answer = verdict == "not proved" and re.search(rf"^\./proofs/{re.escape(path)}/\S+: error: ", said, re.M)
+        if wrong_answer or verdict.startswith("no proof: ") and not all(OF_OTHERS.match(it) for it in verdict.split("; ")):
+            return None
+    return f"{edit.path.relative_to(TOP)}: {edit.function} is not refused: {told or said.rstrip().splitlines()[-1:]}"
+
+
+def try_bodies(crates, crate):
+    """A failure or None for each edit of a crate."""
+    results, folder = [], TOP / "crates" / crate
+    with tempfile.TemporaryDirectory(prefix="wrong-") as room:
+        for edits, texts in groups(folder, edits_in(folder / "wrong")):
+            copy = copied(crate, texts, pathlib.Path(room) / crate)
+            said = crates.run("check", crate, copy, ["--incremental", f"{room}/kept"])
+            results += [failure(edit, crate, edit.function, said) for edit in edits]
+    return results
+
+
+def bodies(names):
+    crates = Crates()
+    tried = [it for it in crates.uses if (TOP / "crates" / it / "wrong").is_dir() and (not names or it in names)]
+    with concurrent.futures.ThreadPoolExecutor(len(os.sched_getaffinity(0))) as pool:
+        return [it for results in pool.map(lambda crate: try_bodies(crates, crate), tried) for it in results]
+
+
+def by_crate(texts):
+    """Texts of files below crates/CRATE, by crate and file."""
+    found = {}
+    for file, text in texts.items():
+        _, crate, rest = file.split("/", 2)
+        found.setdefault(crate, {})[rest] = text
+    return found
+
+
+def build_between(crates, changed, targets, room):
+    """Builds the changed crates, and those on them that the targets stand on. None where each is proved, or else what the prover said."""
+    needed = set().union(*(crates.below(it) for it in targets))
+    for crate in crates.uses:
+        if crate in needed and (crate in changed or crates.below(crate) & crates.replaced.keys()):
+            copy, library = copied(crate, changed.get(crate, {}), room / crate), room / "libraries" / f"{crate}.rlib"
+            library.parent.mkdir(exist_ok=True)
+            said = crates.run("build", crate, copy, ["--statements", "-o", library])
+            if not library.is_dir():
+                return said
+            crates.replaced[crate] = library
+    return None
+
+
+def try_plans(edits, texts, room):
+    """A failure or None for each edit of a group: the code is not that of the plans that it leaves. The function that no edit is about is proved."""
+    crates, wanted = Crates(), {}
+    for name in [edit.function for edit in edits] + ["::".join(UNTOUCHED)]:
+        crate, _, function = name.partition("::")
+        wanted.setdefault(crate, []).append(function)
+    broken = build_between(crates, by_crate(texts), wanted, room)
+    if broken is not None:
+        return [f"{edit.path.relative_to(TOP)}: the crates below are not proved: {broken.rstrip().splitlines()[-1:]}" for edit in edits]
+    only = {it: [word for name in names for word in ("--only", name)] for it, names in wanted.items()}
+    said = {it: crates.run("check", it, copied(it, {}, room / it), only[it]) for it in wanted}
+    results = []
+    for edit in edits:
+        crate, _, function = edit.function.partition("::")
+        results.append(failure(edit, crate, function, said[crate]))
+    kept = [verdict for _, verdict in told_of(*UNTOUCHED, said[UNTOUCHED[0]])] == ["proved"]
+    return [*results, None if kept else f"checks/weakened: {'::'.join(UNTOUCHED)} is not proved over the plans"]
+
+
+def plans():
+    results = []
+    for edits, texts in groups(TOP, edits_in(TOP / "checks/weakened")):
+        with tempfile.TemporaryDirectory(prefix="weakened-") as room:
+            results += try_plans(edits, texts, pathlib.Path(room))
+    return results
+
+
+def main(words):
+    if words[:1] not in (["bodies"], ["plans"]):
+        sys.exit(__doc__)
+    results = bodies(words[1:]) if words[0] == "bodies" else plans()
+    failed = [it for it in results if it]
+    print("".join(f"FAILED {line}\n" for line in failed) + f"{len(results) - len(failed)} passed, {len(failed)} failed")
+    return 1 if failed or not results else 0
+
+
+if __name__ == "__main__":
+    sys.exit(main(sys.argv[1:]))
