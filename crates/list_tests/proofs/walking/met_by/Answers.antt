@@ -1,8 +1,8 @@
 use Rattle.std.proofs.Common.{IfSome, ◌∙◌, sym, subst}
 use Rattle.pub_rule.specs.Lists.{IsOn}
 use Rattle.pub_list.specs.Clients.{seen}
-use Rattle.thread_tests.proofs.Visits.{next_is_on}
-use Rattle.thread_tests.proofs.walking.met_by.Goals as goal
+use Rattle.list_tests.proofs.Visits.{next_is_on}
+use Rattle.list_tests.proofs.walking.met_by.Goals as goal
 
 pub loop-count-preserved : goal.loop-count-preserved
 loop-count-preserved c = let did = c.next-at.ensures in let list = seen c.next-at.new.self in (
