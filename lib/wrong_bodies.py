@@ -134,13 +134,23 @@ def failure(edit, crate, function, said):
     return f"{edit.path.relative_to(TOP)}: {edit.function} is not refused: {told or said.rstrip().splitlines()[-1:]}"
 
 
+def only(functions):
+    """The flags of a check of some functions, and of those that they call."""
+    return [word for function in functions for word in ("--only", function)]
+
+
+def size(crate):
+    """How much there is to check in a crate."""
+    return sum(path.stat().st_size for part in PARTS for path in (TOP / "crates" / crate / part).rglob("*") if path.is_file())
+
+
 def try_bodies(crates, crate):
     """A failure or None for each edit of a crate."""
     results, folder = [], TOP / "crates" / crate
     with tempfile.TemporaryDirectory(prefix="wrong-") as room:
         for edits, texts in groups(folder, edits_in(folder / "wrong")):
             copy = copied(crate, texts, pathlib.Path(room) / crate)
-            said = crates.run("check", crate, copy, ["--incremental", f"{room}/kept"])
+            said = crates.run("check", crate, copy, ["--incremental", f"{room}/kept", *only(edit.function for edit in edits)])
             results += [failure(edit, crate, edit.function, said) for edit in edits]
     return results
 
@@ -148,6 +158,7 @@ def try_bodies(crates, crate):
 def bodies(names):
     crates = Crates()
     tried = [it for it in crates.uses if (TOP / "crates" / it / "wrong").is_dir() and (not names or it in names)]
+    tried.sort(key=size, reverse=True)
     with concurrent.futures.ThreadPoolExecutor(len(os.sched_getaffinity(0))) as pool:
         return [it for results in pool.map(lambda crate: try_bodies(crates, crate), tried) for it in results]
 
@@ -184,8 +195,7 @@ def try_plans(edits, texts, room):
     broken = build_between(crates, by_crate(texts), wanted, room)
     if broken is not None:
         return [f"{edit.path.relative_to(TOP)}: the crates below are not proved: {broken.rstrip().splitlines()[-1:]}" for edit in edits]
-    only = {it: [word for name in names for word in ("--only", name)] for it, names in wanted.items()}
-    said = {it: crates.run("check", it, copied(it, {}, room / it), only[it]) for it in wanted}
+    said = {it: crates.run("check", it, copied(it, {}, room / it), only(names)) for it, names in wanted.items()}
     results = []
     for edit in edits:
         crate, _, function = edit.function.partition("::")
