@@ -39,25 +39,25 @@ check_proofs() {
     status=0
     in_group rt ci </dev/null >"$scratch/ci.pipe" || status=$?
     wait
-    count_proofs "$(tail -n 1 "$scratch/ci")" "$status"
+    count_of 'rt ci' "$(tail -n 1 "$scratch/ci")" "$status"
     [ "$before" != "$(programs_made)" ] || note_programs
 }
 
-# count_proofs LINE STATUS: adds what the last line of rt ci counts.
-count_proofs() {
-    case $1 in
+# count_of COMMAND LINE STATUS: adds what the last line of a command counts.
+count_of() {
+    case $2 in
     [0-9]*' passed, '[0-9]*' failed')
-        passed=$((passed + ${1%% passed,*}))
-        counted=${1##* passed, }
+        passed=$((passed + ${2%% passed,*}))
+        counted=${2##* passed, }
         failed=$((failed + ${counted%% failed}))
-        if [ "$2" != 0 ] && [ "${counted%% failed}" = 0 ]; then
+        if [ "$3" != 0 ] && [ "${counted%% failed}" = 0 ]; then
             failed=$((failed + 1))
-            printf 'FAILED rt ci: status %s\n' "$2"
+            printf 'FAILED %s: status %s\n' "$1" "$3"
         fi
         ;;
     *)
         failed=$((failed + 1))
-        echo 'FAILED rt ci: it ended without a count'
+        printf 'FAILED %s: it ended without a count\n' "$1"
         ;;
     esac
 }

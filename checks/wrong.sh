@@ -16,5 +16,5 @@ counted_edits() {
     status=0
     in_group python3 lib/wrong_bodies.py "$1" >"$scratch/edits" 2>&1 || status=$?
     grep '^FAILED ' "$scratch/edits" || :
-    count_proofs "$(tail -n 1 "$scratch/edits")" "$status"
+    count_of "wrong_bodies.py $1" "$(tail -n 1 "$scratch/edits")" "$status"
 }
