@@ -97,6 +97,9 @@ class Crates:
 
     def run(self, verb, crate, folder, flags):
         """Runs the prover on a copy of a crate, and returns what it said."""
+        lacking = sorted(name for name in self.below(crate) if not self.library(name).is_dir())
+        if lacking:
+            return f"{lacking[0]} is not proved and built: run rt ci first"
         words = [KIT / "bin/rattle", verb, "--crate-name", crate, "src/lib.rt"]
         for name in ["std", *self.uses[crate]]:
             words += ["--extern", f"{name}={self.library(name)}"]
