@@ -3,7 +3,7 @@
     wrong_bodies.py bodies [CRATE..]    the edits of crates/CRATE/wrong, of these crates or of all
     wrong_bodies.py plans               the edits of checks/weakened
 
-An edit has lines 'refuses: FUNCTION', 'file: FILE', and pairs of 'old: TEXT' and 'new: TEXT', in which \\n is a line end;
+An edit has lines 'refuses: FUNCTION', 'file: FILE', and pairs of 'old: TEXT' and 'new: TEXT', in which ⏎ is a line end;
 each old text stands in the file exactly once. Edits of several functions are tried in one check, since what a function's
 caller knows of it are its clauses alone: each must be refused for a goal of its own, and not for a function that it calls.
 """
@@ -35,7 +35,7 @@ class Edit:
         file = old = ""
         for line in path.read_text(encoding="utf-8").splitlines():
             word, _, text = line.partition(": ")
-            text = text.replace("\\n", "\n")
+            text = text.replace("⏎", "\n")
             if word == "refuses":
                 self.function = text
             elif word == "file":
@@ -129,10 +129,10 @@ def failure(edit, crate, function, said):
     """Why an edit failed, or None where the check refused its function for a goal of its own."""
     told = told_of(crate, function, said)
     if len(told) == 1:
-        path, verdict = told[0][0].replace("::", "/"), told[0][1]
+        path, parts = told[0][0].replace("::", "/"), told[0][1].split("; ")
         # by an answer of its own, which is wrong now, or by a goal that has none and isn't found
-        wrong_answer = verdict == "not proved" and re.search(rf"^\./proofs/{re.escape(path)}/\S+: error: ", said, re.M)
-        if wrong_answer or verdict.startswith("no proof: ") and not all(OF_OTHERS.match(it) for it in verdict.split("; ")):
+        wrong_answer = parts[0] == "not proved" and re.search(rf"^\./proofs/{re.escape(path)}/\S+: error: ", said, re.M)
+        if wrong_answer or parts[0].startswith("no proof: ") and not all(OF_OTHERS.match(it) for it in parts):
             return None
     return f"{edit.path.relative_to(TOP)}: {edit.function} is not refused: {told or said.rstrip().splitlines()[-1:]}"
 
