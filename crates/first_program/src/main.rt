@@ -37,29 +37,33 @@ fn call(rt: &HostRuntime, space: &mut Space, client: u32, call: Call) -> io::Res
     Ok(())
 }
 
-fn main(rt: HostRuntime) -> io::Result<()> {
-    let alloc = rt.alloc();
-    let mut clients = Vec::new(alloc);
-    clients.push(Creds::new(100, 10, Vec::new(alloc), Caps::empty()))?;
-    clients.push(Creds::new(200, 20, Vec::new(alloc), Caps::empty()))?;
-    let mut space = Space::start(Limits::default(), clients)?;
-
+/// Client 0 creates a queue and waits for a message. Client 1 may not read the queue, but sends to it.
+fn talk(rt: &HostRuntime, space: &mut Space) -> io::Result<()> {
     let flags = IPC_CREAT | 0o622;
-    call(&rt, &mut space, 0, Call::MsgGet { key: 5, flags })?;
+    call(rt, space, 0, Call::MsgGet { key: 5, flags })?;
     let flags = 0o400;
-    call(&rt, &mut space, 1, Call::MsgGet { key: 5, flags })?;
+    call(rt, space, 1, Call::MsgGet { key: 5, flags })?;
     let receive = Call::MsgRcv {
         id: 0,
         size: 80,
         msgtyp: 0,
         flags: 0,
     };
-    call(&rt, &mut space, 0, receive)?;
+    call(rt, space, 0, receive)?;
     let send = Call::MsgSnd {
         id: 0,
         mtype: 1,
-        text: Items::new(Vec::from_slice(alloc, b"hello")?),
+        text: Items::new(Vec::from_slice(rt.alloc(), b"hello")?),
         flags: 0,
     };
-    call(&rt, &mut space, 1, send)
+    call(rt, space, 1, send)
+}
+
+fn main(rt: HostRuntime) -> io::Result<()> {
+    let alloc = rt.alloc();
+    let mut clients = Vec::new(alloc);
+    clients.push(Creds::new(100, 10, Vec::new(alloc), Caps::empty()))?;
+    clients.push(Creds::new(200, 20, Vec::new(alloc), Caps::empty()))?;
+    let mut space = Space::start(Limits::default(), clients)?;
+    talk(&rt, &mut space)
 }
