@@ -23,6 +23,8 @@ LOGIC = ["--antt-project", KIT / "rattle/logic/antt-project.json", "--logic-buil
 PARTS = ("src", "specs", "proofs")
 # What a check says of a function beside its own goals: where its proof would stand, and that what it calls is not proved.
 OF_OTHERS = re.compile(r"(no proof: )?(expected |it calls |it passes )")
+# An error that says only that an edit took away what a proof names.
+OF_NAMES = re.compile(r"has no field|is not in scope|has no `|was not admitted")
 # A function whose plan no edit weakens.
 UNTOUCHED = ("set_calls", "Sets::getpid")
 
@@ -131,7 +133,8 @@ def failure(edit, crate, function, said):
     if len(told) == 1:
         path, parts = told[0][0].replace("::", "/"), told[0][1].split("; ")
         # by an answer of its own, which is wrong now, or by a goal that has none and isn't found
-        wrong_answer = parts[0] == "not proved" and re.search(rf"^\./proofs/{re.escape(path)}/\S+: error: ", said, re.M)
+        errors = re.findall(rf"^\./proofs/{re.escape(path)}/\S+: error: (.*)$", said, re.M)
+        wrong_answer = parts[0] == "not proved" and not all(OF_NAMES.search(it) for it in errors)
         if wrong_answer or parts[0].startswith("no proof: ") and not all(OF_OTHERS.match(it) for it in parts):
             return None
     return f"{edit.path.relative_to(TOP)}: {edit.function} is not refused: {told or said.rstrip().splitlines()[-1:]}"
