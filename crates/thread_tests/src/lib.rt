@@ -1,10 +1,9 @@
-//! The service over the publication list and the jobs of its clients, alone and in threads: tests over the public items
-//! of `ipc_combiner` and of `ipc_jobs`.
+//! The service over the publication list, alone and in threads: tests over the public items of `ipc_combiner`. How a thread
+//! waits for another is for the tests above, too.
 #![tactic(auto)]
 
 #[cfg(test)]
-mod clients;
-#[cfg(test)]
-mod jobs;
-#[cfg(test)]
 mod services;
+mod waiting;
+
+pub use waiting::wait_for;

@@ -3,8 +3,8 @@ ghost use Rattle.std.specs.Prelude.{◌≡◌, ◌≤◌, vec_len, All, IfOk};
 ghost use Rattle.ipc_combiner.specs.Closing.{IsClientOf};
 ghost use Rattle.ipc_combiner.specs.States.{IsOf, IsUnjoinedOf};
 
+use crate::waiting::wait_for;
 use bitflags::Flags;
-use crossbeam_utils::Backoff;
 use ipc_call::{
     Answer, Call, IPC_CREAT, IPC_NOWAIT, Items, JournalRow, Kind, Limits, Outcome, Reply, Rule,
 };
@@ -20,9 +20,6 @@ use std::thread;
 use std::thread::Threads;
 
 const ROUNDS: u64 = 1000;
-
-/// How often a thread looks for another before it gives up.
-const TURNS: u64 = 10_000_000;
 
 /// A service for so many clients of one user.
 fn service_for(
@@ -482,18 +479,6 @@ fn a_thousand_calls_each_by_sixty_four_threads(rt: HostRuntime) -> Result<(), Fa
 struct Gate {
     inside: AtomicU64,
     open: AtomicU64,
-}
-
-/// Waits for a word to be set, for so many turns at most. Whether it was.
-pub(crate) fn wait_for(word: &AtomicU64) -> bool {
-    let backoff = Backoff::new();
-    for _ in 0..TURNS {
-        if word.load(Ordering::SeqCst) == 1 {
-            return true;
-        }
-        backoff.snooze();
-    }
-    false
 }
 
 impl PassGate for Gate {

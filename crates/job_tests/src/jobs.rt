@@ -1,7 +1,6 @@
 // Clients do their jobs, each in a thread of its own.
 ghost use Rattle.std.specs.Prelude.{⊤};
 
-use crate::services::wait_for;
 use bitflags::Flags;
 use ipc_call::{Call, Items, JournalRow, Kind, Limits, Listed, Mode, Row, Rule, SemOper};
 use ipc_commands::Part;
@@ -14,6 +13,7 @@ use std::sync::Wait;
 use std::sync::atomic::{AtomicU64, Ordering};
 use std::test::Fail;
 use std::thread::Threads;
+use thread_tests::wait_for;
 
 /// A job of one part.
 fn job_of(alloc: Global, now: u64, part: Part) -> Result<Job, AllocError> {
