@@ -7,14 +7,9 @@
 # The law of access speaks of the plans of the calls, so it says as much as these. A plan from which a need is dropped, or in
 # which two checks are turned round, isn't that of the code: checks/weakened has such plans.
 
-check_wrong() { counted_edits bodies; }
-
-check_weakened() { counted_edits plans; }
-
-# counted_edits WORD: adds what the last line of the program counts, and prints its failures.
-counted_edits() {
+check_wrong() {
     status=0
-    in_group python3 lib/wrong_bodies.py "$1" >"$scratch/edits" 2>&1 || status=$?
+    in_group python3 lib/wrong_bodies.py >"$scratch/edits" 2>&1 || status=$?
     grep '^FAILED ' "$scratch/edits" || :
-    count_of "wrong_bodies.py $1" "$(tail -n 1 "$scratch/edits")" "$status"
+    count_of wrong_bodies.py "$(tail -n 1 "$scratch/edits")" "$status"
 }

@@ -1,7 +1,7 @@
 """Tries wrong bodies and weakened plans, at the top of a repository that 'rt ci' has proved: each must be refused.
 
-    wrong_bodies.py bodies [CRATE..]    the edits of crates/CRATE/wrong, of these crates or of all
-    wrong_bodies.py plans               the edits of checks/weakened
+    wrong_bodies.py             all edits of crates/*/wrong and of checks/weakened
+    wrong_bodies.py CRATE..     those of crates/CRATE/wrong
 
 An edit has lines 'refuses: FUNCTION', 'file: FILE', and pairs of 'old: TEXT' and 'new: TEXT', in which ⏎ is a line end;
 each old text stands in the file exactly once. Edits of several functions are tried in one check, since what a function's
@@ -161,14 +161,6 @@ def try_bodies(crates, crate):
     return results
 
 
-def bodies(names):
-    crates = Crates()
-    tried = [it for it in crates.uses if (TOP / "crates" / it / "wrong").is_dir() and (not names or it in names)]
-    tried.sort(key=size, reverse=True)
-    with concurrent.futures.ThreadPoolExecutor(len(os.sched_getaffinity(0))) as pool:
-        return [it for results in pool.map(lambda crate: try_bodies(crates, crate), tried) for it in results]
-
-
 def by_crate(texts):
     """Texts of files below crates/CRATE, by crate and file."""
     found = {}
@@ -218,10 +210,13 @@ def plans():
     return results
 
 
-def main(words):
-    if words[:1] not in (["bodies"], ["plans"]):
-        sys.exit(__doc__)
-    results = bodies(words[1:]) if words[0] == "bodies" else plans()
+def main(names):
+    crates = Crates()
+    tried = [it for it in crates.uses if (TOP / "crates" / it / "wrong").is_dir() and (not names or it in names)]
+    tried.sort(key=lambda it: size(it) + sum(map(size, crates.below(it))) / 20, reverse=True)
+    with concurrent.futures.ThreadPoolExecutor(len(os.sched_getaffinity(0))) as pool:
+        begun = ([] if names else [pool.submit(plans)]) + [pool.submit(try_bodies, crates, it) for it in tried]
+    results = [line for it in begun for line in it.result()]
     failed = [it for it in results if it]
     print("".join(f"FAILED {line}\n" for line in failed) + f"{len(results) - len(failed)} passed, {len(failed)} failed")
     return 1 if failed or not results else 0
