@@ -21,10 +21,10 @@ TOP = pathlib.Path.cwd()
 KIT = pathlib.Path(os.path.realpath(shutil.which("rt") or sys.exit("wrong_bodies: the command rt is not on the path"))).parent.parent
 LOGIC = ["--antt-project", KIT / "rattle/logic/antt-project.json", "--logic-built", KIT / "logic_built"]
 PARTS = ("src", "specs", "proofs")
-# What a check says of a function beside its own goals: where its proof would stand, and that what it calls is not proved.
-OF_OTHERS = re.compile(r"(no proof: )?(expected |it calls |it passes )")
 # An error that says only that an edit took away what a proof names.
 OF_NAMES = re.compile(r"has no field|is not in scope|has no `|was not admitted")
+# A line that tells of an item whether it is proved.
+ITEM = re.compile(r"(fn|impl|trait|struct|enum) \S+: ")
 # A function whose plan no edit weakens.
 UNTOUCHED = ("set_calls", "Sets::getpid")
 
@@ -122,22 +122,33 @@ def copied(crate, texts, to):
     return to
 
 
-def told_of(crate, function, said):
-    """The path of a function whose name ends so, and what a check said of it."""
-    return re.findall(rf"^fn {crate}::((?:\S+::)?{re.escape(function)}): (.*)$", said, re.M)
+class Verdict:
+    """What a check said of a function: its path below the crate, the verdict, and whether a goal of its own isn't proved."""
+
+    def __init__(self, path, text, notes, said):
+        self.path, self.text = path, text
+        errors = re.findall(rf"^\./proofs/{re.escape(path.replace('::', '/'))}/\S+: error: (.*)$", said, re.M)
+        # a goal that has no answer and isn't found, or an answer that is wrong now
+        self.is_own = text != "proved" and (notes or not all(OF_NAMES.search(it) for it in errors))
+
+
+def verdicts(crate, said):
+    """The verdicts of a check on the functions of a crate. The goals that aren't proved are told right before each."""
+    found, notes = [], False
+    for line in said.splitlines():
+        named = re.match(rf"fn {crate}::(\S+): (.*)", line)
+        if named:
+            found.append(Verdict(*named.groups(), notes, said))
+        notes = line.startswith("note: src/") and "is not proved" in line or notes and not ITEM.match(line)
+    return found
 
 
 def failure(edit, crate, function, said):
-    """Why an edit failed, or None where the check refused its function for a goal of its own."""
-    told = told_of(crate, function, said)
-    if len(told) == 1:
-        path, parts = told[0][0].replace("::", "/"), told[0][1].split("; ")
-        # by an answer of its own, which is wrong now, or by a goal that has none and isn't found
-        errors = re.findall(rf"^\./proofs/{re.escape(path)}/\S+: error: (.*)$", said, re.M)
-        wrong_answer = parts[0] == "not proved" and not all(OF_NAMES.search(it) for it in errors)
-        if wrong_answer or parts[0].startswith("no proof: ") and not all(OF_OTHERS.match(it) for it in parts):
-            return None
-    return f"{edit.path.relative_to(TOP)}: {edit.function} is not refused: {told or said.rstrip().splitlines()[-1:]}"
+    """Why an edit failed, or None where the check refused its function, or a closure in it, for a goal of its own."""
+    told = [it for it in verdicts(crate, said) if f"::{it.path}".endswith(f"::{function}") or f"fn::{function}::" in it.path]
+    if any(it.is_own for it in told):
+        return None
+    return f"{edit.path.relative_to(TOP)}: {edit.function} is not refused: {[it.text for it in told] or said.rstrip().splitlines()[-1:]}"
 
 
 def only(functions):
@@ -198,7 +209,7 @@ def try_plans(edits, texts, room):
     for edit in edits:
         crate, _, function = edit.function.partition("::")
         results.append(failure(edit, crate, function, said[crate]))
-    kept = [verdict for _, verdict in told_of(*UNTOUCHED, said[UNTOUCHED[0]])] == ["proved"]
+    kept = [it.text for it in verdicts(UNTOUCHED[0], said[UNTOUCHED[0]]) if it.path.endswith(UNTOUCHED[1])] == ["proved"]
     return [*results, None if kept else f"checks/weakened: {'::'.join(UNTOUCHED)} is not proved over the plans"]
 
 
