@@ -21,6 +21,8 @@ TOP = pathlib.Path.cwd()
 KIT = pathlib.Path(os.path.realpath(shutil.which("rt") or sys.exit("wrong_bodies: the command rt is not on the path"))).parent.parent
 LOGIC = ["--antt-project", KIT / "rattle/logic/antt-project.json", "--logic-built", KIT / "logic_built"]
 PARTS = ("src", "specs", "proofs")
+# What a check says of a function beside its own goals: where its proof would stand, and that what it calls is not proved.
+OF_OTHERS = re.compile(r"(no proof: )?(expected |it calls |it passes )")
 # An error that says only that an edit took away what a proof names.
 OF_NAMES = re.compile(r"has no field|is not in scope|has no `|was not admitted")
 # A line that tells of an item whether it is proved.
@@ -129,7 +131,8 @@ class Verdict:
         self.path, self.text = path, text
         errors = re.findall(rf"^\./proofs/{re.escape(path.replace('::', '/'))}/\S+: error: (.*)$", said, re.M)
         # a goal that has no answer and isn't found, or an answer that is wrong now
-        self.is_own = text != "proved" and (notes or not all(OF_NAMES.search(it) for it in errors))
+        is_open = notes or text.startswith("no proof: ") and not all(OF_OTHERS.match(it) for it in text.split("; "))
+        self.is_own = text != "proved" and (is_open or not all(OF_NAMES.search(it) for it in errors))
 
 
 def verdicts(crate, said):
