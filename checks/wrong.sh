@@ -2,7 +2,7 @@
 #
 # What a caller knows of a function are its clauses alone. So wrong bodies of several functions are tried in one check, in a
 # tenth of the time that one check for each takes: crates/CRATE/wrong has them. `rt ci` tries those of must-fail/ one by
-# one, which change what several functions or a whole law stand on.
+# one, most of which change what several functions or a whole law stand on.
 #
 # The law of access speaks of the plans of the calls, so it says as much as these. A plan from which a need is dropped, or in
 # which two checks are turned round, isn't that of the code: checks/weakened has such plans.
