@@ -24,7 +24,7 @@ use Rattle.ipc_model.specs.Gets.{get_queue}
 use Rattle.ipc_model.specs.Messages.{queue_at, receive_message, send_found, send_message}
 use Rattle.ipc_model.specs.Decide as decisions
 use Rattle.ipc_model.specs.Decide.{OnSems, PartPlan, decide_alive as decide, part_plan, whole}
-use Rattle.ipc_model.specs.Step.{end_waiting, ended_by, state_by, without}
+use Rattle.ipc_model.specs.Step.{end_waiting, ended_by, without}
 use Rattle.ipc_model.proofs.Plans.{Ends-decision, Ends-found, IfGranted, left-on, outcome-on}
 use Rattle.ipc_model.proofs.Alike.{proceeds-on}
 use Rattle.queue_calls.specs.Calls.{sending}
@@ -170,15 +170,10 @@ left-waits x (Refuse rule) is = refl
 left-waits x Wait is = refl
 left-waits x (Grant answer new) is = absurd (none-some (Ok answer) (sym is))
 
-pub waits-of : {X : Type 0} (d : Decision X) → outcome_of d ≡ None → d ≡ Wait
-waits-of (Refuse rule) is = absurd (none-some (Err rule) (sym is))
-waits-of Wait is = refl
-waits-of (Grant answer new) is = absurd (none-some (Ok answer) (sym is))
-
-pub refused-state : (s : State) (client : ℕ) (call : Call) (d : Decision State) (rule : Rule) → outcome_of d ≡ Some (Err rule) → state_by s client call d ≡ s
-refused-state s client call (Refuse other) rule is = refl
-refused-state s client call Wait rule is = absurd (none-some (Err rule) is)
-refused-state s client call (Grant answer new) rule is = cc
+pub left-refused : {X : Type 0} (x : X) (d : Decision X) (rule : Rule) → outcome_of d ≡ Some (Err rule) → left_by x d ≡ x
+left-refused x (Refuse other) rule is = refl
+left-refused x Wait rule is = refl
+left-refused x (Grant answer new) rule is = cc
 
 pub answered-some : {X : Type 0} (d : Decision X) → is_some (without_answer d) ≡ proceeds d
 answered-some (Refuse rule) = refl

@@ -1,6 +1,6 @@
 -- What waiting calls have reserved of the sets, and that their clients haven't ended.
-use Rattle.std.proofs.Common.{◌≡◌, ℕ, ◌<◌, Bool, true, false, cond, List, [], ◌∷◌, ◌++◌, refl, sym, ap, subst, ◌∙◌, Some, None}
-use Rattle.std.specs.Prelude.{◌==◌, filter, is_none, if◌then◌else◌, slice_get}
+use Rattle.std.proofs.Common.{◌≡◌, ℕ, ◌<◌, Bool, true, false, cond, List, [], ◌∷◌, ◌++◌, refl, sym, subst, ◌∙◌, Some, None}
+use Rattle.std.specs.Prelude.{◌==◌, filter, is_none, if◌then◌else◌}
 use Rattle.std.specs.List.{find, list_any, AllByRecursion}
 use Rattle.std.proofs.lemmas.Bool.{eqb-false, or_from, or_parts}
 use Rattle.std.proofs.lemmas.List.Folds.{list_any-append}
@@ -11,7 +11,6 @@ use Rattle.ipc_call.specs.declared.calls.SemOper.{SemOper}
 use Rattle.ipc_call.specs.declared.replies.Waiting.{Waiting}
 use Rattle.ipc_call.specs.declared.rules.Rule.TheVariants.{Removed}
 use Rattle.ipc_model.specs.Cancelled.{waits_on}
-use Rattle.sem_set.specs.Trials.{undoes}
 use Rattle.set_calls.specs.Held.{Held, HasRow, row_at}
 use Rattle.ipc_namespace.specs.Namespace.{AreHeld, HasRowFor, kept_by}
 use Rattle.ipc_namespace.proofs.Parked.{all-filter, all-found, all-push, turned}

@@ -3,20 +3,18 @@ use Rattle.std.proofs.Common.{◌≡◌, ℕ, ◌<◌, List, [], ◌∷◌, get_
 use Rattle.std.specs.List.{AllByRecursion}
 use Rattle.std.proofs.lemmas.Bool.{false≢true}
 use Rattle.std.proofs.lemmas.List.{get_or_default}
-use Rattle.std.proofs.lemmas.Option.{none-some}
 use Rattle.ipc_call.specs.declared.calls.Call.{Call}
 use Rattle.ipc_call.specs.declared.calls.Call.TheVariants.{SemGet, GetVal, GetPid, GetAll, SetVal, SetAll, ShmGet, ShmAt, ShmDt, ShmRead, ShmWrite}
-use Rattle.ipc_call.specs.declared.replies.Answer.{Answer}
 use Rattle.ipc_call.specs.declared.replies.Waiting.{Waiting}
 use Rattle.ipc_call.specs.declared.rules.Rule.{Rule}
 use Rattle.ipc_creds.specs.Credentials.{Credentials}
 use Rattle.ipc_model.specs.State.{State, creds_at, nobody}
-use Rattle.ipc_model.specs.Decision.{Decision, Grant, Outcome, Refuse, Wait, left_by, outcome_of}
+use Rattle.ipc_model.specs.Decision.{Decision, Grant, Refuse, Wait, left_by, outcome_of}
 use Rattle.ipc_model.specs.Decide.{decide_alive as decide}
 use Rattle.ipc_model.specs.Cancelled.{cancelled}
-use Rattle.ipc_model.specs.Step.{Moved, cancel, cancelled_by, state_by}
+use Rattle.ipc_model.specs.Step.{Moved, cancel, cancelled_by}
 use Rattle.ipc_model.specs.Decision.{without_answer}
-use Rattle.ipc_namespace.specs.Namespace.{is_on_segments, is_on_sets, moved_alive as moved_by}
+use Rattle.ipc_namespace.specs.Namespace.{is_on_segments, is_on_sets, left_alive as moved_by}
 use Rattle.ipc_namespace.proofs.Endings.{ended-none, left-none}
 
 refused-as : (d : Decision State) (rule : Rule) → without_answer d ≡ Some (Err rule) → d ≡ Refuse rule
@@ -53,42 +51,33 @@ segments-cancel-none new (ShmRead att offset len) w segments = refl
 segments-cancel-none new (ShmWrite att offset bytes) w segments = refl
 segments-cancel-none new call w segments = absurd (false≢true segments)
 
-moved-state : (s : State) (client : ℕ) (call : Call) (d : Decision State) → ((new : State) (w : Waiting) → cancelled new call w ≡ None)
-    → cancelled_by (state_by s client call d) call d ≡ record { state = state_by s client call d; ended = [] }
-moved-state s client call (Refuse rule) none = refl
-moved-state s client call Wait none = refl
-moved-state s client call (Grant answer new) none = uncancelled new call (none new)
+moved-state : (s : State) (call : Call) (d : Decision State) → ((new : State) (w : Waiting) → cancelled new call w ≡ None)
+    → cancelled_by (left_by s d) call d ≡ record { state = left_by s d; ended = [] }
+moved-state s call (Refuse rule) none = refl
+moved-state s call Wait none = refl
+moved-state s call (Grant answer new) none = uncancelled new call (none new)
 
 -- it moves the state as its decision says
 moved-alone : (s : State) (client : ℕ) (call same : Call) → call ≡ same → ((new : State) (w : Waiting) → cancelled new same w ≡ None)
-    → moved_by s client call ≡ record { state = state_by s client same (decide s client same); ended = [] }
-moved-alone s client call same is none = ap (λ (c : Call). moved_by s client c) is ∙ moved-state s client same (decide s client same) none
+    → moved_by s client call ≡ record { state = left_by s (decide s client same); ended = [] }
+moved-alone s client call same is none = ap (λ (c : Call). moved_by s client c) is ∙ moved-state s same (decide s client same) none
 
 -- so what its function leaves is where it moves, and no other call ends; a number of the call may have been read back
 module _ (s : State) (client : ℕ) (call same : Call) (is : call ≡ same) (none : (new : State) (w : Waiting) → cancelled new same w ≡ None) where
-  pub moved-to : (new : State) (read : Call) → read ≡ same → new ≡ state_by s client read (decide s client read) → new ≡ (moved_by s client call).state
-  moved-to new read back left = left ∙ ap (λ (c : Call). state_by s client c (decide s client c)) back ∙ sym (ap (λ (m : Moved). m.state) (moved-alone s client call same is none))
+  pub moved-to : (new : State) (read : Call) → read ≡ same → new ≡ left_by s (decide s client read) → new ≡ (moved_by s client call).state
+  moved-to new read back left = left ∙ ap (λ (c : Call). left_by s (decide s client c)) back ∙ sym (ap (λ (m : Moved). m.state) (moved-alone s client call same is none))
 
   pub none-ended : [] ≡ (moved_by s client call).ended
   none-ended = sym (ap (λ (m : Moved). m.ended) (moved-alone s client call same is none))
 
--- which is what is left, where it doesn't wait
-pub state-left : (s : State) (client : ℕ) (call : Call) (d : Decision State) (outcome : Outcome) → outcome_of d ≡ Some outcome → state_by s client call d ≡ left_by s d
-state-left s client call (Refuse rule) outcome is = refl
-state-left s client call Wait outcome is = absurd (none-some outcome is)
-state-left s client call (Grant answer new) outcome is = refl
-
 -- a call that changes nothing moves nothing
-pub moved-nothing : (s : State) (client : ℕ) (call same : Call) (outcome : Outcome) → call ≡ same → ((new : State) (w : Waiting) → cancelled new same w ≡ None)
-    → outcome_of (decide s client same) ≡ Some outcome → left_by s (decide s client same) ≡ s → moved_by s client call ≡ record { state = s; ended = [] }
-moved-nothing s client call same outcome is none ends left =
-    moved-alone s client call same is none ∙ (λ i. record { state = (state-left s client same (decide s client same) outcome ends ∙ left) i; ended = [] })
-
-pub moved-granted : (s new : State) (client : ℕ) (call : Call) (answer : Answer) → decide s client call ≡ Grant answer new → moved_by s client call ≡ cancel new call
-moved-granted s new client call answer is = ap (λ d. cancelled_by (state_by s client call d) call d) is
+pub moved-nothing : (s : State) (client : ℕ) (call same : Call) → call ≡ same → ((new : State) (w : Waiting) → cancelled new same w ≡ None)
+    → left_by s (decide s client same) ≡ s → moved_by s client call ≡ record { state = s; ended = [] }
+moved-nothing s client call same is none left =
+    moved-alone s client call same is none ∙ (λ i. record { state = left i; ended = [] })
 
 pub moved-refused : (s : State) (client : ℕ) (call : Call) (rule : Rule) → decide s client call ≡ Refuse rule → moved_by s client call ≡ record { state = s; ended = [] }
-moved-refused s client call rule is = ap (λ d. cancelled_by (state_by s client call d) call d) is
+moved-refused s client call rule is = ap (λ d. cancelled_by (left_by s d) call d) is
 
 -- the client's credentials as the code reads them
 pub creds-read : (v s : State) (client : ℕ) (c : Credentials) → v ≡ s → client < length s.clients → c ≡ get_or v.clients client c → c ≡ creds_at s client

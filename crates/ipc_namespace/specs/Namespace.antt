@@ -21,8 +21,8 @@ use Rattle.ipc_model.specs.Semaphores.{set_at}
 use Rattle.sem_set.specs.Trials.{are_in}
 use Rattle.ipc_model.specs.Decide.{can_wait, decide_alive, is_negative, is_zero, needs}
 use Rattle.ipc_model.specs.Cancelled.{first_denial, waits_on}
-use Rattle.ipc_model.specs.Decision.{Outcome}
-use Rattle.ipc_model.specs.Step.{Moved, moved_as, told_cancelled}
+use Rattle.ipc_model.specs.Decision.{Outcome, left_by}
+use Rattle.ipc_model.specs.Step.{Moved, cancelled_by, moved_as, told_cancelled}
 use Rattle.ipc_parked.specs.Parked.{AreApart}
 use Rattle.ipc_call.specs.declared.calls.SemOper.{SemOper}
 use Rattle.ipc_namespace.specs.declared.semaphore_calls.Awaited.{Awaited}
@@ -74,7 +74,11 @@ unfoldable pub AreHeld : Sets → List ℕ → List Waiting → Type 0
 AreHeld sets ended ws =
     AllByRecursion (λ w. (list_any (λ other. other == w.client) ended ≡ false) × HasRowFor sets w.client w.call) ws
 
--- where a call of a client that hasn't ended moves the state, and the waiting calls that its grant ends
+-- what a call of a client that hasn't ended leaves before it may wait, and the waiting calls that its grant ends
+abbrev pub left_alive : State → ℕ → Call → Moved
+left_alive s client call = cancelled_by (left_by s (decide_alive s client call)) call (decide_alive s client call)
+
+-- the same with the call among those that wait, where it waits
 abbrev pub moved_alive : State → ℕ → Call → Moved
 moved_alive s client call = moved_as s client call (decide_alive s client call)
 

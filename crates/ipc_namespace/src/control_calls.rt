@@ -6,7 +6,7 @@ ghost use Rattle.ipc_model.specs.Decision.{left_by, outcome_of};
 ghost use Rattle.ipc_model.specs.Plan.{decision};
 ghost use Rattle.ipc_model.specs.Decide.{decide_alive as decision_on};
 ghost use Rattle.ipc_model.specs.Controls.{is_within as is_within_limit, perm_of as perm_in, remove_object, set_object, status_of as status_in, with_set};
-ghost use Rattle.ipc_namespace.specs.Namespace.{allowed_by, moved_alive as moved_by};
+ghost use Rattle.ipc_namespace.specs.Namespace.{allowed_by, left_alive as moved_by};
 ghost use Rattle.ipc_model.specs.Decision.{without_answer};
 
 use crate::cancelling::Cancelling;

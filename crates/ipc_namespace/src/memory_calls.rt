@@ -13,11 +13,11 @@ impl Namespace {
     /// A call on segments alone, of which none waits. The error comes only where an allocation fails, and then nothing
     /// has changed.
     #[tactic(auto, unfolding(ipc_model::specs::Decide::part_plan))]
-    pub(super) fn on_segments(&mut self, client: u32, call: Call) -> Result<Outcome, Memory>
+    pub(super) fn on_segments(&mut self, client: u32, call: &Call) -> Result<Outcome, Memory>
         requires known { client < length self.old.clients }
-        requires segments { is_on_segments call ≡ true }
-        ensures outcome { IfOk result (λ outcome. outcome_of (decision_on self.old client call) ≡ Some outcome) }
-        ensures state { OnOk result (self.new ≡ left_by self.old (decision_on self.old client call)) }
+        requires segments { is_on_segments call.now ≡ true }
+        ensures outcome { IfOk result (λ outcome. outcome_of (decision_on self.old client call.now) ≡ Some outcome) }
+        ensures state { OnOk result (self.new ≡ left_by self.old (decision_on self.old client call.now)) }
         ensures parked { self.new.parked ≡ self.old.parked }
         ensures err { OnErr result (self.new ≡ self.old) }
     {
@@ -25,12 +25,15 @@ impl Namespace {
         match call {
             Call::ShmGet { key, size, flags } => self
                 .segments
-                .shmget(&self.limits, &who, key, size, flags),
-            Call::ShmAt { id, flags } => self.segments.shmat(&who, id, flags),
-            Call::ShmDt { att } => Ok(self.segments.shmdt(&who, att)),
-            Call::ShmRead { att, offset, len } => self.segments.shmread(&who, att, offset, len),
+                .shmget(&self.limits, &who, *key, *size, *flags),
+            Call::ShmAt { id, flags } => self.segments.shmat(&who, *id, *flags),
+            Call::ShmDt { att } => Ok(self.segments.shmdt(&who, *att)),
+            Call::ShmRead { att, offset, len } => self.segments.shmread(&who, *att, *offset, *len),
             Call::ShmWrite { att, offset, bytes } => {
-                Ok(self.segments.shmwrite(&who, att, offset, bytes.as_slice()))
+                Ok(
+                    self.segments
+                        .shmwrite(&who, *att, *offset, bytes.as_slice()),
+                )
             }
             _ => unreachable!(),
         }

@@ -1,10 +1,8 @@
 // The calls on message queues, msgget(2) and msgop(2), in a namespace.
 
-ghost use Rattle.std.specs.Prelude.{◌≡◌, ℕ, ◌<◌, false, List, length, IfOk, IfSome, OnOk, OnErr, Some};
-ghost use Rattle.ipc_model.specs.State.{has_ended, is_waiting as waits};
+ghost use Rattle.std.specs.Prelude.{◌≡◌, ◌<◌, length, IfOk, OnOk, OnErr, Some};
 ghost use Rattle.ipc_model.specs.Decision.{left_by, outcome_of};
 ghost use Rattle.ipc_model.specs.Decide.{decide_alive as decision_on};
-ghost use Rattle.ipc_model.specs.Step.{state_by};
 
 use crate::callers::caller_of;
 use crate::namespace::Namespace;
@@ -24,60 +22,40 @@ impl Namespace {
         self.queues.msgget(&self.limits, &who, key, flags)
     }
 
-    /// msgrcv: None where it waits, and then it is in the list of those that do. The error comes only where an
-    /// allocation fails, and then nothing has changed.
+    /// msgrcv: None where it is to wait, and then nothing has changed. It takes no memory.
     #[tactic(auto, unfolding(ipc_model::specs::Decide::part_plan))]
     pub(super) fn msgrcv(
         &mut self,
         client: u32,
-        place: u64,
         id: u32,
         size: u64,
         msgtyp: i64,
         flags: u32,
-    ) -> Result<Option<Outcome>, Memory>
+    ) -> Option<Outcome>
         requires known { client < length self.old.clients }
-        requires free { waits self.old client ≡ false }
-        requires alive { has_ended self.old client ≡ false }
-        ensures outcome { IfOk result (λ own. own ≡ outcome_of (decision_on self.old client (Call.MsgRcv id size msgtyp flags))) }
-        ensures state { OnOk result (self.new ≡ state_by self.old client (Call.MsgRcv id size msgtyp flags) (decision_on self.old client (Call.MsgRcv id size msgtyp flags))) }
-        ensures parked { IfOk result (λ own. IfSome own (λ _. self.new.parked ≡ self.old.parked)) }
-        ensures err { OnErr result (self.new ≡ self.old) }
+        ensures outcome { result ≡ outcome_of (decision_on self.old client (Call.MsgRcv id size msgtyp flags)) }
+        ensures state { self.new ≡ left_by self.old (decision_on self.old client (Call.MsgRcv id size msgtyp flags)) }
+        ensures parked { self.new.parked ≡ self.old.parked }
     {
         let who = caller_of(&self.clients, client, self.clock);
-        match self.queues.msgrcv(&who, id, size, msgtyp, flags) {
-            Some(outcome) => Ok(Some(outcome)),
-            None => {
-                let call = Call::MsgRcv {
-                    id,
-                    size,
-                    msgtyp,
-                    flags,
-                };
-                self.park(client, place, call)?;
-                Ok(None)
-            }
-        }
+        self.queues.msgrcv(&who, id, size, msgtyp, flags)
     }
 
-    /// msgsnd: None where it waits, and then it is in the list of those that do. The error comes only where an
-    /// allocation fails, and then nothing has changed.
+    /// msgsnd: None where it is to wait, and then nothing has changed. The error comes only where an allocation fails,
+    /// and then nothing has changed either.
     #[tactic(auto, unfolding(ipc_model::specs::Decide::part_plan))]
     pub(super) fn msgsnd(
         &mut self,
         client: u32,
-        place: u64,
         id: u32,
         mtype: i64,
-        text: Items<u8>,
+        text: &Items<u8>,
         flags: u32,
     ) -> Result<Option<Outcome>, Memory>
         requires known { client < length self.old.clients }
-        requires free { waits self.old client ≡ false }
-        requires alive { has_ended self.old client ≡ false }
-        ensures outcome { IfOk result (λ own. own ≡ outcome_of (decision_on self.old client (Call.MsgSnd id mtype text flags))) }
-        ensures state { OnOk result (self.new ≡ state_by self.old client (Call.MsgSnd id mtype text flags) (decision_on self.old client (Call.MsgSnd id mtype text flags))) }
-        ensures parked { IfOk result (λ own. IfSome own (λ _. self.new.parked ≡ self.old.parked)) }
+        ensures outcome { IfOk result (λ own. own ≡ outcome_of (decision_on self.old client (Call.MsgSnd id mtype text.now flags))) }
+        ensures state { OnOk result (self.new ≡ left_by self.old (decision_on self.old client (Call.MsgSnd id mtype text.now flags))) }
+        ensures parked { self.new.parked ≡ self.old.parked }
         ensures err { OnErr result (self.new ≡ self.old) }
     {
         let who = caller_of(&self.clients, client, self.clock);
@@ -85,19 +63,10 @@ impl Namespace {
             .queues
             .decide_send(&self.limits, &who, id, mtype, text.len(), flags)
         {
-            None => {
-                let call = Call::MsgSnd {
-                    id,
-                    mtype,
-                    text,
-                    flags,
-                };
-                self.park(client, place, call)?;
-                Ok(None)
-            }
+            None => Ok(None),
             Some(Err(rule)) => Ok(Some(Err(rule))),
             Some(Ok(())) => {
-                self.queues.msgsnd(&who, id, mtype, text)?;
+                self.queues.msgsnd(&who, id, mtype, text.copy()?)?;
                 Ok(Some(Ok(Answer::Done)))
             }
         }

@@ -43,7 +43,7 @@ ghost use Rattle.ipc_model.specs.Step.{
   step,
   without,
 };
-ghost use Rattle.ipc_namespace.specs.Namespace.{is_grant, moved_alive, sent_to as call_sent_to};
+ghost use Rattle.ipc_namespace.specs.Namespace.{is_grant, left_alive, moved_alive, sent_to as call_sent_to};
 ghost use Rattle.ipc_model.specs.Decision.{without_answer};
 
 use crate::callers::caller_of;
@@ -167,7 +167,7 @@ impl Namespace {
         client: u32,
         place: u64,
         now: u64,
-        call: Call,
+        call: &Call,
         ended: &mut Vec<Ended>,
     ) -> Result<Option<Outcome>, Memory>
         requires known { client < length self.old.clients }
@@ -175,7 +175,7 @@ impl Namespace {
         requires quiet { AreNotReady self.old }
         requires empty { ended.old.items ≡ [] }
         requires space { length self.old.parked ≤ vec_capacity ended.old }
-        ensures ok { IfOk result (λ own. step self.old (record { client = client; now = now; call = call })
+        ensures ok { IfOk result (λ own. step self.old (record { client = client; now = now; call = call.now })
             ≡ record { state = self.new; own = own; ended = ended.new.items }) }
         ensures few { OnOk result (vec_len ended.new ≤ length self.old.parked) }
         ensures limits { self.new.limits ≡ self.old.limits }
@@ -198,7 +198,7 @@ impl Namespace {
         &mut self,
         client: u32,
         place: u64,
-        call: Call,
+        call: &Call,
         ended: &mut Vec<Ended>,
     ) -> Result<Option<Outcome>, Memory>
         requires known { client < length self.old.clients }
@@ -206,7 +206,7 @@ impl Namespace {
         requires quiet { first_that_is_ready self.old ≡ None }
         requires empty { ended.old.items ≡ [] }
         requires space { length self.old.parked ≤ vec_capacity ended.old }
-        ensures ok { IfOk result (λ own. enters self.old client call ≡ record { state = self.new; own = own; ended = ended.new.items }) }
+        ensures ok { IfOk result (λ own. enters self.old client call.now ≡ record { state = self.new; own = own; ended = ended.new.items }) }
         ensures few { OnOk result (vec_len ended.new ≤ length self.old.parked) }
         ensures err { OnErr result (self.new ≡ self.old) }
         ensures none { OnErr result (ended.new.items ≡ []) }
@@ -225,16 +225,16 @@ impl Namespace {
         &mut self,
         client: u32,
         place: u64,
-        call: Call,
+        call: &Call,
         ended: &mut Vec<Ended>,
     ) -> Result<Option<Outcome>, Memory>
         requires known { client < length self.old.clients }
         requires free { waits self.old client ≡ false }
         requires empty { ended.old.items ≡ [] }
         requires space { length self.old.parked ≤ vec_capacity ended.old }
-        ensures own { IfOk result (λ own. own ≡ outcome_of (decision_on self.old client call)) }
-        ensures state { OnOk result (self.new ≡ (moved_by self.old client call).state) }
-        ensures ended { OnOk result (ended.new.items ≡ (moved_by self.old client call).ended) }
+        ensures own { IfOk result (λ own. own ≡ outcome_of (decision_on self.old client call.now)) }
+        ensures state { OnOk result (self.new ≡ (moved_by self.old client call.now).state) }
+        ensures ended { OnOk result (ended.new.items ≡ (moved_by self.old client call.now).ended) }
         ensures few { IfOk result (λ own. IfSome own (λ _. vec_len ended.new + length self.new.parked ≡ length self.old.parked)) }
         ensures space { OnOk result (vec_capacity ended.old ≤ vec_capacity ended.new) }
         ensures err { OnErr result (self.new ≡ self.old) }
@@ -251,7 +251,7 @@ impl Namespace {
         &mut self,
         client: u32,
         place: u64,
-        call: Call,
+        call: &Call,
         ended: &mut Vec<Ended>,
     ) -> Result<Option<Outcome>, Memory>
         requires known { client < length self.old.clients }
@@ -259,31 +259,60 @@ impl Namespace {
         requires alive { ended_before self.old client ≡ false }
         requires empty { ended.old.items ≡ [] }
         requires space { length self.old.parked ≤ vec_capacity ended.old }
-        ensures own { IfOk result (λ own. own ≡ outcome_of (decision_alive self.old client call)) }
-        ensures state { OnOk result (self.new ≡ (moved_alive self.old client call).state) }
-        ensures ended { OnOk result (ended.new.items ≡ (moved_alive self.old client call).ended) }
+        ensures own { IfOk result (λ own. own ≡ outcome_of (decision_alive self.old client call.now)) }
+        ensures state { OnOk result (self.new ≡ (moved_alive self.old client call.now).state) }
+        ensures ended { OnOk result (ended.new.items ≡ (moved_alive self.old client call.now).ended) }
         ensures few { IfOk result (λ own. IfSome own (λ _. vec_len ended.new + length self.new.parked ≡ length self.old.parked)) }
         ensures space { OnOk result (vec_capacity ended.old ≤ vec_capacity ended.new) }
         ensures err { OnErr result (self.new ≡ self.old) }
         ensures none { OnErr result (ended.new.items ≡ []) }
     {
+        match self.answer(client, call, ended)? {
+            Some(outcome) => Ok(Some(outcome)),
+            None => {
+                self.park(client, place, call.copy()?)?;
+                Ok(None)
+            }
+        }
+    }
+
+    /// Refuses or grants the call of a client that hasn't ended. None where it is to wait, and then nothing has changed.
+    fn answer(
+        &mut self,
+        client: u32,
+        call: &Call,
+        ended: &mut Vec<Ended>,
+    ) -> Result<Option<Outcome>, Memory>
+        requires known { client < length self.old.clients }
+        requires free { waits self.old client ≡ false }
+        requires alive { ended_before self.old client ≡ false }
+        requires empty { ended.old.items ≡ [] }
+        requires space { length self.old.parked ≤ vec_capacity ended.old }
+        ensures own { IfOk result (λ own. own ≡ outcome_of (decision_alive self.old client call.now)) }
+        ensures state { OnOk result (self.new ≡ (left_alive self.old client call.now).state) }
+        ensures ended { OnOk result (ended.new.items ≡ (left_alive self.old client call.now).ended) }
+        ensures few { OnOk result (vec_len ended.new + length self.new.parked ≡ length self.old.parked) }
+        ensures space { OnOk result (vec_capacity ended.old ≤ vec_capacity ended.new) }
+        ensures err { OnErr result (self.new ≡ self.old) }
+        ensures none { OnErr result (ended.new.items ≡ []) }
+    {
         match call {
-            Call::MsgGet { key, flags } => Ok(Some(self.msgget(client, key, flags)?)),
+            Call::MsgGet { key, flags } => Ok(Some(self.msgget(client, *key, *flags)?)),
             Call::MsgSnd {
                 id,
                 mtype,
                 text,
                 flags,
-            } => self.msgsnd(client, place, id, mtype, text, flags),
+            } => self.msgsnd(client, *id, *mtype, text, *flags),
             Call::MsgRcv {
                 id,
                 size,
                 msgtyp,
                 flags,
-            } => self.msgrcv(client, place, id, size, msgtyp, flags),
-            Call::SemOp { id, ops } => self.semop(client, place, id, ops),
-            Call::GetNcnt { id, num } => Ok(Some(self.count(client, id, num, Awaited::Rise))),
-            Call::GetZcnt { id, num } => Ok(Some(self.count(client, id, num, Awaited::Zero))),
+            } => Ok(self.msgrcv(client, *id, *size, *msgtyp, *flags)),
+            Call::SemOp { id, ops } => self.semop(client, *id, ops),
+            Call::GetNcnt { id, num } => Ok(Some(self.count(client, *id, *num, Awaited::Rise))),
+            Call::GetZcnt { id, num } => Ok(Some(self.count(client, *id, *num, Awaited::Zero))),
             Call::SemGet { .. }
             | Call::GetVal { .. }
             | Call::GetPid { .. }
@@ -295,7 +324,7 @@ impl Namespace {
             | Call::ShmDt { .. }
             | Call::ShmRead { .. }
             | Call::ShmWrite { .. } => Ok(Some(self.on_segments(client, call)?)),
-            Call::IpcStat { kind, id } => Ok(Some(self.stat(client, kind, id))),
+            Call::IpcStat { kind, id } => Ok(Some(self.stat(client, *kind, *id))),
             Call::IpcSet {
                 kind,
                 id,
@@ -305,16 +334,16 @@ impl Namespace {
                 qbytes,
             } => {
                 let new = Settings {
-                    uid,
-                    gid,
-                    mode,
-                    qbytes,
+                    uid: *uid,
+                    gid: *gid,
+                    mode: *mode,
+                    qbytes: *qbytes,
                 };
-                Ok(Some(self.set(client, kind, id, new, ended)))
+                Ok(Some(self.set(client, *kind, *id, new, ended)))
             }
-            Call::IpcRmid { kind, id } => Ok(Some(self.remove(client, kind, id, ended))),
-            Call::Listing { kind } => Ok(Some(self.list(client, kind)?)),
-            Call::Interrupt { pid } => Ok(Some(self.interrupt(client, pid, ended))),
+            Call::IpcRmid { kind, id } => Ok(Some(self.remove(client, *kind, *id, ended))),
+            Call::Listing { kind } => Ok(Some(self.list(client, *kind)?)),
+            Call::Interrupt { pid } => Ok(Some(self.interrupt(client, *pid, ended))),
             Call::Exit => Ok(Some(self.exit(client)?)),
         }
     }

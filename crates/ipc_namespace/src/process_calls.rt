@@ -6,7 +6,7 @@ ghost use Rattle.ipc_model.specs.Decision.{left_by, outcome_of, without_answer};
 ghost use Rattle.ipc_model.specs.Plan.{decision};
 ghost use Rattle.ipc_model.specs.Decide.{decide_alive as decision_on};
 ghost use Rattle.ipc_model.specs.Processes.{interrupt as interrupt_by, process as process_of};
-ghost use Rattle.ipc_namespace.specs.Namespace.{moved_alive as moved_by};
+ghost use Rattle.ipc_namespace.specs.Namespace.{left_alive as moved_by};
 
 use crate::callers::caller_of;
 use crate::cancelling::Cancelling;

@@ -1,10 +1,9 @@
 // The calls on semaphore sets, semget(2), semop(2) and semctl(2), in a namespace.
 
-ghost use Rattle.std.specs.Prelude.{◌≡◌, ◌<◌, true, false, length, slice_get, IfOk, IfSome, OnOk, OnErr, Some};
+ghost use Rattle.std.specs.Prelude.{◌≡◌, ◌<◌, true, length, slice_get, IfOk, IfSome, OnOk, OnErr, Some};
 ghost use Rattle.std.specs.List.{count_by};
-ghost use Rattle.ipc_model.specs.State.{creds_at, has_ended, is_waiting as waits};
+ghost use Rattle.ipc_model.specs.State.{creds_at};
 ghost use Rattle.ipc_model.specs.Plan.{decision};
-ghost use Rattle.ipc_model.specs.Step.{state_by};
 ghost use Rattle.ipc_model.specs.Decision.{left_by, outcome_of};
 ghost use Rattle.ipc_model.specs.Decide.{decide_alive as decision_on, get_waiting, waits_for};
 ghost use Rattle.ipc_namespace.specs.Namespace.{is_awaited, is_on_sets};
@@ -36,32 +35,23 @@ impl Awaited {
 }
 
 impl Namespace {
-    /// semop: None where it waits, and then it is in the list of those that do. The error comes only where an
-    /// allocation fails, and then nothing has changed.
+    /// semop: None where it is to wait, and then nothing has changed. The error comes only where an allocation fails, and
+    /// then nothing has changed either.
     #[tactic(auto, unfolding(ipc_model::specs::Decide::part_plan))]
     pub(super) fn semop(
         &mut self,
         client: u32,
-        place: u64,
         id: u32,
-        ops: Items<SemOper>,
+        ops: &Items<SemOper>,
     ) -> Result<Option<Outcome>, Memory>
         requires known { client < length self.old.clients }
-        requires free { waits self.old client ≡ false }
-        requires alive { has_ended self.old client ≡ false }
-        ensures outcome { IfOk result (λ own. own ≡ outcome_of (decision_on self.old client (Call.SemOp id ops))) }
-        ensures state { OnOk result (self.new ≡ state_by self.old client (Call.SemOp id ops) (decision_on self.old client (Call.SemOp id ops))) }
-        ensures parked { IfOk result (λ own. IfSome own (λ _. self.new.parked ≡ self.old.parked)) }
+        ensures outcome { IfOk result (λ own. own ≡ outcome_of (decision_on self.old client (Call.SemOp id ops.now))) }
+        ensures state { OnOk result (self.new ≡ left_by self.old (decision_on self.old client (Call.SemOp id ops.now))) }
+        ensures parked { self.new.parked ≡ self.old.parked }
         ensures err { OnErr result (self.new ≡ self.old) }
     {
         let who = caller_of(&self.clients, client, self.clock);
-        match self.sets.semop(&self.limits, &who, id, ops.as_slice())? {
-            Some(outcome) => Ok(Some(outcome)),
-            None => {
-                self.park(client, place, Call::SemOp { id, ops })?;
-                Ok(None)
-            }
-        }
+        self.sets.semop(&self.limits, &who, id, ops.as_slice())
     }
 
     /// How many calls wait at a semaphore for what is awaited (GETNCNT and GETZCNT of semctl(2)).
@@ -110,11 +100,11 @@ impl Namespace {
     /// A call on semaphore sets that doesn't wait. The error comes only where an allocation fails, and then nothing has
     /// changed.
     #[tactic(auto, unfolding(ipc_model::specs::Decide::part_plan))]
-    pub(super) fn on_sets(&mut self, client: u32, call: Call) -> Result<Outcome, Memory>
+    pub(super) fn on_sets(&mut self, client: u32, call: &Call) -> Result<Outcome, Memory>
         requires known { client < length self.old.clients }
-        requires sets { is_on_sets call ≡ true }
-        ensures outcome { IfOk result (λ outcome. outcome_of (decision_on self.old client call) ≡ Some outcome) }
-        ensures state { OnOk result (self.new ≡ left_by self.old (decision_on self.old client call)) }
+        requires sets { is_on_sets call.now ≡ true }
+        ensures outcome { IfOk result (λ outcome. outcome_of (decision_on self.old client call.now) ≡ Some outcome) }
+        ensures state { OnOk result (self.new ≡ left_by self.old (decision_on self.old client call.now)) }
         ensures parked { self.new.parked ≡ self.old.parked }
         ensures err { OnErr result (self.new ≡ self.old) }
     {
@@ -122,12 +112,12 @@ impl Namespace {
         match call {
             Call::SemGet { key, nsems, flags } => self
                 .sets
-                .semget(&self.limits, &who, key, nsems, flags),
-            Call::GetVal { id, num } => Ok(self.sets.getval(&who, id, num)),
-            Call::GetPid { id, num } => Ok(self.sets.getpid(&who, id, num)),
-            Call::GetAll { id } => self.sets.getall(&who, id),
-            Call::SetVal { id, num, value } => Ok(self.sets.setval(&who, id, num, value)),
-            Call::SetAll { id, values } => Ok(self.sets.setall(&who, id, values.as_slice())),
+                .semget(&self.limits, &who, *key, *nsems, *flags),
+            Call::GetVal { id, num } => Ok(self.sets.getval(&who, *id, *num)),
+            Call::GetPid { id, num } => Ok(self.sets.getpid(&who, *id, *num)),
+            Call::GetAll { id } => self.sets.getall(&who, *id),
+            Call::SetVal { id, num, value } => Ok(self.sets.setval(&who, *id, *num, *value)),
+            Call::SetAll { id, values } => Ok(self.sets.setall(&who, *id, values.as_slice())),
             _ => unreachable!(),
         }
     }

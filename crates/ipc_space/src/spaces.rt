@@ -117,18 +117,12 @@ impl Space {
         self.journal.reserve(most + 2)?;
         self.ended.reserve(most)?;
         self.others.reserve(most)?;
-        let copied = call.copy()?;
         let place = self.events + 1;
         let outcome = self
             .namespace
-            .serve(client, place, now, call, &mut self.ended)?;
+            .serve(client, place, now, &call, &mut self.ended)?;
         self.events = place;
-        let row = JournalRow::Called {
-            client,
-            now,
-            call: copied,
-        };
-        self.journal.enter(row);
+        self.journal.enter(JournalRow::Called { client, now, call });
         let own = tell_own(&mut self.journal, client, place, outcome);
         tell_others(&mut self.journal, &mut self.others, place, &mut self.ended);
         let others = hand_out(&mut self.others);

@@ -28,21 +28,21 @@ anyway (Ok x) P p = p
 anyway (Err e) P p = tt
 
 -- the call, as the code reads it, and its plan
-module _ (c : After-caller_of-who) (read : Call) (is : c.args.call ≡ read) (part : State → Caller → Plan Shared) (planned : (t : State) → part_plan t (caller t c.args.client) read ≡ OnShared (part t (caller t c.args.client))) where
+module _ (c : After-caller_of-who) (read : Call) (is : c.args.call.now ≡ read) (part : State → Caller → Plan Shared) (planned : (t : State) → part_plan t (caller t c.args.client) read ≡ OnShared (part t (caller t c.args.client))) where
   abbrev who : Caller
   who = c.caller_of-who.result
 
-  outcome : outcome_of (decision who.creds (part (view c) who)) ≡ outcome_of (decide c.args.self.now c.args.client c.args.call)
+  outcome : outcome_of (decision who.creds (part (view c) who)) ≡ outcome_of (decide c.args.self.now c.args.client c.args.call.now)
   unfolding view
-  outcome = part-outcome OnShared put_shared (λ t. t.shared) (λ t. refl) (λ t p. refl) part (view c) c.args.self.now c.args.client who c.self.view_is (called c) c.args.call read is planned
+  outcome = part-outcome OnShared put_shared (λ t. t.shared) (λ t. refl) (λ t p. refl) part (view c) c.args.self.now c.args.client who c.self.view_is (called c) c.args.call.now read is planned
 
-  told : {E : Type 0} (r : Result Outcome E) → IfOk r (λ o. outcome_of (decision who.creds (part (view c) who)) ≡ Some o) → IfOk r (λ o. outcome_of (decide c.args.self.now c.args.client c.args.call) ≡ Some o)
+  told : {E : Type 0} (r : Result Outcome E) → IfOk r (λ o. outcome_of (decision who.creds (part (view c) who)) ≡ Some o) → IfOk r (λ o. outcome_of (decide c.args.self.now c.args.client c.args.call.now) ≡ Some o)
   unfolding view
-  told r = part-told OnShared put_shared (λ t. t.shared) (λ t. refl) (λ t p. refl) part (view c) c.args.self.now c.args.client who c.self.view_is (called c) c.args.call read is planned r
+  told r = part-told OnShared put_shared (λ t. t.shared) (λ t. refl) (λ t p. refl) part (view c) c.args.self.now c.args.client who c.self.view_is (called c) c.args.call.now read is planned r
 
-  left : (shared : Shared) → shared ≡ left_by (view c).shared (decision who.creds (part (view c) who)) → put_shared (view c) shared ≡ left_by c.args.self.now (decide c.args.self.now c.args.client c.args.call)
+  left : (shared : Shared) → shared ≡ left_by (view c).shared (decision who.creds (part (view c) who)) → put_shared (view c) shared ≡ left_by c.args.self.now (decide c.args.self.now c.args.client c.args.call.now)
   unfolding view
-  left = part-left OnShared put_shared (λ t. t.shared) (λ t. refl) (λ t p. refl) part (view c) c.args.self.now c.args.client who c.self.view_is (called c) c.args.call read is planned
+  left = part-left OnShared put_shared (λ t. t.shared) (λ t. refl) (λ t p. refl) part (view c) c.args.self.now c.args.client who c.self.view_is (called c) c.args.call.now read is planned
 
 pub returns-in-ShmGet-clause-outcome : goal.returns-in-ShmGet-clause-outcome
 unfolding view part_plan

@@ -7,7 +7,7 @@ use Rattle.ipc_call.specs.declared.calls.Call.{Call}
 use Rattle.ipc_call.specs.declared.calls.Call.TheVariants.{SemGet, GetVal, GetPid, GetAll, SetVal, SetAll}
 use Rattle.ipc_parked.specs.Parked.{waiting}
 use Rattle.queue_calls.specs.Held.{queues_of}
-use Rattle.set_calls.specs.Held.{Held, sems_of}
+use Rattle.set_calls.specs.Held.{sems_of}
 use Rattle.ipc_model.specs.State.{Caller, Sems, State, caller}
 use Rattle.ipc_model.specs.Decision.{Outcome, left_by, outcome_of}
 use Rattle.ipc_model.specs.Gets.{get_set}
@@ -32,21 +32,21 @@ anyway (Ok x) P p = p
 anyway (Err e) P p = tt
 
 -- the call, as the code reads it, and its plan
-module _ (c : After-caller_of-who) (read : Call) (is : c.args.call ≡ read) (part : State → Caller → Plan Sems) (planned : (t : State) → part_plan t (caller t c.args.client) read ≡ OnSems (part t (caller t c.args.client))) where
+module _ (c : After-caller_of-who) (read : Call) (is : c.args.call.now ≡ read) (part : State → Caller → Plan Sems) (planned : (t : State) → part_plan t (caller t c.args.client) read ≡ OnSems (part t (caller t c.args.client))) where
   abbrev who : Caller
   who = c.caller_of-who.result
 
-  outcome : outcome_of (decision who.creds (part (view c) who)) ≡ outcome_of (decide c.args.self.now c.args.client c.args.call)
+  outcome : outcome_of (decision who.creds (part (view c) who)) ≡ outcome_of (decide c.args.self.now c.args.client c.args.call.now)
   unfolding view
-  outcome = part-outcome OnSems put_sems (λ t. t.sems) (λ t. refl) (λ t p. refl) part (view c) c.args.self.now c.args.client who c.self.view_is (called c) c.args.call read is planned
+  outcome = part-outcome OnSems put_sems (λ t. t.sems) (λ t. refl) (λ t p. refl) part (view c) c.args.self.now c.args.client who c.self.view_is (called c) c.args.call.now read is planned
 
-  told : {E : Type 0} (r : Result Outcome E) → IfOk r (λ o. outcome_of (decision who.creds (part (view c) who)) ≡ Some o) → IfOk r (λ o. outcome_of (decide c.args.self.now c.args.client c.args.call) ≡ Some o)
+  told : {E : Type 0} (r : Result Outcome E) → IfOk r (λ o. outcome_of (decision who.creds (part (view c) who)) ≡ Some o) → IfOk r (λ o. outcome_of (decide c.args.self.now c.args.client c.args.call.now) ≡ Some o)
   unfolding view
-  told r = part-told OnSems put_sems (λ t. t.sems) (λ t. refl) (λ t p. refl) part (view c) c.args.self.now c.args.client who c.self.view_is (called c) c.args.call read is planned r
+  told r = part-told OnSems put_sems (λ t. t.sems) (λ t. refl) (λ t p. refl) part (view c) c.args.self.now c.args.client who c.self.view_is (called c) c.args.call.now read is planned r
 
-  left : (sems : Sems) → sems ≡ left_by (view c).sems (decision who.creds (part (view c) who)) → put_sems (view c) sems ≡ left_by c.args.self.now (decide c.args.self.now c.args.client c.args.call)
+  left : (sems : Sems) → sems ≡ left_by (view c).sems (decision who.creds (part (view c) who)) → put_sems (view c) sems ≡ left_by c.args.self.now (decide c.args.self.now c.args.client c.args.call.now)
   unfolding view
-  left = part-left OnSems put_sems (λ t. t.sems) (λ t. refl) (λ t p. refl) part (view c) c.args.self.now c.args.client who c.self.view_is (called c) c.args.call read is planned
+  left = part-left OnSems put_sems (λ t. t.sems) (λ t. refl) (λ t p. refl) part (view c) c.args.self.now c.args.client who c.self.view_is (called c) c.args.call.now read is planned
 
 pub returns-in-SemGet-clause-outcome : goal.returns-in-SemGet-clause-outcome
 unfolding view part_plan

@@ -1,4 +1,4 @@
-use Rattle.std.proofs.Common.{rules, sym, ap, tests, ◌∙◌}
+use Rattle.std.proofs.Common.{rules, ap, tests, ◌∙◌}
 use Rattle.std.specs.Prelude.{List, ℕ, filter_map}
 use Rattle.std.proofs.lemmas.Result.{IfOk-weaker}
 use Rattle.std.proofs.lemmas.Iterator.{YieldsList-from_slice, items_from_collect}

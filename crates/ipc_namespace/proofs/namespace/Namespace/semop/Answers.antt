@@ -1,4 +1,5 @@
-use Rattle.std.proofs.Common.{◌≡◌, List, [], ◌∷◌, ◌++◌, refl, sym, ap, ◌∙◌}
+use Rattle.std.proofs.Common.{◌≡◌, List, refl, ap, ◌∙◌}
+use Rattle.std.proofs.lemmas.Result.{on_ok_weaker}
 use Rattle.ipc_call.specs.declared.calls.Call.{Call}
 use Rattle.ipc_call.specs.declared.calls.Call.TheVariants.{SemOp}
 use Rattle.ipc_call.specs.declared.calls.SemOper.{SemOper}
@@ -10,10 +11,8 @@ use Rattle.ipc_model.specs.State.{Caller, Sems, State, caller}
 use Rattle.ipc_model.specs.Decision.{left_by, outcome_of}
 use Rattle.ipc_model.specs.Semaphores.{operate}
 use Rattle.ipc_model.specs.Decide.{decide_alive as decide, part_plan}
-use Rattle.ipc_model.specs.Step.{state_by}
-use Rattle.ipc_namespace.proofs.Calling.{left-waits, put_sems, sets-left, sets-outcome, waits-of}
+use Rattle.ipc_namespace.proofs.Calling.{IfOk-map, put_sems, sets-left, sets-outcome}
 use Rattle.ipc_namespace.proofs.Held.{held-longer}
-use Rattle.ipc_namespace.proofs.Moving.{state-left}
 use Rattle.ipc_namespace.proofs.namespace.Namespace.semop.Goals as goal
 use Rattle.ipc_namespace.proofs.namespace.Namespace.semop.Goals.{After-semop}
 
@@ -25,7 +24,7 @@ unfolding view
 called c = let e = c.caller_of-who.ensures in rw c.deref.ensures.value at e
 
 abbrev asked : After-semop → Call
-asked c = SemOp c.args.id c.args.ops
+asked c = SemOp c.args.id c.args.ops.now
 
 -- the decision on its operations, as the code reads them, is the decision on the call
 module _ (c : After-semop) (s : State) (is : view c ≡ s) where
@@ -47,54 +46,19 @@ module _ (c : After-semop) (s : State) (is : view c ≡ s) where
       sets-left (SemOp c.args.id ops) (λ t w. operate t.limits t.sems w c.args.id ops) (view c) s c.args.client who is (called c) (λ t. refl) sems so
       ∙ ap (λ (os : List SemOper). left_by s (decide s c.args.client (SemOp c.args.id os))) c.as_slice.ensures
 
-pub returns-in-Some-clause-outcome : goal.returns-in-Some-clause-outcome
+pub returns-clause-outcome : goal.returns-clause-outcome
 unfolding view
-returns-in-Some-clause-outcome c =
-    let b = (goal.at.returns-in-Some-clause-outcome c).After-semop in
-    sym c.in-Some.is ∙ c.in_ok-outcome.ensures.outcome ∙ outcome b c.args.self.now c.self.view_is
+returns-clause-outcome c =
+    let b = (goal.at.returns-clause-outcome c).After-semop in
+    IfOk-map c.semop.result _ _ (λ own told. told ∙ outcome b c.args.self.now c.self.view_is) c.semop.ensures.outcome
 
-pub returns-in-Some-clause-state : goal.returns-in-Some-clause-state
+pub returns-clause-state : goal.returns-clause-state
 unfolding view
-returns-in-Some-clause-state c =
-    let b = (goal.at.returns-in-Some-clause-state c).After-semop in
-    let s = c.args.self.now in
-    let told = sym c.in-Some.is ∙ c.in_ok-outcome.ensures.outcome ∙ outcome b s c.self.view_is in
-    left b s c.self.view_is (sems_of c.semop.new.self) c.in_ok-outcome.ensures.sems
-    ∙ sym (state-left s c.args.client (asked b) (decide s c.args.client (asked b)) c.in-Some.outcome (sym told))
+returns-clause-state c =
+    let b = (goal.at.returns-clause-state c).After-semop in
+    on_ok_weaker c.semop.result (left b c.args.self.now c.self.view_is (sems_of c.semop.new.self)) c.semop.ensures.sems
 
-pub returns-in_ok-park-in-None-clause-outcome : goal.returns-in_ok-park-in-None-clause-outcome
-unfolding view
-returns-in_ok-park-in-None-clause-outcome c =
-    let b = (goal.at.returns-in_ok-park-in-None-clause-outcome c).After-semop in
-    sym c.in-None.is ∙ c.in_ok-outcome.ensures.outcome ∙ outcome b c.args.self.now c.self.view_is
-
-pub park-requires-clause-waits : goal.park-requires-clause-waits
-unfolding view
-park-requires-clause-waits c =
-    let b = (goal.at.park-requires-clause-waits c).After-semop in
-    let v = view b in
-    let waits = sym c.in-None.is ∙ c.in_ok-outcome.ensures.outcome in
-    let stays : put_sems v (sems_of c.semop.new.self) ≡ v = ap (λ (x : Sems). put_sems v x) (c.in_ok-outcome.ensures.sems ∙ left-waits v.sems _ (sym waits)) in
-    ap (λ (t : State). outcome_of (decide t c.args.client (asked b))) stays ∙ sym (outcome b v refl) ∙ sym waits
-
-pub returns-in_ok-park-in-None-clause-state : goal.returns-in_ok-park-in-None-clause-state
-unfolding view
-returns-in_ok-park-in-None-clause-state c =
-    let b = (goal.at.returns-in_ok-park-in-None-clause-state c).After-semop in
-    let s = c.args.self.now in
-    let v = view b in
-    let waits = sym c.in-None.is ∙ c.in_ok-outcome.ensures.outcome in
-    let stays : put_sems v (sems_of c.semop.new.self) ≡ v = ap (λ (x : Sems). put_sems v x) (c.in_ok-outcome.ensures.sems ∙ left-waits v.sems _ (sym waits)) in
-    c.in_ok-park-in-None.ensures.ok
-    ∙ ap (λ (t : State). record t { parked = t.parked ++ record { client = c.args.client; call = asked b } ∷ [] }) (stays ∙ c.self.view_is)
-    ∙ sym (ap (λ d. state_by s c.args.client (asked b) d) (waits-of (decide s c.args.client (asked b)) (sym (waits ∙ outcome b s c.self.view_is))))
-
-pub invariant_of-self-in-Some-1 : goal.invariant_of-self-in-Some-1
-invariant_of-self-in-Some-1 c =
+pub invariant_of-self : goal.invariant_of-self
+invariant_of-self c =
     let n = c.self.inside in
-    (c.self.invariant.0, c.self.invariant.1, c.self.invariant.2, held-longer n.sets c.semop.new.self n.ended.items c.in_ok-outcome.ensures.rows (waiting n.parked) c.self.invariant.3)
-
-pub invariant_of-self-in-None : goal.invariant_of-self-in-None
-invariant_of-self-in-None c =
-    let n = c.self.inside in
-    (c.self.invariant.0, c.self.invariant.1, c.self.invariant.2, held-longer n.sets c.semop.new.self n.ended.items c.in_ok-outcome.ensures.rows (waiting n.parked) c.self.invariant.3)
+    (c.self.invariant.0, c.self.invariant.1, c.self.invariant.2, held-longer n.sets c.semop.new.self n.ended.items c.semop.ensures.rows (waiting n.parked) c.self.invariant.3)

@@ -22,10 +22,10 @@ pub returns-else-is_err-clause-limits : goal.returns-else-is_err-clause-limits
 returns-else-is_err-clause-limits c =
     let new = c.enter-served.new.self in
     well c.enter-served.result _ (new.limits ≡ c.args.self.now.limits) (sym c.is_err.ensures.value ∙ c.if-is_err.false) c.enter-served.ensures.ok (λ served is.
-    sym (ap (λ (t : Stepped). t.state.limits) is) ∙ (Follows-enter _ c.args.client c.args.call).limits ∙ ap (λ (t : State). t.limits) c.self.view_is)
+    sym (ap (λ (t : Stepped). t.state.limits) is) ∙ (Follows-enter _ c.args.client c.args.call.now).limits ∙ ap (λ (t : State). t.limits) c.self.view_is)
 
 pub returns-else-is_err-clause-clients : goal.returns-else-is_err-clause-clients
 returns-else-is_err-clause-clients c =
     let new = c.enter-served.new.self in
     well c.enter-served.result _ (new.clients ≡ c.args.self.now.clients) (sym c.is_err.ensures.value ∙ c.if-is_err.false) c.enter-served.ensures.ok (λ served is.
-    sym (ap (λ (t : Stepped). t.state.clients) is) ∙ (Follows-enter _ c.args.client c.args.call).clients ∙ ap (λ (t : State). t.clients) c.self.view_is)
+    sym (ap (λ (t : Stepped). t.state.clients) is) ∙ (Follows-enter _ c.args.client c.args.call.now).clients ∙ ap (λ (t : State). t.clients) c.self.view_is)

@@ -34,7 +34,7 @@ rows c =
     let own = map answered_row (told_own c.args.client place c.in_ok-outcome.outcome) in
     let others = map answered_row (told_ended place 1 c.serve.new.ended.items) in
     let called : c.enter.new.self.rows ≡ c.self.inside.journal.rows ++ Called c.args.client c.args.now c.args.call ∷ [] =
-    c.enter.ensures.rows ∙ (λ i. c.reserve.ensures.rows i ++ Called c.args.client c.args.now (c.in_ok-copied.ensures i) ∷ []) in
+    c.enter.ensures.rows ∙ ap (λ r. r ++ Called c.args.client c.args.now c.args.call ∷ []) c.reserve.ensures.rows in
     c.tell_others.ensures.rows ∙ ap (λ r. r ++ others) (c.tell_own-own.ensures.rows ∙ ap (λ r. r ++ own) called)
     ∙ rows_by-entered c.self.inside.journal.rows place (event c) (stepped c)
 

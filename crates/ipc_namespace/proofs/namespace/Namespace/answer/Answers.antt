@@ -15,97 +15,97 @@ use Rattle.ipc_model.specs.Decide.{OnSems, decide_alive as decide, get_waiting, 
 use Rattle.ipc_model.specs.Step.{Moved}
 use Rattle.ipc_namespace.specs.Namespace.{is_on_segments, is_on_sets}
 use Rattle.ipc_namespace.proofs.Calling.{put_sems}
-use Rattle.ipc_namespace.proofs.Moving.{moved-nothing, moved-to, none-ended, segments-cancel-none, sets-cancel-none, state-left}
-use Rattle.ipc_namespace.proofs.namespace.Namespace.act_alive.Goals as goal
+use Rattle.ipc_namespace.proofs.Moving.{moved-nothing, moved-to, none-ended, segments-cancel-none, sets-cancel-none}
+use Rattle.ipc_namespace.proofs.namespace.Namespace.answer.Goals as goal
 
 pub returns-in_ok-msgget-in-MsgGet-clause-state : goal.returns-in_ok-msgget-in-MsgGet-clause-state
 returns-in_ok-msgget-in-MsgGet-clause-state c =
     let s = c.args.self.now in
     let same = MsgGet c.in-MsgGet.key c.in-MsgGet.flags in
-    moved-to s c.args.client c.args.call same c.in-MsgGet.is (λ new w. refl) _ same refl
-    (c.in_ok-msgget-in-MsgGet.ensures.state ∙ sym (state-left s c.args.client same (decide s c.args.client same) _ c.in_ok-msgget-in-MsgGet.ensures.outcome))
+    moved-to s c.args.client c.args.call.now same c.in-MsgGet.is (λ new w. refl) _ same refl
+    c.in_ok-msgget-in-MsgGet.ensures.state
 
 pub returns-in_ok-msgget-in-MsgGet-clause-ended : goal.returns-in_ok-msgget-in-MsgGet-clause-ended
 returns-in_ok-msgget-in-MsgGet-clause-ended c =
-    c.requires.empty ∙ none-ended c.args.self.now c.args.client c.args.call (MsgGet c.in-MsgGet.key c.in-MsgGet.flags) c.in-MsgGet.is (λ new w. refl)
+    c.requires.empty ∙ none-ended c.args.self.now c.args.client c.args.call.now (MsgGet c.in-MsgGet.key c.in-MsgGet.flags) c.in-MsgGet.is (λ new w. refl)
 
 pub returns-in-MsgSnd-clause-state : goal.returns-in-MsgSnd-clause-state
 returns-in-MsgSnd-clause-state c =
     let n = c.in-MsgSnd in
     let fits : SFits w64 n.mtype = search rules in
-    on_ok_weaker c.msgsnd.result (moved-to c.args.self.now c.args.client c.args.call (MsgSnd n.id n.mtype n.text n.flags) n.is (λ new w. refl) _ _
+    on_ok_weaker c.msgsnd.result (moved-to c.args.self.now c.args.client c.args.call.now (MsgSnd n.id n.mtype n.text n.flags) n.is (λ new w. refl) _ _
     (ap (λ z. MsgSnd n.id z n.text n.flags) (to_z-of_z w64 n.mtype fits))) c.msgsnd.ensures.state
 
 pub returns-in-MsgSnd-clause-ended : goal.returns-in-MsgSnd-clause-ended
 returns-in-MsgSnd-clause-ended c =
     let n = c.in-MsgSnd in
-    on_ok_weaker c.msgsnd.result (λ is. c.requires.empty ∙ none-ended c.args.self.now c.args.client c.args.call (MsgSnd n.id n.mtype n.text n.flags) n.is (λ new w. refl)) c.msgsnd.ensures.state
+    on_ok_weaker c.msgsnd.result (λ is. c.requires.empty ∙ none-ended c.args.self.now c.args.client c.args.call.now (MsgSnd n.id n.mtype n.text n.flags) n.is (λ new w. refl)) c.msgsnd.ensures.state
 
 pub returns-in-MsgRcv-clause-state : goal.returns-in-MsgRcv-clause-state
 returns-in-MsgRcv-clause-state c =
     let n = c.in-MsgRcv in
     let fits : SFits w64 n.msgtyp = search rules in
-    on_ok_weaker c.msgrcv.result (moved-to c.args.self.now c.args.client c.args.call (MsgRcv n.id n.size n.msgtyp n.flags) n.is (λ new w. refl) _ _
+    (moved-to c.args.self.now c.args.client c.args.call.now (MsgRcv n.id n.size n.msgtyp n.flags) n.is (λ new w. refl) _ _
     (ap (λ z. MsgRcv n.id n.size z n.flags) (to_z-of_z w64 n.msgtyp fits))) c.msgrcv.ensures.state
 
 pub returns-in-MsgRcv-clause-ended : goal.returns-in-MsgRcv-clause-ended
 returns-in-MsgRcv-clause-ended c =
     let n = c.in-MsgRcv in
-    on_ok_weaker c.msgrcv.result (λ is. c.requires.empty ∙ none-ended c.args.self.now c.args.client c.args.call (MsgRcv n.id n.size n.msgtyp n.flags) n.is (λ new w. refl)) c.msgrcv.ensures.state
+    c.requires.empty ∙ none-ended c.args.self.now c.args.client c.args.call.now (MsgRcv n.id n.size n.msgtyp n.flags) n.is (λ new w. refl)
 
 pub returns-in-IpcStat-clause-state : goal.returns-in-IpcStat-clause-state
 returns-in-IpcStat-clause-state c =
-    sym (ap (λ (m : Moved). m.state) (moved-nothing c.args.self.now c.args.client c.args.call (IpcStat c.in-IpcStat.kind c.in-IpcStat.id) _ c.in-IpcStat.is (λ new w. refl) c.stat.ensures.outcome c.stat.ensures.same))
+    sym (ap (λ (m : Moved). m.state) (moved-nothing c.args.self.now c.args.client c.args.call.now (IpcStat c.in-IpcStat.kind c.in-IpcStat.id) c.in-IpcStat.is (λ new w. refl) c.stat.ensures.same))
 
 pub returns-in-IpcStat-clause-ended : goal.returns-in-IpcStat-clause-ended
 returns-in-IpcStat-clause-ended c =
-    c.requires.empty ∙ none-ended c.args.self.now c.args.client c.args.call (IpcStat c.in-IpcStat.kind c.in-IpcStat.id) c.in-IpcStat.is (λ new w. refl)
+    c.requires.empty ∙ none-ended c.args.self.now c.args.client c.args.call.now (IpcStat c.in-IpcStat.kind c.in-IpcStat.id) c.in-IpcStat.is (λ new w. refl)
 
 pub returns-in_ok-list-in-Listing-clause-state : goal.returns-in_ok-list-in-Listing-clause-state
 returns-in_ok-list-in-Listing-clause-state c =
-    sym (ap (λ (m : Moved). m.state) (moved-nothing c.args.self.now c.args.client c.args.call (Listing c.in-Listing.kind) _ c.in-Listing.is (λ new w. refl) c.in_ok-list-in-Listing.ensures.outcome c.in_ok-list-in-Listing.ensures.same))
+    sym (ap (λ (m : Moved). m.state) (moved-nothing c.args.self.now c.args.client c.args.call.now (Listing c.in-Listing.kind) c.in-Listing.is (λ new w. refl) c.in_ok-list-in-Listing.ensures.same))
 
 pub returns-in_ok-list-in-Listing-clause-ended : goal.returns-in_ok-list-in-Listing-clause-ended
 returns-in_ok-list-in-Listing-clause-ended c =
-    c.requires.empty ∙ none-ended c.args.self.now c.args.client c.args.call (Listing c.in-Listing.kind) c.in-Listing.is (λ new w. refl)
+    c.requires.empty ∙ none-ended c.args.self.now c.args.client c.args.call.now (Listing c.in-Listing.kind) c.in-Listing.is (λ new w. refl)
 
 pub returns-in_ok-on_sets-in-SemGet-clause-state : goal.returns-in_ok-on_sets-in-SemGet-clause-state
 returns-in_ok-on_sets-in-SemGet-clause-state c =
     let s = c.args.self.now in
-    let call = c.args.call in
+    let call = c.args.call.now in
     let sets : is_on_sets call ≡ true = search rules in
     moved-to s c.args.client call call refl (λ new w. sets-cancel-none new call w sets) _ call refl
-    (c.in_ok-on_sets-in-SemGet.ensures.state ∙ sym (state-left s c.args.client call (decide s c.args.client call) _ c.in_ok-on_sets-in-SemGet.ensures.outcome))
+    c.in_ok-on_sets-in-SemGet.ensures.state
 
 pub returns-in_ok-on_sets-in-SemGet-clause-ended : goal.returns-in_ok-on_sets-in-SemGet-clause-ended
 returns-in_ok-on_sets-in-SemGet-clause-ended c =
-    let call = c.args.call in
+    let call = c.args.call.now in
     let sets : is_on_sets call ≡ true = search rules in
     c.requires.empty ∙ none-ended c.args.self.now c.args.client call call refl (λ new w. sets-cancel-none new call w sets)
 
 pub returns-in_ok-on_segments-in-ShmGet-clause-state : goal.returns-in_ok-on_segments-in-ShmGet-clause-state
 returns-in_ok-on_segments-in-ShmGet-clause-state c =
     let s = c.args.self.now in
-    let call = c.args.call in
+    let call = c.args.call.now in
     let segments : is_on_segments call ≡ true = search rules in
     moved-to s c.args.client call call refl (λ new w. segments-cancel-none new call w segments) _ call refl
-    (c.in_ok-on_segments-in-ShmGet.ensures.state ∙ sym (state-left s c.args.client call (decide s c.args.client call) _ c.in_ok-on_segments-in-ShmGet.ensures.outcome))
+    c.in_ok-on_segments-in-ShmGet.ensures.state
 
 pub returns-in_ok-on_segments-in-ShmGet-clause-ended : goal.returns-in_ok-on_segments-in-ShmGet-clause-ended
 returns-in_ok-on_segments-in-ShmGet-clause-ended c =
-    let call = c.args.call in
+    let call = c.args.call.now in
     let segments : is_on_segments call ≡ true = search rules in
     c.requires.empty ∙ none-ended c.args.self.now c.args.client call call refl (λ new w. segments-cancel-none new call w segments)
 
 pub returns-in-SemOp-clause-state : goal.returns-in-SemOp-clause-state
 returns-in-SemOp-clause-state c =
     let n = c.in-SemOp in
-    on_ok_weaker c.semop.result (moved-to c.args.self.now c.args.client c.args.call (SemOp n.id n.ops) n.is (λ new w. refl) _ (SemOp n.id n.ops) refl) c.semop.ensures.state
+    on_ok_weaker c.semop.result (moved-to c.args.self.now c.args.client c.args.call.now (SemOp n.id n.ops) n.is (λ new w. refl) _ (SemOp n.id n.ops) refl) c.semop.ensures.state
 
 pub returns-in-SemOp-clause-ended : goal.returns-in-SemOp-clause-ended
 returns-in-SemOp-clause-ended c =
     let n = c.in-SemOp in
-    on_ok_weaker c.semop.result (λ is. c.requires.empty ∙ none-ended c.args.self.now c.args.client c.args.call (SemOp n.id n.ops) n.is (λ new w. refl)) c.semop.ensures.state
+    on_ok_weaker c.semop.result (λ is. c.requires.empty ∙ none-ended c.args.self.now c.args.client c.args.call.now (SemOp n.id n.ops) n.is (λ new w. refl)) c.semop.ensures.state
 
 -- a count answers as its plan says, and changes nothing
 counted : (s : State) (client : ℕ) (call : Call) (p : Plan Sems) → part_plan s (caller s client) call ≡ OnSems p → outcome_of (decide s client call) ≡ outcome_of (decision (creds_at s client) p)
@@ -155,10 +155,10 @@ pub returns-in-GetNcnt-clause-state : goal.returns-in-GetNcnt-clause-state
 returns-in-GetNcnt-clause-state c =
     let n = c.in-GetNcnt in
     let s = c.args.self.now in
-    c.count.ensures.same ∙ sym (ap (λ (m : Moved). m.state) (moved-nothing s c.args.client c.args.call (GetNcnt n.id n.num) _ n.is (λ new w. refl) (counts-rise s c.args.client n.id n.num ∙ c.count.ensures.outcome) (left-rise s c.args.client n.id n.num)))
+    c.count.ensures.same ∙ sym (ap (λ (m : Moved). m.state) (moved-nothing s c.args.client c.args.call.now (GetNcnt n.id n.num) n.is (λ new w. refl) (left-rise s c.args.client n.id n.num)))
 
 pub returns-in-GetNcnt-clause-ended : goal.returns-in-GetNcnt-clause-ended
-returns-in-GetNcnt-clause-ended c = c.requires.empty ∙ none-ended c.args.self.now c.args.client c.args.call (GetNcnt c.in-GetNcnt.id c.in-GetNcnt.num) c.in-GetNcnt.is (λ new w. refl)
+returns-in-GetNcnt-clause-ended c = c.requires.empty ∙ none-ended c.args.self.now c.args.client c.args.call.now (GetNcnt c.in-GetNcnt.id c.in-GetNcnt.num) c.in-GetNcnt.is (λ new w. refl)
 
 pub returns-in-GetZcnt-clause-own : goal.returns-in-GetZcnt-clause-own
 returns-in-GetZcnt-clause-own c =
@@ -170,16 +170,16 @@ pub returns-in-GetZcnt-clause-state : goal.returns-in-GetZcnt-clause-state
 returns-in-GetZcnt-clause-state c =
     let n = c.in-GetZcnt in
     let s = c.args.self.now in
-    c.count-in-GetZcnt.ensures.same ∙ sym (ap (λ (m : Moved). m.state) (moved-nothing s c.args.client c.args.call (GetZcnt n.id n.num) _ n.is (λ new w. refl) (counts-zero s c.args.client n.id n.num ∙ c.count-in-GetZcnt.ensures.outcome) (left-zero s c.args.client n.id n.num)))
+    c.count-in-GetZcnt.ensures.same ∙ sym (ap (λ (m : Moved). m.state) (moved-nothing s c.args.client c.args.call.now (GetZcnt n.id n.num) n.is (λ new w. refl) (left-zero s c.args.client n.id n.num)))
 
 pub returns-in-GetZcnt-clause-ended : goal.returns-in-GetZcnt-clause-ended
-returns-in-GetZcnt-clause-ended c = c.requires.empty ∙ none-ended c.args.self.now c.args.client c.args.call (GetZcnt c.in-GetZcnt.id c.in-GetZcnt.num) c.in-GetZcnt.is (λ new w. refl)
+returns-in-GetZcnt-clause-ended c = c.requires.empty ∙ none-ended c.args.self.now c.args.client c.args.call.now (GetZcnt c.in-GetZcnt.id c.in-GetZcnt.num) c.in-GetZcnt.is (λ new w. refl)
 
 pub returns-in_ok-exit-in-Exit-clause-state : goal.returns-in_ok-exit-in-Exit-clause-state
 returns-in_ok-exit-in-Exit-clause-state c =
     let s = c.args.self.now in
-    moved-to s c.args.client c.args.call Exit c.in-Exit.is (λ new w. refl) _ Exit refl
-    (c.in_ok-exit-in-Exit.ensures.state ∙ sym (state-left s c.args.client Exit (decide s c.args.client Exit) _ c.in_ok-exit-in-Exit.ensures.outcome))
+    moved-to s c.args.client c.args.call.now Exit c.in-Exit.is (λ new w. refl) _ Exit refl
+    c.in_ok-exit-in-Exit.ensures.state
 
 pub returns-in_ok-exit-in-Exit-clause-ended : goal.returns-in_ok-exit-in-Exit-clause-ended
-returns-in_ok-exit-in-Exit-clause-ended c = c.requires.empty ∙ none-ended c.args.self.now c.args.client c.args.call Exit c.in-Exit.is (λ new w. refl)
+returns-in_ok-exit-in-Exit-clause-ended c = c.requires.empty ∙ none-ended c.args.self.now c.args.client c.args.call.now Exit c.in-Exit.is (λ new w. refl)
