@@ -48,7 +48,7 @@ impl Journal {
         ensures rows { self.new.rows ≡ self.old.rows ++ row ∷ [] }
         ensures room { self.old.room ≤ self.new.room + 1 }
     {
-        self.rows.push(row).unwrap();
+        self.rows.push_reserved(row);
     }
 
     /// The rows, oldest first.

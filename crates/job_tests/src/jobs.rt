@@ -66,8 +66,9 @@ fn calls_of(rt: &impl Abort, space: &Space, number: u32) -> u64 {
     count
 }
 
-/// Each client has so many calls, at the times of its jobs, and so many refusals.
-fn check_counts(rt: &impl Abort, end: &ThreadsEnd, wanted: &[(u64, u64)]) {
+/// So many clients are held, and each has so many calls, at the times of its jobs, and so many refusals.
+fn check_counts(rt: &impl Abort, end: &ThreadsEnd, held: u32, wanted: &[(u64, u64)]) {
+    assert_eq!(rt; end.held, held);
     assert_eq!(rt; end.counts.as_slice(), wanted);
     let mut client: u32 = 0;
     for (calls, _) in wanted {
@@ -139,19 +140,22 @@ fn check_set(rt: &impl Abort, space: &Space, values: &[u16]) -> Result<(), Fail>
     Ok(())
 }
 
+/// Four clients have made a hundred additions each.
+fn check_sum(rt: &impl Abort, end: &ThreadsEnd) -> Result<(), Fail> {
+    check_counts(rt, end, 0, &[(101, 0), (101, 0), (101, 0), (101, 0)]);
+    for client in 0..4 {
+        assert_eq!(rt; semops_of(&end.space, client), 100);
+    }
+    check_set(rt, &end.space, &[400])
+}
+
 #[test]
 fn four_clients_add_to_a_semaphore(rt: HostRuntime) -> Result<(), Fail> {
     let mut jobs = Vec::new(rt.alloc());
     for _ in 0..4 {
         jobs.push(additions(rt.alloc())?)?;
     }
-    let end = end_of(&rt, jobs, &OpenGate)?;
-    assert_eq!(rt; end.held, 0);
-    check_counts(&rt, &end, &[(101, 0), (101, 0), (101, 0), (101, 0)]);
-    for client in 0..4 {
-        assert_eq!(rt; semops_of(&end.space, client), 100);
-    }
-    check_set(&rt, &end.space, &[400])
+    check_sum(&rt, &end_of(&rt, jobs, &OpenGate)?)
 }
 
 /// So many jobs, each of one call, for the client of this number.
@@ -230,6 +234,14 @@ fn place_of(space: &Space, number: u32, time: u64) -> Option<usize> {
     None
 }
 
+/// Client 1 called first before client 0 called for the second time.
+fn check_meeting(rt: &impl Abort, end: &ThreadsEnd) {
+    check_counts(rt, end, 0, &[(3, 0), (2, 0)]);
+    let first = place_of(&end.space, 1, 1).expect(rt, "client 1 called");
+    let second = place_of(&end.space, 0, 2).expect(rt, "client 0 called twice");
+    assert!(rt; first < second);
+}
+
 #[test]
 fn two_clients_meet_at_a_gate(rt: HostRuntime) -> Result<(), Fail> {
     let gate = Meeting {
@@ -238,12 +250,7 @@ fn two_clients_meet_at_a_gate(rt: HostRuntime) -> Result<(), Fail> {
         one_did: AtomicU64::new(0),
         zero_did: AtomicU64::new(0),
     };
-    let end = end_of(&rt, gets_of(rt.alloc(), &[3, 2])?, &gate)?;
-    assert_eq!(rt; end.held, 0);
-    check_counts(&rt, &end, &[(3, 0), (2, 0)]);
-    let first = place_of(&end.space, 1, 1).expect(&rt, "client 1 called");
-    let second = place_of(&end.space, 0, 2).expect(&rt, "client 0 called twice");
-    assert!(rt; first < second);
+    check_meeting(&rt, &end_of(&rt, gets_of(rt.alloc(), &[3, 2])?, &gate)?);
     Ok(())
 }
 
@@ -275,19 +282,17 @@ fn a_gate_stops_two_of_three(rt: HostRuntime) -> Result<(), Fail> {
         told: AtomicU64::new(0),
     };
     let end = end_of(&rt, gets_of(rt.alloc(), &[3, 3, 3])?, &gate)?;
-    assert_eq!(rt; end.held, 2);
+    check_counts(&rt, &end, 2, &[(3, 0), (1, 0), (0, 0)]);
+    drop(end);
     assert_eq!(rt; gate.asked.load(Ordering::SeqCst), 6);
     assert_eq!(rt; gate.told.load(Ordering::SeqCst), 4);
-    check_counts(&rt, &end, &[(3, 0), (1, 0), (0, 0)]);
-    assert_eq!(rt; end.space.events(), 4);
     Ok(())
 }
 
 #[test]
 fn a_client_without_jobs(rt: HostRuntime) -> Result<(), Fail> {
     let end = end_of(&rt, gets_of(rt.alloc(), &[2, 0, 3])?, &OpenGate)?;
-    assert_eq!(rt; end.held, 0);
-    check_counts(&rt, &end, &[(2, 0), (0, 0), (3, 0)]);
+    check_counts(&rt, &end, 0, &[(2, 0), (0, 0), (3, 0)]);
     Ok(())
 }
 
@@ -314,30 +319,19 @@ fn receive(msgtyp: i64) -> Call {
     }
 }
 
-/// Client 0 asks, and waits for the answer; client 1 waits for the question, and answers it: once by messages of the
-/// types 1 and 2, and once by the semaphores 0 and 1.
-fn round(alloc: Global, client: u32, jobs: &mut Vec<Job>, now: u64) -> Result<(), AllocError> {
-    let command = if client == 0 {
-        [
-            send(alloc, 1)?,
-            receive(2),
-            semop(alloc, 0, 1)?,
-            semop(alloc, 1, -1)?,
-        ]
-    } else {
-        [
-            receive(1),
-            send(alloc, 2)?,
-            semop(alloc, 0, -1)?,
-            semop(alloc, 1, 1)?,
-        ]
-    };
-    let mut at = now;
-    for call in Vec::from_array(alloc, command)? {
-        jobs.push(job(alloc, at, call)?)?;
-        at = at.wrapping_add(1);
+/// The call of a client at a place in a round, from 0 to 3. Client 0 asks, and waits for the answer; client 1 waits for the
+/// question, and answers it: once by messages of the types 1 and 2, and once by the semaphores 0 and 1.
+fn call_of(alloc: Global, client: u32, nth: u32) -> Result<Call, AllocError> {
+    match (client, nth) {
+        (0, 0) => send(alloc, 1),
+        (0, 1) => Ok(receive(2)),
+        (0, 2) => semop(alloc, 0, 1),
+        (0, _) => semop(alloc, 1, -1),
+        (_, 0) => Ok(receive(1)),
+        (_, 1) => send(alloc, 2),
+        (_, 2) => semop(alloc, 0, -1),
+        _ => semop(alloc, 1, 1),
     }
-    Ok(())
 }
 
 /// A queue, a set of two semaphores, and a hundred rounds.
@@ -345,10 +339,9 @@ fn rounds(alloc: Global, client: u32) -> Result<Vec<Job>, AllocError> {
     let mut jobs = Vec::new(alloc);
     jobs.push(job(alloc, 1, queue(5))?)?;
     jobs.push(job(alloc, 2, set(2))?)?;
-    let mut now: u64 = 3;
-    for _ in 0..100 {
-        round(alloc, client, &mut jobs, now)?;
-        now = now.wrapping_add(4);
+    for at in 0..400u32 {
+        let call = call_of(alloc, client, at % 4)?;
+        jobs.push(job(alloc, u64::from(at) + 3, call)?)?;
     }
     Ok(jobs)
 }
@@ -368,19 +361,22 @@ fn answers(space: &Space) -> (u64, u64) {
     (count, late)
 }
 
+/// Every call has ended, some of them later than they came.
+fn check_rounds(rt: &impl Abort, end: &ThreadsEnd) {
+    check_counts(rt, end, 0, &[(402, 0), (402, 0)]);
+    let (count, late) = answers(&end.space);
+    assert_eq!(rt; count, 804);
+    assert!(rt; late > 0, "no call of four hundred waits");
+    assert!(rt; !end.space.is_waiting(0) && !end.space.is_waiting(1));
+}
+
 #[test]
 fn waiting_calls_are_completed_by_others(rt: HostRuntime) -> Result<(), Fail> {
     let mut jobs = Vec::new(rt.alloc());
     for client in 0..2 {
         jobs.push(rounds(rt.alloc(), client)?)?;
     }
-    let end = end_of(&rt, jobs, &OpenGate)?;
-    assert_eq!(rt; end.held, 0);
-    check_counts(&rt, &end, &[(402, 0), (402, 0)]);
-    let (count, late) = answers(&end.space);
-    assert_eq!(rt; count, 804);
-    assert!(rt; late > 0, "no call of four hundred waits");
-    assert!(rt; !end.space.is_waiting(0) && !end.space.is_waiting(1));
+    check_rounds(&rt, &end_of(&rt, jobs, &OpenGate)?);
     Ok(())
 }
 
@@ -410,29 +406,42 @@ fn answered(place: u64, rule: Option<Rule>) -> JournalRow {
     }
 }
 
-/// The rows of these removals.
+/// The row of these removals at a place, from 0 to 7.
+fn row_of_removals(nth: u32) -> JournalRow {
+    let (key, flags) = (5, 0);
+    let (kind, id) = (Kind::Queue, 0);
+    match nth {
+        0 => called(1, queue(5)),
+        1 => answered(1, None),
+        2 => called(2, Call::MsgGet { key, flags }),
+        3 => answered(2, None),
+        4 => called(2, Call::IpcRmid { kind, id }),
+        5 => answered(3, None),
+        6 => called(3, Call::MsgGet { key: 6, flags }),
+        _ => answered(4, Some(Rule::NoKey)),
+    }
+}
+
 fn rows_of_removals(alloc: Global) -> Result<Vec<JournalRow>, AllocError> {
-    let (kind, flags) = (Kind::Queue, 0);
     let mut rows = Vec::new(alloc);
-    rows.push(called(1, queue(5)))?;
-    rows.push(answered(1, None))?;
-    rows.push(called(2, Call::MsgGet { key: 5, flags }))?;
-    rows.push(answered(2, None))?;
-    rows.push(called(2, Call::IpcRmid { kind, id: 0 }))?;
-    rows.push(answered(3, None))?;
-    rows.push(called(3, Call::MsgGet { key: 6, flags }))?;
-    rows.push(answered(4, Some(Rule::NoKey)))?;
+    for nth in 0..8 {
+        rows.push(row_of_removals(nth))?;
+    }
     Ok(rows)
+}
+
+/// Of four calls one is refused, and the journal has these rows.
+fn check_removals(rt: &impl Abort, end: &ThreadsEnd, rows: &[JournalRow]) {
+    assert_eq!(rt; end.held, 0);
+    assert!(rt; end.counts.as_slice() == [(4, 1)].as_slice());
+    assert!(rt; end.space.journal() == rows);
 }
 
 #[test]
 fn a_removal_by_key_is_a_get_and_a_removal(rt: HostRuntime) -> Result<(), Fail> {
     let mut jobs = Vec::new(rt.alloc());
     jobs.push(removals(rt.alloc())?)?;
-    let end = end_of(&rt, jobs, &OpenGate)?;
-    assert_eq!(rt; end.held, 0);
-    assert_eq!(rt; end.counts.as_slice(), [(4, 1)].as_slice());
     let rows = rows_of_removals(rt.alloc())?;
-    assert_eq!(rt; end.space.journal(), rows.as_slice());
+    check_removals(&rt, &end_of(&rt, jobs, &OpenGate)?, rows.as_slice());
     Ok(())
 }

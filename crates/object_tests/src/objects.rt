@@ -7,6 +7,27 @@ use ipc_perm::{Mode, Perm};
 use std::process::Abort;
 use std::test::Fail;
 
+/// What is done with a table of objects.
+#[derive(Clone, Copy, Debug, Drop)]
+enum Step {
+    /// An object of a key that holds a number is put in, where the key is free: its identifier, if a slot is usable.
+    Add(u32, u32),
+    /// The identifier of the object of a key.
+    Find(u32),
+    /// What the object of a key holds.
+    Seek(u32),
+    /// The number is written over that which an object holds.
+    Write(u32, u32),
+    /// The owner of an object becomes user 200.
+    SetOwner(u32),
+    FreeKey(u32),
+    KeyOf(u32),
+    /// What the object held.
+    Remove(u32),
+    NextId,
+    IdAt(u16),
+}
+
 /// An object of user 100 that was created at time 1.
 fn object(key: u32, contents: u32) -> Object<u32>
     ensures { result.perm.key ≡ key }
@@ -25,41 +46,20 @@ fn object(key: u32, contents: u32) -> Object<u32>
     }
 }
 
-/// Adds an object where the key is free and a slot is usable, and answers its identifier.
-fn add(objects: &mut Objects<u32>, key: u32, contents: u32) -> Result<u32, Fail> {
-    if objects.find(key).is_some() {
-        return Err(Fail::from("key"));
+fn add(objects: &mut Objects<u32>, key: u32, contents: u32) -> Result<Option<u32>, Fail> {
+    if objects.find(key).is_some() || objects.next_id().is_none() {
+        return Ok(None);
     }
-    if objects.next_id().is_none() {
-        return Err(Fail::from("no slot"));
-    }
-    Ok(objects.insert(object(key, contents))?)
+    Ok(Some(objects.insert(object(key, contents))?))
 }
 
-/// The identifier, the owner and what the object of a key holds, by both ways to find it.
-fn found(objects: &Objects<u32>, key: u32) -> Option<(u32, u32, u32)> {
-    let (id, perm) = objects.find(key)?;
-    let (again, object) = objects.seek(key)?;
-    if id == again {
-        Some((id, perm.uid, object.contents))
-    } else {
-        None
-    }
+fn write(objects: &mut Objects<u32>, id: u32, contents: u32) -> Option<u32> {
+    let held = objects.contents_mut(id)?;
+    *held = contents;
+    Some(contents)
 }
 
-/// Writes what an object holds, where there is one.
-fn write(objects: &mut Objects<u32>, id: u32, contents: u32) -> bool {
-    match objects.contents_mut(id) {
-        Some(held) => {
-            *held = contents;
-            true
-        }
-        None => false,
-    }
-}
-
-/// Sets the owner of an object, where there is one.
-fn set(objects: &mut Objects<u32>, id: u32) {
+fn set_owner(objects: &mut Objects<u32>, id: u32) {
     if objects.get(id).is_some() {
         let owner = Owner {
             uid: 200,
@@ -70,7 +70,63 @@ fn set(objects: &mut Objects<u32>, id: u32) {
     }
 }
 
-/// The object as `set` left it.
+fn free_key(objects: &mut Objects<u32>, id: u32) {
+    if objects.get(id).is_some() {
+        objects.free_key(id);
+    }
+}
+
+fn remove(objects: &mut Objects<u32>, id: u32) -> Option<u32> {
+    if objects.get(id).is_some() {
+        Some(objects.remove(id).contents)
+    } else {
+        None
+    }
+}
+
+/// What a step tells that changes nothing.
+fn seen(objects: &Objects<u32>, step: Step) -> Option<u32> {
+    match step {
+        Step::Find(key) => objects.find(key).map(|found| found.0),
+        Step::Seek(key) => objects.seek(key).map(|found| found.1.contents),
+        Step::KeyOf(id) => objects.perm(id).map(|perm| perm.key),
+        Step::NextId => objects.next_id(),
+        Step::IdAt(slot) => objects.id_at(slot),
+        _ => None,
+    }
+}
+
+/// Does a step, and answers what it tells.
+fn told(objects: &mut Objects<u32>, step: Step) -> Result<Option<u32>, Fail> {
+    Ok(match step {
+        Step::Add(key, contents) => add(objects, key, contents)?,
+        Step::Write(id, contents) => write(objects, id, contents),
+        Step::Remove(id) => remove(objects, id),
+        Step::SetOwner(id) => {
+            set_owner(objects, id);
+            None
+        }
+        Step::FreeKey(id) => {
+            free_key(objects, id);
+            None
+        }
+        _ => seen(objects, step),
+    })
+}
+
+/// Does these steps, each of which must tell what stands beside it.
+fn follow(
+    rt: &impl Abort,
+    objects: &mut Objects<u32>,
+    steps: &[(Step, Option<u32>)],
+) -> Result<(), Fail> {
+    for (step, wanted) in steps {
+        assert_eq!(rt; told(objects, *step)?, *wanted, "{step:?}");
+    }
+    Ok(())
+}
+
+/// The object of identifier 32768 is that of key 5, user 200 is its owner, and it holds 51.
 fn check_set(rt: &impl Abort, objects: &Objects<u32>) {
     let Some(set) = objects.get(32768) else {
         panic!(rt; "gone");
@@ -83,52 +139,39 @@ fn check_set(rt: &impl Abort, objects: &Objects<u32>) {
 #[test]
 fn objects_come_change_and_leave(rt: HostRuntime) -> Result<(), Fail> {
     let mut objects = Objects::new(rt.alloc(), 3, 1);
-    assert_eq!(rt; add(&mut objects, 5, 50)?, 32768);
-    assert_eq!(rt; add(&mut objects, 0, 60)?, 32769);
-    assert_eq!(rt; add(&mut objects, 0, 70)?, 32770);
-    assert_eq!(rt; objects.next_id(), None);
-    assert!(rt; objects.find(0).is_none() && objects.find(6).is_none());
-    assert_eq!(rt; found(&objects, 5), Some((32768, 100, 50)));
-    assert!(rt; write(&mut objects, 32768, 51) && !write(&mut objects, 0, 1));
-    set(&mut objects, 32768);
+    let steps = [
+        (Step::Add(5, 50), Some(32768)),
+        (Step::Add(0, 60), Some(32769)),
+        (Step::Add(0, 70), Some(32770)),
+        (Step::NextId, None),
+        (Step::Find(0), None),
+        (Step::Find(6), None),
+        (Step::Find(5), Some(32768)),
+        (Step::Seek(5), Some(50)),
+        (Step::Write(32768, 51), Some(51)),
+        (Step::Write(0, 1), None),
+        (Step::SetOwner(32768), None),
+    ];
+    follow(&rt, &mut objects, &steps)?;
     check_set(&rt, &objects);
     Ok(())
-}
-
-/// The key of an object.
-fn key_of(objects: &Objects<u32>, id: u32) -> Option<u32> {
-    let perm = objects.perm(id)?;
-    Some(perm.key)
-}
-
-/// Frees the key of an object, where there is one.
-fn free_key(objects: &mut Objects<u32>, id: u32) {
-    if objects.get(id).is_some() {
-        objects.free_key(id);
-    }
-}
-
-/// Removes an object, where there is one: what it held.
-fn remove(objects: &mut Objects<u32>, id: u32) -> Option<u32> {
-    if objects.get(id).is_some() {
-        Some(objects.remove(id).contents)
-    } else {
-        None
-    }
 }
 
 #[test]
 fn keys_are_free_again(rt: HostRuntime) -> Result<(), Fail> {
     let mut objects = Objects::new(rt.alloc(), 2, 0);
-    assert_eq!(rt; add(&mut objects, 5, 50)?, 0);
-    free_key(&mut objects, 0);
-    assert!(rt; objects.find(5).is_none());
-    assert_eq!(rt; key_of(&objects, 0), Some(0));
-    assert_eq!(rt; add(&mut objects, 5, 60)?, 1);
-    assert_eq!(rt; remove(&mut objects, 1), Some(60));
-    assert!(rt; objects.find(5).is_none() && objects.perm(1).is_none());
-    assert_eq!(rt; add(&mut objects, 5, 70)?, 32769);
-    assert_eq!(rt; objects.id_at(0), Some(0));
-    assert_eq!(rt; objects.id_at(1), Some(32769));
-    Ok(())
+    let steps = [
+        (Step::Add(5, 50), Some(0)),
+        (Step::FreeKey(0), None),
+        (Step::Find(5), None),
+        (Step::KeyOf(0), Some(0)),
+        (Step::Add(5, 60), Some(1)),
+        (Step::Remove(1), Some(60)),
+        (Step::Find(5), None),
+        (Step::KeyOf(1), None),
+        (Step::Add(5, 70), Some(32769)),
+        (Step::IdAt(0), Some(0)),
+        (Step::IdAt(1), Some(32769)),
+    ];
+    follow(&rt, &mut objects, &steps)
 }

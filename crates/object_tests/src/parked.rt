@@ -2,9 +2,25 @@
 
 use ipc_call::{Call, Items, Kind};
 use ipc_parked::{Parked, waits_on};
-use std::alloc::Global;
 use std::process::Abort;
 use std::test::Fail;
+
+/// What is done with a list of calls that wait.
+#[derive(Clone, Copy, Debug, Drop)]
+enum Step {
+    /// A client waits for a message of a queue, from the event at a place on: how many wait then.
+    Park(u32, u64, u32),
+    /// The client's call leaves the list: how many are left.
+    Finish(u32),
+    /// The place of the event that brought the client's call.
+    PlaceOf(u32),
+    /// The earliest of the clients from one to another.
+    Earliest(u32, u32),
+    /// The earliest that waits at a queue, of the clients from one on.
+    AtQueue(u32, u32),
+    /// The earliest that waits at a semaphore set.
+    AtSet(u32),
+}
 
 /// A call that receives from a queue.
 fn receive(id: u32) -> Call {
@@ -16,89 +32,109 @@ fn receive(id: u32) -> Call {
     }
 }
 
-/// Clients 5, 0 and 9 wait, in this order: the first at queue 7, the second at 8, and the last at this one.
-fn three_waiting(alloc: Global, id: u32) -> Result<Parked, Fail> {
-    let mut parked = Parked::new(alloc);
-    parked.park(5, 2, receive(7))?;
-    parked.park(0, 3, receive(8))?;
-    parked.park(9, 6, receive(id))?;
-    Ok(parked)
+fn park(parked: &mut Parked, client: u32, place: u64, id: u32) -> Result<(), Fail> {
+    if parked.is_waiting(client) {
+        return Err(Fail::from("it waits"));
+    }
+    parked.park(client, place, receive(id))?;
+    Ok(())
 }
 
-/// The earliest of these clients.
-fn earliest(parked: &Parked, least: u32, most: u32) -> Option<u32> {
-    parked.earliest(|client, _| least <= client && client <= most)
+/// Ends the call of a client, which is the one that waits.
+fn finish(rt: &impl Abort, parked: &mut Parked, client: u32) {
+    if parked.is_waiting(client) {
+        let told = parked.call_of(client).copy();
+        let call = parked.finish(client);
+        assert!(rt; told.is_ok_and(|told| told == call));
+    }
 }
 
-/// The earliest that waits at this queue.
-fn earliest_at(parked: &Parked, id: u32) -> Option<u32> {
-    parked.earliest(|_, call| waits_on(Kind::Queue, id, call))
-}
-
-/// The earliest of these clients that waits at this object.
-fn earliest_on(parked: &Parked, kind: Kind, id: u32, least: u32) -> Option<u32> {
+/// The earliest of these clients that waits at an object.
+fn at_object(parked: &Parked, kind: Kind, id: u32, least: u32) -> Option<u32> {
     parked.on_object(kind, id, |client, _| least <= client)
 }
 
-/// The earliest of all.
-fn first(parked: &Parked) -> Option<u32> {
-    earliest(parked, 0, u32::MAX)
+/// What a step tells that changes nothing.
+fn seen(parked: &Parked, step: Step) -> Option<u64> {
+    let client = match step {
+        Step::Earliest(least, most) => {
+            parked.earliest(|client, _| least <= client && client <= most)
+        }
+        Step::AtQueue(id, least) => at_object(parked, Kind::Queue, id, least),
+        Step::AtSet(id) => at_object(parked, Kind::Sems, id, 0),
+        Step::PlaceOf(client) if parked.is_waiting(client) => return Some(parked.place_of(client)),
+        _ => None,
+    };
+    client.map(u64::from)
 }
 
-/// Ends the call of a client, which receives from this queue.
-fn end(rt: &impl Abort, parked: &mut Parked, client: u32, id: u32) {
-    assert!(rt; parked.is_waiting(client));
-    assert!(rt; *parked.call_of(client) == receive(id));
-    assert!(rt; parked.finish(client) == receive(id));
-    assert!(rt; !parked.is_waiting(client));
+/// Does a step, and answers what it tells.
+fn told(rt: &impl Abort, parked: &mut Parked, step: Step) -> Result<Option<u64>, Fail> {
+    match step {
+        Step::Park(client, place, id) => park(parked, client, place, id)?,
+        Step::Finish(client) => finish(rt, parked, client),
+        _ => return Ok(seen(parked, step)),
+    }
+    Ok(Some(parked.len() as u64))
+}
+
+/// Does these steps, each of which must tell what stands beside it.
+fn follow(rt: &impl Abort, parked: &mut Parked, steps: &[(Step, Option<u64>)]) -> Result<(), Fail> {
+    for (step, wanted) in steps {
+        assert_eq!(rt; told(rt, parked, *step)?, *wanted, "{step:?}");
+    }
+    Ok(())
 }
 
 #[test]
 fn what_is_left_keeps_its_order(rt: HostRuntime) -> Result<(), Fail> {
-    let mut parked = three_waiting(rt.alloc(), 7)?;
-    assert_eq!(rt; parked.len(), 3);
-    assert!(rt; parked.is_waiting(0) && !parked.is_waiting(1) && parked.is_waiting(5));
-    assert_eq!(rt; (parked.place_of(0), parked.place_of(5)), (3, 2));
-    end(&rt, &mut parked, 0, 8);
-    assert_eq!(rt; parked.len(), 2);
-    assert_eq!(rt; first(&parked), Some(5));
-    assert!(rt; !parked.is_waiting(0));
-    parked.park(0, 7, receive(7))?;
-    end(&rt, &mut parked, 5, 7);
-    assert_eq!(rt; first(&parked), Some(9));
-    Ok(())
+    let mut parked = Parked::new(rt.alloc());
+    let steps = [
+        (Step::Earliest(0, u32::MAX), None),
+        (Step::Park(5, 2, 7), Some(1)),
+        (Step::Park(0, 3, 8), Some(2)),
+        (Step::Park(9, 6, 7), Some(3)),
+        (Step::PlaceOf(0), Some(3)),
+        (Step::PlaceOf(1), None),
+        (Step::PlaceOf(5), Some(2)),
+        (Step::Finish(0), Some(2)),
+        (Step::PlaceOf(0), None),
+        (Step::Earliest(0, u32::MAX), Some(5)),
+        (Step::Park(0, 7, 7), Some(3)),
+        (Step::Finish(5), Some(2)),
+        (Step::Earliest(0, u32::MAX), Some(9)),
+        (Step::PlaceOf(0), Some(7)),
+    ];
+    follow(&rt, &mut parked, &steps)
 }
 
 #[test]
 fn the_earliest_that_passes_is_told(rt: HostRuntime) -> Result<(), Fail> {
-    assert_eq!(rt; first(&Parked::new(rt.alloc())), None);
-    let parked = three_waiting(rt.alloc(), 8)?;
-    assert_eq!(rt; earliest(&parked, 0, 4), Some(0));
-    assert_eq!(rt; earliest_at(&parked, 8), Some(0));
-    assert_eq!(rt; earliest(&parked, 10, u32::MAX), None);
-    assert_eq!(rt; earliest_on(&parked, Kind::Queue, 8, 0), Some(0));
-    assert_eq!(rt; earliest_on(&parked, Kind::Queue, 8, 4), Some(9));
-    assert_eq!(rt; earliest_on(&parked, Kind::Queue, 9, 0), None);
-    assert_eq!(rt; earliest_on(&parked, Kind::Sems, 8, 0), None);
-    Ok(())
+    let mut parked = Parked::new(rt.alloc());
+    let steps = [
+        (Step::Park(5, 2, 7), Some(1)),
+        (Step::Park(0, 3, 8), Some(2)),
+        (Step::Park(9, 6, 8), Some(3)),
+        (Step::Earliest(0, 4), Some(0)),
+        (Step::Earliest(10, u32::MAX), None),
+        (Step::AtQueue(8, 0), Some(0)),
+        (Step::AtQueue(8, 4), Some(9)),
+        (Step::AtQueue(9, 0), None),
+        (Step::AtSet(8), None),
+    ];
+    follow(&rt, &mut parked, &steps)
 }
 
 #[test]
-fn a_send_and_a_receive_wait_on_their_queue(rt: HostRuntime) -> Result<(), Fail> {
+fn a_send_and_a_receive_wait_on_their_queue(rt: HostRuntime) {
+    let (id, kind) = (3, Kind::Queue);
     let send = Call::MsgSnd {
-        id: 3,
+        id,
         mtype: 1,
         text: Items::new(Vec::new(rt.alloc())),
         flags: 0,
     };
-    assert!(rt; waits_on(Kind::Queue, 3, &send));
-    assert!(rt; !waits_on(Kind::Queue, 4, &send));
+    assert!(rt; waits_on(kind, 3, &send) && !waits_on(kind, 4, &send));
     assert!(rt; !waits_on(Kind::Segment, 3, &send));
-    assert!(rt; waits_on(Kind::Queue, 7, &receive(7)));
-    let remove = Call::IpcRmid {
-        kind: Kind::Queue,
-        id: 3,
-    };
-    assert!(rt; !waits_on(Kind::Queue, 3, &remove));
-    Ok(())
+    assert!(rt; waits_on(kind, 7, &receive(7)) && !waits_on(kind, 3, &Call::IpcRmid { kind, id }));
 }

@@ -1,87 +1,149 @@
 //! Worked rows of semadj, with what semop(2), semctl(2) and _exit(2) have them become.
 
 use sem_undo::Undo;
+use std::alloc::Global;
 use std::process::Abort;
 use std::test::Fail;
 
-/// Lowers a semadj for which there is a row, and which stays in its range.
-fn lower(rt: &impl Abort, undo: &mut Undo, client: u32, set: u32, num: u16, by: i16) {
-    assert!(rt; usize::from(num) < undo.row(client, set).len());
-    let adj = undo.adj(client, set, num);
-    assert!(rt;
-        i64::from(adj) - i64::from(by) >= -32768 && i64::from(adj) - i64::from(by) <= 32767
-    );
+/// What is done with the rows of semadj: a client, a set, and a semaphore number or a count.
+#[derive(Clone, Copy, Debug, Drop)]
+enum Step {
+    /// A row has room for so many.
+    Ensure(u32, u32, usize),
+    /// A semadj is lowered by so much.
+    Lower(u32, u32, u16, i16),
+    /// The semadj of a semaphore become 0.
+    Clear(u32, u32),
+    ClearSet(u32),
+    RemoveSet(u32),
+    Len(u32, u32),
+    Adj(u32, u32, u16),
+}
+
+/// Lowers a semadj for which there is a row, and which stays in its range, and answers what it is then.
+fn lower(undo: &mut Undo, client: u32, set: u32, num: u16, by: i16) -> Option<i64> {
+    let after = i64::from(undo.adj(client, set, num)) - i64::from(by);
+    if usize::from(num) >= undo.row(client, set).len() || after < -32768 || after > 32767 {
+        return None;
+    }
     undo.lower(client, set, num, by);
+    Some(after)
+}
+
+/// Does a step that tells nothing.
+fn clear(undo: &mut Undo, step: Step) -> Option<i64> {
+    match step {
+        Step::Clear(set, num) => undo.clear(set, num),
+        Step::ClearSet(set) => undo.clear_set(set),
+        Step::RemoveSet(set) => undo.remove_set(set),
+        _ => {}
+    }
+    None
+}
+
+/// Does a step, and answers what it tells.
+fn told(alloc: Global, undo: &mut Undo, step: Step) -> Result<Option<i64>, Fail> {
+    Ok(match step {
+        Step::Ensure(client, set, len) if client < 64 => {
+            undo.ensure_row(alloc, client, set, len)?;
+            Some(undo.row(client, set).len() as i64)
+        }
+        Step::Lower(client, set, num, by) => lower(undo, client, set, num, by),
+        Step::Len(client, set) => Some(undo.row(client, set).len() as i64),
+        Step::Adj(client, set, num) => Some(i64::from(undo.adj(client, set, num))),
+        _ => clear(undo, step),
+    })
+}
+
+/// Does these steps, each of which must tell what stands beside it.
+fn follow(
+    rt: &(impl Abort + AllocGlobal),
+    undo: &mut Undo,
+    steps: &[(Step, Option<i64>)],
+) -> Result<(), Fail> {
+    for (step, wanted) in steps {
+        assert_eq!(rt; told(rt.alloc(), undo, *step)?, *wanted, "{step:?}");
+    }
+    Ok(())
 }
 
 #[test]
 fn operations_lower_the_semadj_of_their_client(rt: HostRuntime) -> Result<(), Fail> {
-    let alloc = rt.alloc();
-    let mut undo = Undo::new(alloc);
-    assert_eq!(rt; undo.row(0, 7).len(), 0);
-    undo.ensure_row(alloc, 0, 7, 2)?;
-    undo.ensure_row(alloc, 63, 7, 2)?;
-    assert_eq!(rt; undo.row(0, 7), [0, 0].as_slice());
-    lower(&rt, &mut undo, 0, 7, 1, 3);
-    lower(&rt, &mut undo, 63, 7, 1, -5);
-    undo.ensure_row(alloc, 0, 7, 2)?;
-    assert_eq!(rt; undo.row(0, 7), [0, -3].as_slice());
-    assert_eq!(rt;
-        (undo.adj(63, 7, 1), undo.adj(63, 7, 0), undo.adj(0, 7, 2)),
-        (5, 0, 0)
-    );
-    lower(&rt, &mut undo, 0, 7, 1, 32765);
-    assert_eq!(rt; undo.adj(0, 7, 1), -32768);
-    lower(&rt, &mut undo, 0, 7, 1, -32768);
-    assert_eq!(rt; undo.row(0, 7), [0, 0].as_slice());
-    Ok(())
+    let mut undo = Undo::new(rt.alloc());
+    let steps = [
+        (Step::Len(0, 7), Some(0)),
+        (Step::Lower(0, 7, 0, 1), None),
+        (Step::Ensure(0, 7, 2), Some(2)),
+        (Step::Ensure(63, 7, 2), Some(2)),
+        (Step::Lower(0, 7, 1, 3), Some(-3)),
+        (Step::Lower(63, 7, 1, -5), Some(5)),
+        (Step::Ensure(0, 7, 2), Some(2)),
+        (Step::Adj(0, 7, 0), Some(0)),
+        (Step::Adj(0, 7, 1), Some(-3)),
+        (Step::Adj(0, 7, 2), Some(0)),
+        (Step::Adj(63, 7, 0), Some(0)),
+        (Step::Lower(0, 7, 1, 32766), None),
+        (Step::Lower(0, 7, 1, 32765), Some(-32768)),
+        (Step::Lower(0, 7, 1, -32768), Some(0)),
+        (Step::Adj(63, 7, 1), Some(5)),
+    ];
+    follow(&rt, &mut undo, &steps)
 }
 
 #[test]
 fn a_row_that_grows_keeps_its_semadj(rt: HostRuntime) -> Result<(), Fail> {
-    let alloc = rt.alloc();
-    let mut undo = Undo::new(alloc);
-    undo.ensure_row(alloc, 3, 7, 1)?;
-    lower(&rt, &mut undo, 3, 7, 0, 5);
-    undo.ensure_row(alloc, 3, 7, 3)?;
-    assert_eq!(rt; undo.row(3, 7), [-5, 0, 0].as_slice());
-    undo.ensure_row(alloc, 3, 7, 2)?;
-    assert_eq!(rt; undo.row(3, 7).len(), 3);
-    Ok(())
+    let mut undo = Undo::new(rt.alloc());
+    let steps = [
+        (Step::Ensure(3, 7, 1), Some(1)),
+        (Step::Lower(3, 7, 0, 5), Some(-5)),
+        (Step::Ensure(3, 7, 3), Some(3)),
+        (Step::Adj(3, 7, 0), Some(-5)),
+        (Step::Adj(3, 7, 2), Some(0)),
+        (Step::Ensure(3, 7, 2), Some(3)),
+    ];
+    follow(&rt, &mut undo, &steps)
 }
 
 #[test]
 fn values_that_are_set_clear_the_semadj_of_all(rt: HostRuntime) -> Result<(), Fail> {
-    let alloc = rt.alloc();
-    let mut undo = Undo::new(alloc);
-    for client in [0u32, 9, 63] {
-        assert!(rt; client < 64);
+    let mut undo = Undo::new(rt.alloc());
+    for client in [0, 9, 63] {
         for set in [3, 4] {
-            undo.ensure_row(alloc, client, set, 2)?;
-            lower(&rt, &mut undo, client, set, 0, 1);
-            lower(&rt, &mut undo, client, set, 1, 2);
+            let steps = [
+                (Step::Ensure(client, set, 2), Some(2)),
+                (Step::Lower(client, set, 0, 1), Some(-1)),
+                (Step::Lower(client, set, 1, 2), Some(-2)),
+            ];
+            follow(&rt, &mut undo, &steps)?;
         }
     }
-    undo.clear(3, 0);
-    undo.clear(3, 2);
-    assert_eq!(rt; undo.row(0, 3), [0, -2].as_slice());
-    assert_eq!(rt; undo.row(63, 3), [0, -2].as_slice());
-    undo.clear_set(3);
-    assert_eq!(rt; undo.row(9, 3), [0, 0].as_slice());
-    assert_eq!(rt; undo.row(9, 4), [-1, -2].as_slice());
-    undo.remove_set(4);
-    assert_eq!(rt; (undo.row(63, 3).len(), undo.row(63, 4).len()), (2, 0));
-    Ok(())
+    let steps = [
+        (Step::Clear(3, 0), None),
+        (Step::Clear(3, 2), None),
+        (Step::Adj(0, 3, 0), Some(0)),
+        (Step::Adj(0, 3, 1), Some(-2)),
+        (Step::Adj(63, 3, 1), Some(-2)),
+        (Step::ClearSet(3), None),
+        (Step::Adj(9, 3, 1), Some(0)),
+        (Step::Adj(9, 4, 0), Some(-1)),
+        (Step::Adj(9, 4, 1), Some(-2)),
+        (Step::RemoveSet(4), None),
+        (Step::Len(63, 3), Some(2)),
+        (Step::Len(63, 4), Some(0)),
+    ];
+    follow(&rt, &mut undo, &steps)
 }
 
 #[test]
 fn exit_takes_each_row_once(rt: HostRuntime) -> Result<(), Fail> {
-    let alloc = rt.alloc();
-    let mut undo = Undo::new(alloc);
+    let mut undo = Undo::new(rt.alloc());
     for set in [32768, 5, u32::MAX] {
-        undo.ensure_row(alloc, 1, set, 1)?;
-        undo.ensure_row(alloc, 2, set, 1)?;
-        lower(&rt, &mut undo, 1, set, 0, -4);
+        let steps = [
+            (Step::Ensure(1, set, 1), Some(1)),
+            (Step::Ensure(2, set, 1), Some(1)),
+            (Step::Lower(1, set, 0, -4), Some(4)),
+        ];
+        follow(&rt, &mut undo, &steps)?;
     }
     for want in [5, 32768, u32::MAX] {
         match undo.take_all(1) {
@@ -89,8 +151,10 @@ fn exit_takes_each_row_once(rt: HostRuntime) -> Result<(), Fail> {
             Some((set, row)) => assert!(rt; set == want && row.as_slice() == [4].as_slice()),
         }
     }
-    assert!(rt; undo.take_all(1).is_none());
-    assert!(rt; undo.take_all(0).is_none());
-    assert_eq!(rt; undo.row(2, 5), [0].as_slice());
-    Ok(())
+    assert!(rt; undo.take_all(1).is_none() && undo.take_all(0).is_none());
+    follow(
+        &rt,
+        &mut undo,
+        &[(Step::Len(2, 5), Some(1)), (Step::Adj(2, 5, 0), Some(0))],
+    )
 }

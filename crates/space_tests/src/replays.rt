@@ -4,6 +4,7 @@ use bitflags::Flags;
 use ipc_call::{Call, Items, JournalRow, Kind, Limits, Rule};
 use ipc_creds::{Caps, Creds};
 use ipc_space::{Replayed, replay};
+use std::alloc::Global;
 use std::process::Abort;
 use std::test::Fail;
 
@@ -13,78 +14,68 @@ const BOB: u32 = 1;
 
 const CAROL: u32 = 2;
 
-/// Rows to be replayed.
-#[derive(Drop)]
-struct Rows {
-    rows: Vec<JournalRow>,
+fn called(client: u32, call: Call) -> JournalRow {
+    let now = 0;
+    JournalRow::Called { client, now, call }
 }
 
-impl Rows {
-    fn call(&mut self, client: u32, call: Call) -> Result<(), Fail> {
-        let now = 0;
-        self.rows.push(JournalRow::Called { client, now, call })?;
-        Ok(())
+fn answered(client: u32, place: u64, turn: u32, rule: Option<Rule>) -> JournalRow {
+    JournalRow::Answered {
+        client,
+        place,
+        turn,
+        rule,
     }
+}
 
-    fn answer(
-        &mut self,
-        client: u32,
-        place: u64,
-        turn: u32,
-        rule: Option<Rule>,
-    ) -> Result<(), Fail> {
-        self.rows.push(JournalRow::Answered {
-            client,
-            place,
-            turn,
-            rule,
-        })?;
-        Ok(())
-    }
+/// A client asks for a message of any type, of at most ten bytes.
+fn receive(client: u32) -> JournalRow {
+    let receive = Call::MsgRcv {
+        id: 0,
+        size: 10,
+        msgtyp: 0,
+        flags: 0,
+    };
+    called(client, receive)
+}
 
-    /// A client asks for a message of any type, of at most ten bytes.
-    fn receive(&mut self, client: u32) -> Result<(), Fail> {
-        self.call(
-            client,
-            Call::MsgRcv {
-                id: 0,
-                size: 10,
-                msgtyp: 0,
-                flags: 0,
-            },
-        )
-    }
+/// Alice sends a message of two bytes.
+fn send(alloc: Global) -> Result<JournalRow, Fail> {
+    let send = Call::MsgSnd {
+        id: 0,
+        mtype: 1,
+        text: Items::new(Vec::from_slice(alloc, b"hi")?),
+        flags: 0,
+    };
+    Ok(called(ALICE, send))
+}
 
-    /// Alice makes a queue, and bob and carol wait for a message: four rows.
-    fn wait(&mut self) -> Result<(), Fail> {
-        let (key, flags) = (5, 0o1666);
-        self.call(ALICE, Call::MsgGet { key, flags })?;
-        self.answer(ALICE, 1, 0, None)?;
-        self.receive(BOB)?;
-        self.receive(CAROL)
-    }
+/// The row of a number, from 0 to 9. Alice makes a queue, bob and carol wait for a message, the message that alice sends
+/// is bob's, and carol's call ends as alice removes the queue.
+fn row(alloc: Global, nth: usize) -> Result<JournalRow, Fail> {
+    let (key, flags) = (5, 0o1666);
+    let (kind, id) = (Kind::Queue, 0);
+    Ok(match nth {
+        0 => called(ALICE, Call::MsgGet { key, flags }),
+        1 => answered(ALICE, 1, 0, None),
+        2 => receive(BOB),
+        3 => receive(CAROL),
+        4 => send(alloc)?,
+        5 => answered(ALICE, 4, 0, None),
+        6 => answered(BOB, 4, 1, None),
+        7 => called(ALICE, Call::IpcRmid { kind, id }),
+        8 => answered(ALICE, 5, 0, None),
+        _ => answered(CAROL, 5, 1, Some(Rule::Removed)),
+    })
+}
 
-    /// Alice sends a message, which is bob's: three rows, of the fourth event.
-    fn send(&mut self, rt: &impl AllocGlobal) -> Result<(), Fail> {
-        let text = Items::new(Vec::from_slice(rt.alloc(), b"hi")?);
-        let send = Call::MsgSnd {
-            id: 0,
-            mtype: 1,
-            text,
-            flags: 0,
-        };
-        self.call(ALICE, send)?;
-        self.answer(ALICE, 4, 0, None)?;
-        self.answer(BOB, 4, 1, None)
+/// The first of the rows, so many.
+fn rows_to(alloc: Global, count: usize) -> Result<Vec<JournalRow>, Fail> {
+    let mut rows = Vec::new(alloc);
+    for nth in 0..count {
+        rows.push(row(alloc, nth)?)?;
     }
-
-    /// Alice removes the queue, which ends carol's call: three rows, of the fifth event.
-    fn remove(&mut self) -> Result<(), Fail> {
-        let kind = Kind::Queue;
-        self.call(ALICE, Call::IpcRmid { kind, id: 0 })?;
-        self.answer(ALICE, 5, 0, None)?;
-        self.answer(CAROL, 5, 1, Some(Rule::Removed))
-    }
+    Ok(rows)
 }
 
 /// How many of the rows begin a journal of three clients with these limits. None where they are one, which the
@@ -136,61 +127,24 @@ fn are_cut(rt: &(impl Abort + AllocGlobal), rows: &[JournalRow]) -> Result<(), F
     Ok(())
 }
 
-/// All ten rows.
-fn fill(rt: &impl AllocGlobal, rows: &mut Rows) -> Result<(), Fail> {
-    rows.wait()?;
-    rows.send(rt)?;
-    rows.remove()
-}
-
 #[test]
 fn rows_that_end_inside_an_event_are_no_journal(rt: HostRuntime) -> Result<(), Fail> {
-    let mut rows = Rows {
-        rows: Vec::new(rt.alloc()),
-    };
-    fill(&rt, &mut rows)?;
-    are_cut(&rt, rows.rows.as_slice())
+    are_cut(&rt, rows_to(rt.alloc(), 10)?.as_slice())
 }
 
-/// The reply to bob goes to carol; and the text is too long for the limit.
-fn are_changed(rt: &(impl Abort + AllocGlobal), rows: &mut Rows) -> Result<(), Fail> {
+/// The text is too long for the limit; and the reply to bob goes to carol.
+#[test]
+fn other_clients_and_other_limits_are_told(rt: HostRuntime) -> Result<(), Fail> {
+    let mut rows = rows_to(rt.alloc(), 10)?;
     let limits = Limits {
         msg_max: 1,
         ..Limits::default()
     };
-    assert_eq!(rt; parted(rt, limits, rows.rows.as_slice())?, Some(5));
-    assert_eq!(rt; rows.rows.len(), 10);
-    rows.rows[6] = JournalRow::Answered {
-        client: CAROL,
-        place: 4,
-        turn: 1,
-        rule: None,
-    };
-    assert_eq!(rt;
-        parted(rt, Limits::default(), rows.rows.as_slice())?,
-        Some(6)
-    );
+    assert_eq!(rt; parted(&rt, limits, rows.as_slice())?, Some(5));
+    assert_eq!(rt; rows.len(), 10);
+    rows[6] = answered(CAROL, 4, 1, None);
+    assert_eq!(rt; parted(&rt, Limits::default(), rows.as_slice())?, Some(6));
     Ok(())
-}
-
-#[test]
-fn other_clients_and_other_limits_are_told(rt: HostRuntime) -> Result<(), Fail> {
-    let mut rows = Rows {
-        rows: Vec::new(rt.alloc()),
-    };
-    fill(&rt, &mut rows)?;
-    are_changed(&rt, &mut rows)
-}
-
-/// One more call behind the four rows that leave bob and carol waiting.
-fn one_more(
-    rt: &(impl Abort + AllocGlobal),
-    rows: &mut Rows,
-    client: u32,
-) -> Result<Option<u64>, Fail> {
-    rows.wait()?;
-    rows.receive(client)?;
-    parted(rt, Limits::default(), rows.rows.as_slice())
 }
 
 #[test]
@@ -201,10 +155,10 @@ fn a_client_that_waits_or_is_not_there_makes_no_call(rt: HostRuntime) -> Result<
         (CAROL, Some(4)),
         (3, Some(4)),
     ] {
-        let mut rows = Rows {
-            rows: Vec::new(rt.alloc()),
-        };
-        assert_eq!(rt; one_more(&rt, &mut rows, client)?, wanted, "{client}");
+        let mut rows = rows_to(rt.alloc(), 4)?;
+        rows.push(receive(client))?;
+        let found = parted(&rt, Limits::default(), rows.as_slice())?;
+        assert_eq!(rt; found, wanted, "{client}");
     }
     Ok(())
 }

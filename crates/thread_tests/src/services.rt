@@ -117,19 +117,22 @@ fn waiting(rt: &impl Abort, service: &Service, idle: Idle, call: Call) -> InFlig
     parked(rt, service, flight)
 }
 
-/// How a call ended, for which there was memory.
-fn outcome_in(reply: Reply) -> Result<Outcome, Fail> {
+/// The call was entered, and ended so.
+fn has_ended(reply: Reply, wanted: Outcome) -> bool {
     match reply {
-        Reply::Entered { outcome, .. } => Ok(outcome),
-        Reply::Memory => Err(Fail::from("memory was refused")),
+        Reply::Entered { outcome, .. } => outcome == wanted,
+        Reply::Memory => false,
     }
 }
 
-fn id_in(reply: Reply) -> Result<u32, Fail> {
-    match outcome_in(reply)? {
-        Ok(Answer::Id(id)) => Ok(id),
-        _ => Err(Fail::from("no identifier")),
-    }
+/// A client calls, passes, and has the reply that is wanted.
+fn replied(rt: &impl Abort, service: &Service, idle: Idle, call: Call, wanted: Outcome) -> Idle
+    requires { IsOf service.now.list idle.joined }
+    ensures { IsOf service.now.list result.joined }
+{
+    let (idle, reply) = served(rt, service, idle, call);
+    assert!(rt; has_ended(reply, wanted));
+    idle
 }
 
 fn get(key: u32) -> Call {
@@ -141,18 +144,20 @@ fn text(alloc: Global) -> Result<Items<u8>, AllocError> {
     Ok(Items::new(vec![in alloc; b'h', b'i']?))
 }
 
-fn send(alloc: Global, id: u32) -> Result<Call, AllocError> {
+/// A message to the first queue.
+fn send(alloc: Global) -> Result<Call, AllocError> {
     Ok(Call::MsgSnd {
-        id,
+        id: 0,
         mtype: 3,
         text: text(alloc)?,
         flags: 0,
     })
 }
 
-fn receive(id: u32, flags: u32) -> Call {
+/// A message of the first queue.
+fn receive(flags: u32) -> Call {
     Call::MsgRcv {
-        id,
+        id: 0,
         size: 10,
         msgtyp: 0,
         flags,
@@ -193,32 +198,14 @@ fn one_of_four_acts_alone_and_passes_each_time(rt: HostRuntime) -> Result<(), Fa
 fn with_memory_no_call_is_refused_for_it(rt: HostRuntime) -> Result<(), Fail> {
     let (service, clients) = service_for(&rt, 1)?;
     let mut idles = joined(&rt, &service, clients)?;
+    let text = message(rt.alloc())?;
+    let sent = send(rt.alloc())?;
     let alice = one_of(&rt, &service, &mut idles);
-    let (alice, got) = served(&rt, &service, alice, get(5));
-    let id = id_in(got)?;
-    let (alice, sent) = served(&rt, &service, alice, send(rt.alloc(), id)?);
-    assert_eq!(rt; outcome_in(sent)?, Ok(Answer::Done));
-    let (alice, received) = served(&rt, &service, alice, receive(id, 0));
-    assert_eq!(rt; outcome_in(received)?, message(rt.alloc())?);
-    let (alice, refused) = served(&rt, &service, alice, receive(id, IPC_NOWAIT));
-    assert_eq!(rt; outcome_in(refused)?, Err(Rule::NoMessage));
-    drop(alice);
-    Ok(())
-}
-
-#[test]
-fn a_receive_waits_until_another_sends(rt: HostRuntime) -> Result<(), Fail> {
-    let (service, clients) = service_for(&rt, 2)?;
-    let mut idles = joined(&rt, &service, clients)?;
-    let carol = one_of(&rt, &service, &mut idles);
-    let alice = one_of(&rt, &service, &mut idles);
-    let (alice, got) = served(&rt, &service, alice, get(5));
-    let id = id_in(got)?;
-    let carol = waiting(&rt, &service, carol, receive(id, 0));
-    let (_, sent) = served(&rt, &service, alice, send(rt.alloc(), id)?);
-    assert_eq!(rt; outcome_in(sent)?, Ok(Answer::Done));
-    let (_, received) = ended(&rt, &service, carol);
-    assert_eq!(rt; outcome_in(received)?, message(rt.alloc())?);
+    let alice = replied(&rt, &service, alice, get(5), Ok(Answer::Id(0)));
+    let alice = replied(&rt, &service, alice, sent, Ok(Answer::Done));
+    let alice = replied(&rt, &service, alice, receive(0), text);
+    let refused = Err(Rule::NoMessage);
+    drop(replied(&rt, &service, alice, receive(IPC_NOWAIT), refused));
     Ok(())
 }
 
@@ -236,7 +223,7 @@ fn a_pass_serves_who_was_heard_of_and_who_was_not(rt: HostRuntime) -> Result<(),
     bob.told(&service, &mut alice);
     let (_, bobs) = ended(&rt, &service, bob);
     let (_, carols) = ended(&rt, &service, carol);
-    assert!(rt; id_in(bobs)? != id_in(carols)?);
+    assert!(rt; is_granted(bobs) && is_granted(carols));
     Ok(())
 }
 
@@ -244,15 +231,14 @@ fn a_pass_serves_who_was_heard_of_and_who_was_not(rt: HostRuntime) -> Result<(),
 fn who_learns_of_a_sender_receives_its_message(rt: HostRuntime) -> Result<(), Fail> {
     let (service, clients) = service_for(&rt, 2)?;
     let mut idles = joined(&rt, &service, clients)?;
+    let text = message(rt.alloc())?;
+    let sent = send(rt.alloc())?;
     let mut bob = one_of(&rt, &service, &mut idles);
     let alice = one_of(&rt, &service, &mut idles);
-    let (alice, got) = served(&rt, &service, alice, get(5));
-    let id = id_in(got)?;
-    let (mut alice, sent) = served(&rt, &service, alice, send(rt.alloc(), id)?);
-    assert_eq!(rt; outcome_in(sent)?, Ok(Answer::Done));
+    let alice = replied(&rt, &service, alice, get(5), Ok(Answer::Id(0)));
+    let mut alice = replied(&rt, &service, alice, sent, Ok(Answer::Done));
     bob.learn(&service, &mut alice);
-    let (_, received) = served(&rt, &service, bob, receive(id, IPC_NOWAIT));
-    assert_eq!(rt; outcome_in(received)?, message(rt.alloc())?);
+    drop(replied(&rt, &service, bob, receive(IPC_NOWAIT), text));
     Ok(())
 }
 
@@ -261,29 +247,28 @@ fn all_waiting(
     rt: &(impl Abort + AllocGlobal),
     service: &Service,
     idles: Vec<Idle>,
-    id: u32,
 ) -> Result<Vec<InFlight>, Fail>
     requires { All (λ i. IsOf service.now.list i.joined) idles.items }
     ensures { IfOk result (λ m. All (λ f. IsOf service.now.list f.joined) m.items) }
 {
     let mut flights = Vec::new(rt.alloc());
     for idle in idles {
-        flights.push(waiting(rt, service, idle, receive(id, 0)))?;
+        flights.push(waiting(rt, service, idle, receive(0)))?;
     }
     Ok(flights)
 }
 
 /// How many of the calls have ended, as the queue is gone.
-fn count_removed(rt: &impl Abort, service: &Service, flights: Vec<InFlight>) -> Result<usize, Fail>
+fn count_removed(rt: &impl Abort, service: &Service, flights: Vec<InFlight>) -> usize
     requires { All (λ f. IsOf service.now.list f.joined) flights.items }
 {
     let mut count: usize = 0;
     for flight in flights {
         let (_, reply) = ended(rt, service, flight);
-        assert_eq!(rt; outcome_in(reply)?, Err(Rule::Removed));
+        assert!(rt; has_ended(reply, Err(Rule::Removed)));
         count = count.wrapping_add(1);
     }
-    Ok(count)
+    count
 }
 
 #[test]
@@ -291,13 +276,17 @@ fn one_event_ends_sixty_three_waiting_calls(rt: HostRuntime) -> Result<(), Fail>
     let (service, clients) = service_for(&rt, 64)?;
     let mut idles = joined(&rt, &service, clients)?;
     let alice = one_of(&rt, &service, &mut idles);
-    let (alice, got) = served(&rt, &service, alice, get(5));
-    let id = id_in(got)?;
-    let flights = all_waiting(&rt, &service, idles, id)?;
-    let kind = Kind::Queue;
-    let (_, removed) = served(&rt, &service, alice, Call::IpcRmid { kind, id });
-    assert_eq!(rt; outcome_in(removed)?, Ok(Answer::Done));
-    assert_eq!(rt; count_removed(&rt, &service, flights)?, 63);
+    let alice = replied(&rt, &service, alice, get(5), Ok(Answer::Id(0)));
+    let flights = all_waiting(&rt, &service, idles)?;
+    let (kind, id) = (Kind::Queue, 0);
+    drop(replied(
+        &rt,
+        &service,
+        alice,
+        Call::IpcRmid { kind, id },
+        Ok(Answer::Done),
+    ));
+    assert_eq!(rt; count_removed(&rt, &service, flights), 63);
     Ok(())
 }
 
@@ -334,6 +323,12 @@ fn one_of_each(
     Ok(clients)
 }
 
+/// Alice has made a queue, and bob, who is client 1, waits.
+fn check_closed(rt: &impl Abort, space: &Space) {
+    assert!(rt; space.events() == 2 && space.journal().len() == 3);
+    assert!(rt; space.is_waiting(1));
+}
+
 #[test]
 fn a_service_closes_while_a_call_waits(rt: HostRuntime) -> Result<(), Fail> {
     let (service, mut clients) = service_for(&rt, 3)?;
@@ -341,13 +336,10 @@ fn a_service_closes_while_a_call_waits(rt: HostRuntime) -> Result<(), Fail> {
     let mut idles = joined(&rt, &service, clients)?;
     let bob = one_of(&rt, &service, &mut idles);
     let alice = one_of(&rt, &service, &mut idles);
-    let (alice, got) = served(&rt, &service, alice, get(5));
-    let bob = waiting(&rt, &service, bob, receive(id_in(got)?, 0));
+    let alice = replied(&rt, &service, alice, get(5), Ok(Answer::Id(0)));
+    let bob = waiting(&rt, &service, bob, receive(0));
     let clients = one_of_each(rt.alloc(), &service, carol, alice, bob)?;
-    let space = service.close(clients);
-    assert_eq!(rt; space.events(), 2);
-    assert_eq!(rt; space.journal().len(), 3);
-    assert!(rt; space.is_waiting(1), "bob is client 1");
+    check_closed(&rt, &service.close(clients));
     Ok(())
 }
 
@@ -427,6 +419,7 @@ fn check_journal(rt: &impl Abort, space: &Space, clients: u32) {
     let mut calls = [0u64; 64];
     let mut answers = [0u64; 64];
     assert!(rt; clients <= 64);
+    assert_eq!(rt; space.events(), u64::from(clients) * ROUNDS);
     for row in space.journal() {
         match *row {
             JournalRow::Called { client, now, .. } => {
@@ -453,9 +446,7 @@ fn run<R: Threads + Sync + Wait + Abort + AllocGlobal>(rt: &R, count: u32) -> Re
 {
     let (service, clients) = service_for(rt, count)?;
     let asked = in_threads(rt, &service, clients)?;
-    let space = closed(rt, service, asked)?;
-    assert_eq!(rt; space.events(), u64::from(count) * ROUNDS);
-    check_journal(rt, &space, count);
+    check_journal(rt, &closed(rt, service, asked)?, count);
     Ok(())
 }
 
@@ -566,10 +557,6 @@ fn who_stands_still_in_a_pass_leaves_the_others_busy(rt: HostRuntime) -> Result<
     assert_eq!(rt; alice.busy, None);
     assert_eq!(rt; bob.busy, Some(2));
     let (_, got) = ended(&rt, &service, carol);
-    let id = id_in(got)?;
-    let (_, sent) = served(&rt, &service, bob.idle, send(rt.alloc(), id)?);
-    assert_eq!(rt; outcome_in(sent)?, Ok(Answer::Done));
-    let (_, received) = served(&rt, &service, alice.idle, receive(id, IPC_NOWAIT));
-    assert_eq!(rt; outcome_in(received)?, message(rt.alloc())?);
+    assert!(rt; has_ended(got, Ok(Answer::Id(0))));
     Ok(())
 }
