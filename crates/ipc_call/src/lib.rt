@@ -3,6 +3,7 @@
 //! turns, the journal, slots and the ranges of limits that Linux doesn't bound are the project's own.
 #![tactic(auto)]
 
+mod boxed;
 mod calls;
 mod error;
 mod flags;
@@ -14,6 +15,7 @@ mod replies;
 mod rules;
 mod settings;
 
+pub use boxed::Boxed;
 pub use calls::{Call, Kind, SemOper};
 pub use error::Errno;
 pub use flags::{

@@ -1,5 +1,6 @@
 //! What a call is answered, and the rows of the journal.
 
+use crate::boxed::Boxed;
 use crate::calls::Call;
 use crate::items::Items;
 use crate::listings::Row;
@@ -90,7 +91,7 @@ pub enum Answer {
     /// The message that was received: its type, at least 1, and its text.
     Message { mtype: i64, text: Items<u8> },
     /// The state of an object.
-    Status(Status),
+    Status(Boxed<Status>),
     /// What a semaphore of a set has.
     Value(u32),
     /// The values of all semaphores of a set.

@@ -1,6 +1,6 @@
 // The controls of objects of any kind, IPC_STAT, IPC_SET and IPC_RMID (msgctl(2), semctl(2), shmctl(2)).
 
-ghost use Rattle.std.specs.Prelude.{◌≡◌, ℕ, ◌+◌, ◌<◌, ◌≤◌, [], ⊤, length, vec_len, vec_capacity, Some, IsSome};
+ghost use Rattle.std.specs.Prelude.{◌≡◌, ℕ, ◌+◌, ◌<◌, ◌≤◌, [], ⊤, length, vec_len, vec_capacity, IfOk, Some, IsSome};
 ghost use Rattle.ipc_model.specs.State.{creds_at};
 ghost use Rattle.ipc_model.specs.Decision.{left_by, outcome_of};
 ghost use Rattle.ipc_model.specs.Plan.{decision};
@@ -12,7 +12,7 @@ ghost use Rattle.ipc_model.specs.Decision.{without_answer};
 use crate::cancelling::Cancelling;
 use crate::namespace::Namespace;
 use bitflags::Flags;
-use ipc_call::{Answer, Call, Ended, Kind, Outcome, Rule, Settings, Status};
+use ipc_call::{Answer, Boxed, Call, Ended, Kind, Memory, Outcome, Rule, Settings, Status};
 use ipc_creds::{Caps, Creds};
 use ipc_perm::{Perm, TO_READ, Verdict, decide, may_control};
 
@@ -27,18 +27,21 @@ pub(super) fn allowed(verdict: Verdict) -> Result<(), Rule>
 }
 
 impl Namespace {
-    /// IPC_STAT.
+    /// IPC_STAT. The error comes only where an allocation fails.
     #[tactic(auto, unfolding(ipc_model::specs::Decide::part_plan))]
-    pub(super) fn stat(&self, client: u32, kind: Kind, id: u32) -> Outcome
+    pub(super) fn stat(&self, client: u32, kind: Kind, id: u32) -> Result<Outcome, Memory>
         requires known { client < length self.now.clients }
-        ensures outcome { outcome_of (decision_on self.now client (Call.IpcStat kind id)) ≡ Some result }
+        ensures outcome { IfOk result (λ outcome. outcome_of (decision_on self.now client (Call.IpcStat kind id)) ≡ Some outcome) }
         ensures same { left_by self.now (decision_on self.now client (Call.IpcStat kind id)) ≡ self.now }
     {
         let Some((perm, status)) = self.status_of(kind, id) else {
-            return Err(Rule::BadId);
+            return Ok(Err(Rule::BadId));
         };
-        allowed(decide(&self.clients[client as usize], &perm, TO_READ))?;
-        Ok(Answer::Status(status))
+        if let Verdict::Denied(rule) = decide(&self.clients[client as usize], &perm, TO_READ) {
+            return Ok(Err(rule));
+        }
+        let status = Boxed::new(*self.clients.allocator(), status)?;
+        Ok(Ok(Answer::Status(status)))
     }
 
     /// The permissions and the state of the object of an identifier.

@@ -324,7 +324,7 @@ impl Namespace {
             | Call::ShmDt { .. }
             | Call::ShmRead { .. }
             | Call::ShmWrite { .. } => Ok(Some(self.on_segments(client, call)?)),
-            Call::IpcStat { kind, id } => Ok(Some(self.stat(client, *kind, *id))),
+            Call::IpcStat { kind, id } => Ok(Some(self.stat(client, *kind, *id)?)),
             Call::IpcSet {
                 kind,
                 id,

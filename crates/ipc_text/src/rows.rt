@@ -1,6 +1,6 @@
 // The rows that a script prints.
 
-ghost use Rattle.std.specs.Prelude.{◌≡◌, ◌++◌, OnOk, string_bytes};
+ghost use Rattle.std.specs.Prelude.{◌≡◌, ◌++◌, Ok, OnOk, string_bytes};
 ghost use Rattle.ipc_text.specs.Rows.{bad_row, error_text, name_of_reason, outcome_text, reply_row, row_head, waits_row};
 ghost use Rattle.ipc_text.specs.Rows.{message_text, queue_text, perm_text, key_text, mode_text, owners_text, contents_text, times_text};
 ghost use Rattle.ipc_text.specs.Rows.{bytes_text, hex_text, memory_text, owned_text, segment_mode as mode_with_mark, segment_text, set_text, values_text};
@@ -69,9 +69,7 @@ fn print_outcome(rows: &mut String, outcome: &Outcome) -> Result<(), Memory>
         Ok(Answer::Id(id)) => write!(rows, "id {id}\n"),
         Ok(Answer::Done) => rows.push_str("ok\n"),
         Ok(Answer::Message { mtype, text }) => print_message(rows, *mtype, text.as_slice()),
-        Ok(Answer::Status(Status::Queue(status))) => print_queue(rows, *status),
-        Ok(Answer::Status(Status::Set(status))) => print_set(rows, *status),
-        Ok(Answer::Status(Status::Segment(status))) => print_segment(rows, *status),
+        Ok(Answer::Status(status)) => print_status(rows, status.get()),
         Ok(Answer::Value(value)) => write!(rows, "value {value}\n"),
         Ok(Answer::Values(values)) => print_values(rows, values.as_slice()),
         Ok(Answer::Attached(att)) => write!(rows, "attached {att}\n"),
@@ -174,6 +172,17 @@ fn print_values(rows: &mut String, values: &[u16]) -> Result<(), Memory>
         write!(rows, " {value}")?;
     }
     rows.push_str("\n")
+}
+
+/// Appends the state of an object, by its kind.
+fn print_status(rows: &mut String, status: &Status) -> Result<(), Memory>
+    ensures { OnOk result (string_bytes rows.new ≡ string_bytes rows.old ++ outcome_text (Ok (Answer.Status status.now))) }
+{
+    match *status {
+        Status::Queue(queue) => print_queue(rows, queue),
+        Status::Set(set) => print_set(rows, set),
+        Status::Segment(segment) => print_segment(rows, segment),
+    }
 }
 
 fn print_queue(rows: &mut String, status: QueueStatus) -> Result<(), Memory>

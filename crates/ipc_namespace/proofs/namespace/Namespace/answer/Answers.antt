@@ -53,12 +53,12 @@ returns-in-MsgRcv-clause-ended c =
     let n = c.in-MsgRcv in
     c.requires.empty ∙ none-ended c.args.self.now c.args.client c.args.call.now (MsgRcv n.id n.size n.msgtyp n.flags) n.is (λ new w. refl)
 
-pub returns-in-IpcStat-clause-state : goal.returns-in-IpcStat-clause-state
-returns-in-IpcStat-clause-state c =
-    sym (ap (λ (m : Moved). m.state) (moved-nothing c.args.self.now c.args.client c.args.call.now (IpcStat c.in-IpcStat.kind c.in-IpcStat.id) c.in-IpcStat.is (λ new w. refl) c.stat.ensures.same))
+pub returns-in_ok-stat-in-IpcStat-clause-state : goal.returns-in_ok-stat-in-IpcStat-clause-state
+returns-in_ok-stat-in-IpcStat-clause-state c =
+    sym (ap (λ (m : Moved). m.state) (moved-nothing c.args.self.now c.args.client c.args.call.now (IpcStat c.in-IpcStat.kind c.in-IpcStat.id) c.in-IpcStat.is (λ new w. refl) c.in_ok-stat-in-IpcStat.ensures.same))
 
-pub returns-in-IpcStat-clause-ended : goal.returns-in-IpcStat-clause-ended
-returns-in-IpcStat-clause-ended c =
+pub returns-in_ok-stat-in-IpcStat-clause-ended : goal.returns-in_ok-stat-in-IpcStat-clause-ended
+returns-in_ok-stat-in-IpcStat-clause-ended c =
     c.requires.empty ∙ none-ended c.args.self.now c.args.client c.args.call.now (IpcStat c.in-IpcStat.kind c.in-IpcStat.id) c.in-IpcStat.is (λ new w. refl)
 
 pub returns-in_ok-list-in-Listing-clause-state : goal.returns-in_ok-list-in-Listing-clause-state
