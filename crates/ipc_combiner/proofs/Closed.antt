@@ -5,7 +5,7 @@ use Rattle.ipc_call.specs.declared.calls.Call.{Call}
 use Rattle.ipc_call.specs.declared.replies.Reply.{Reply}
 use Rattle.ipc_model.specs.State.{State, opening}
 use Rattle.ipc_model.specs.Step.{Event, step}
-use Rattle.ipc_model.specs.History.{History, IsLegal, AreLegalFrom}
+use Rattle.ipc_history.specs.History.{History, IsLegal, AreLegalFrom}
 use Rattle.ipc_model.proofs.Keeping.{Follows-step}
 use Rattle.pub_rule.specs.declared.work.Closed.{Closed}
 use Rattle.pub_rule.specs.declared.work.Stage.{Stage}

@@ -11,8 +11,8 @@ use Rattle.ipc_model.specs.State.{is_waiting}
 use Rattle.ipc_space.specs.declared.spaces.Effects.{Effects}
 use Rattle.ipc_model.specs.Step.{Event}
 use Rattle.ipc_model.specs.Decision.{Outcome}
-use Rattle.ipc_model.specs.History.{History, IsLegal, next_step, with_event, told_by}
-use Rattle.ipc_model.specs.History as model
+use Rattle.ipc_history.specs.History.{History, IsLegal, next_step, with_event, told_by}
+use Rattle.ipc_history.specs.History as model
 use Rattle.ipc_space.specs.Spaces.{own_reply, other_replies}
 use Rattle.ipc_space.specs.Telling.{told_to, told_of, replies_in}
 use Rattle.ipc_space.proofs.Balance.{told_once, told_known, replies_push, is_free}

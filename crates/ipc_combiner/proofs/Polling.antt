@@ -4,7 +4,7 @@ use Rattle.std.specs.Prelude.{filter, ◌==◌}
 use Rattle.ipc_call.specs.declared.calls.Call.{Call}
 use Rattle.ipc_call.specs.declared.replies.Reply.{Reply}
 use Rattle.ipc_call.specs.declared.replies.Reply.TheVariants.{Entered, Memory}
-use Rattle.ipc_model.specs.History.{Told, answers, reply_of}
+use Rattle.ipc_history.specs.History.{Told, answers, reply_of}
 use Rattle.pub_rule.specs.declared.work.Work.{Work}
 use Rattle.pub_rule.specs.declared.work.Stage.TheVariants.{Asking}
 use Rattle.pub_rule.specs.Work.{GoesOn}

@@ -2,7 +2,7 @@
 use Rattle.std.specs.Prelude.{◌≡◌, ◌⊎◌, ℕ, ◌<◌, ◌≤◌, List, [], ◌∷◌, ◌++◌, All}
 use Rattle.ipc_call.specs.declared.calls.Call.{Call}
 use Rattle.ipc_call.specs.declared.replies.Reply.{Reply}
-use Rattle.ipc_model.specs.History.{History}
+use Rattle.ipc_history.specs.History.{History}
 use Rattle.pub_rule.specs.declared.work.Work.{Work}
 use Rattle.pub_rule.specs.declared.work.Stage.TheVariants.{Asking}
 use Rattle.pub_rule.specs.Lists.{IsOn}

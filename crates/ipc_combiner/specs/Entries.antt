@@ -5,8 +5,8 @@ use Rattle.ipc_call.specs.declared.calls.Call.{Call}
 use Rattle.ipc_call.specs.declared.calls.Call.TheVariants.{MsgGet}
 use Rattle.ipc_call.specs.declared.replies.Reply.{Reply}
 use Rattle.ipc_model.specs.Step.{Event}
-use Rattle.ipc_model.specs.History.{History, IsLegal}
-use Rattle.ipc_model.specs.History as model
+use Rattle.ipc_history.specs.History.{History, IsLegal}
+use Rattle.ipc_history.specs.History as model
 use Rattle.ipc_combiner.specs.declared.entries.Entry.{Entry}
 use Rattle.ipc_combiner.specs.declared.entries.Entry.TheVariants.{Opened, Called}
 

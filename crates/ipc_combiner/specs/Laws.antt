@@ -4,8 +4,8 @@ use Rattle.std.proofs.Common.{refl, sym, ap, ◌∙◌, subst, inl, inr, arith, 
 use Rattle.std.specs.Prelude.{◌==◌}
 use Rattle.ipc_call.specs.declared.replies.Reply.{Reply}
 use Rattle.ipc_model.specs.Step.{Event}
-use Rattle.ipc_model.specs.History.{History, IsLegal, with_event}
-use Rattle.ipc_model.specs.History as model
+use Rattle.ipc_history.specs.History.{History, IsLegal, with_event}
+use Rattle.ipc_history.specs.History as model
 use Rattle.ipc_space.specs.Telling.{told_of, replies_in}
 use Rattle.ipc_space.proofs.Balance.{own_push, replies_push, told_once, no_more_replies}
 use Rattle.pub_rule.specs.Work.{GoesOn}

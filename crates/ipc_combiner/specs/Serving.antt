@@ -3,7 +3,7 @@ use Rattle.std.specs.Prelude.{◌≡◌, ◌⊎◌, ℕ, ◌<◌, List, [], ◌�
 use Rattle.ipc_call.specs.declared.calls.Call.{Call}
 use Rattle.ipc_call.specs.declared.replies.Reply.{Reply}
 use Rattle.ipc_model.specs.Step.{Event}
-use Rattle.ipc_model.specs.History.{History, IsLegal, with_event}
+use Rattle.ipc_history.specs.History.{History, IsLegal, with_event}
 use Rattle.ipc_space.specs.Telling.{told_of, replies_in}
 use Rattle.pub_rule.specs.declared.walk.View.{View}
 use Rattle.pub_rule.specs.declared.work.Work.{Work}

@@ -11,7 +11,7 @@ use Rattle.pub_list.specs.declared.joined.Joined.{Joined}
 use Rattle.pub_list.specs.declared.lists.List.{List as Listing}
 use Rattle.pub_list.specs.Clients.{first_seen, work, BelongsTo, IsFreshOf}
 use Rattle.pub_list.specs.Opening.{opening_of}
-use Rattle.ipc_model.specs.History.{History}
+use Rattle.ipc_history.specs.History.{History}
 use Rattle.ipc_combiner.specs.declared.entries.Entry.{Entry}
 use Rattle.ipc_combiner.specs.declared.shared.Shared.{Shared}
 use Rattle.ipc_combiner.specs.Entries.{entries_of, own, replies}

@@ -1,6 +1,6 @@
 //! The service is closed: its clients are handed in, and the namespace comes back.
 ghost use Rattle.std.specs.Prelude.{◌≡◌, false, length, All};
-ghost use Rattle.ipc_model.specs.History.{IsLegal};
+ghost use Rattle.ipc_history.specs.History.{IsLegal};
 ghost use Rattle.ipc_combiner.specs.Entries.{entries_of};
 ghost use Rattle.pub_list.specs.Closing.{list_of, work_of as end_work};
 ghost use Rattle.ipc_combiner.specs.Closing.{work_of, IsClientOf, IsOpenedBy, IsTold};

@@ -1,6 +1,6 @@
 //! How a combiner serves a posted call: the namespace decides on it, and its replies are handed out.
 ghost use Rattle.std.specs.Prelude.{◌≡◌, ◌<◌, length, IfOk, OnErr, box_value};
-ghost use Rattle.ipc_model.specs.History.{IsLegal};
+ghost use Rattle.ipc_history.specs.History.{IsLegal};
 ghost use Rattle.pub_rule.specs.WorkSteps.{with_work, paying};
 ghost use Rattle.pub_list.specs.Clients.{view, work, BelongsTo, IsSame};
 ghost use Rattle.pub_list.specs.Passing.{IsAsFar};

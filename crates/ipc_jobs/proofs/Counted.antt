@@ -10,7 +10,7 @@ use Rattle.ipc_call.specs.declared.replies.Reply.TheVariants.{Entered}
 use Rattle.ipc_model.specs.Decision.{Outcome}
 use Rattle.ipc_model.specs.State.{State, opening}
 use Rattle.ipc_model.specs.Step.{Event, step}
-use Rattle.ipc_model.specs.History.{History, Told, answered_row, answers, answers_from, own, replies, reply_of, rows_from, rows_of, rule_in, told_by}
+use Rattle.ipc_history.specs.History.{History, Told, answered_row, answers, answers_from, own, replies, reply_of, rows_from, rows_of, rule_in, told_by}
 use Rattle.ipc_jobs.specs.Courses.{is_refusal}
 use Rattle.ipc_jobs.specs.Rows.{is_call_of, is_refusal_of}
 

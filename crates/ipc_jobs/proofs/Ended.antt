@@ -6,8 +6,8 @@ use Rattle.std.specs.List.{slice_get, zip}
 use Rattle.std.proofs.lemmas.List.Elements.{All-cons, All-head, All-nil, All-tail}
 use Rattle.ipc_call.specs.declared.calls.Call.{Call}
 use Rattle.ipc_call.specs.declared.replies.Reply.{Reply}
-use Rattle.ipc_model.specs.History.{History}
-use Rattle.ipc_model.specs.History as model
+use Rattle.ipc_history.specs.History.{History}
+use Rattle.ipc_history.specs.History as model
 use Rattle.pub_list.specs.Clients.{work}
 use Rattle.ipc_combiner.specs.declared.closing.Client.{Client}
 use Rattle.ipc_combiner.specs.declared.states.Unjoined.{Unjoined}

@@ -4,7 +4,7 @@ use Rattle.std.specs.List.{slice_get}
 use Rattle.ipc_call.specs.declared.calls.Call.{Call}
 use Rattle.ipc_call.specs.declared.replies.Reply.{Reply}
 use Rattle.ipc_call.specs.declared.replies.Reply.TheVariants.{Entered}
-use Rattle.ipc_model.specs.History.{History, own, replies}
+use Rattle.ipc_history.specs.History.{History, own, replies}
 use Rattle.ipc_commands.specs.declared.jobs.Job.{Job}
 use Rattle.ipc_jobs.specs.Calls.{Replied, AreCallsOf, calls_in, parts_in, replies_in}
 

@@ -2,7 +2,7 @@
 ghost use Rattle.std.specs.Prelude.{◌≡◌, ◌≤◌, All, count_by, length, map, vec_len, IfOk, IsTrue};
 ghost use Rattle.std.specs.List.{zip};
 ghost use Rattle.ipc_call.specs.Limits.{are_in_range};
-ghost use Rattle.ipc_model.specs.History.{IsLegal};
+ghost use Rattle.ipc_history.specs.History.{IsLegal};
 ghost use Rattle.ipc_combiner.specs.States.{IsUnjoinedOf};
 ghost use Rattle.ipc_jobs.specs.Courses.{AreCounts, HaveGone};
 ghost use Rattle.ipc_jobs.specs.Working.{AreEnds, IsEndOf, client_of, worker_of};

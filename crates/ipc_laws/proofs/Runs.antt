@@ -7,7 +7,7 @@ use Rattle.ipc_call.specs.declared.replies.Waiting.{Waiting}
 use Rattle.ipc_creds.specs.Credentials.{Credentials}
 use Rattle.ipc_model.specs.State.{State, creds_at, is_waiting}
 use Rattle.ipc_model.specs.Decide.{waits_at}
-use Rattle.ipc_model.specs.History.{AreLegalFrom, run_from}
+use Rattle.ipc_history.specs.History.{AreLegalFrom, run_from}
 use Rattle.ipc_model.specs.Step.{Event, at_time, moved_by, step}
 use Rattle.ipc_model.specs.Waits.{AreNotReady}
 use Rattle.ipc_model.proofs.Keeping.{Follows-step}

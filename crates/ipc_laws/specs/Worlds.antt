@@ -21,7 +21,7 @@ use Rattle.ipc_model.specs.State.{Queue, Queues, Segment, SemSet, Sems, Shared, 
 use Rattle.ipc_model.specs.Decision.{Outcome}
 use Rattle.ipc_model.specs.Decide.{waits_at}
 use Rattle.ipc_model.specs.Step.{Event, Stepped, step}
-use Rattle.ipc_model.specs.History.{AreLegalFrom, run_from}
+use Rattle.ipc_history.specs.History.{AreLegalFrom, run_from}
 use Rattle.ipc_model.specs.Waits.{AreNotReady, WaitOnce}
 
 -- no right on an object, no control of it, and no capability that overrides rights

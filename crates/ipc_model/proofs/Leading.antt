@@ -12,13 +12,13 @@ use Rattle.ipc_ids.proofs.Sound.{get-insert-other, get-insert-same}
 use Rattle.ipc_objects.specs.declared.object.Object.{Object}
 use Rattle.ipc_objects.specs.Objects.{changed, with_perm}
 use Rattle.shm_seg.specs.declared.attachments.Attachment.{Attachment}
-use Rattle.shm_seg.specs.Attachments.{Attached, attach_count, attachment_at, free_number, with_attachment, without_attachment}
+use Rattle.shm_seg.specs.Attachments.{Attached, attach_count, attachment_at, free_number, without_attachment}
 use Rattle.shm_seg.proofs.Changes.{attached_count, detached_count_other, free_there}
 use Rattle.ipc_model.specs.State.{Caller, Segment, Shared}
 use Rattle.ipc_model.specs.Controls.{marked, without_segment}
 use Rattle.ipc_model.specs.Attached.{AreAttached}
 use Rattle.ipc_model.specs.Segments.{attached_by, detached, detached_by, detached_from, left_segments, segment_at, with_attached, with_bytes, without_number}
-use Rattle.ipc_model.proofs.Growing.{Grows, Grows-changed, Grows-gone, Grows-new, Grows-same, Leads, Leads-on, Leads-same}
+use Rattle.ipc_model.proofs.Growing.{Grows-changed, Grows-gone, Grows-new, Grows-same, Leads, Leads-on, Leads-same}
 
 module _ (t : Table (Object Segment)) (id : ℕ) where
   -- an object is there that isn't the one at the identifier, or is that one

@@ -1,8 +1,6 @@
-pub mod Access
 pub mod Alike
 pub mod Calls
 pub mod Growing
 pub mod Keeping
 pub mod Leading
-pub mod Naming
 pub mod Plans

@@ -33,7 +33,8 @@ waits_for sems id which client call = false
 
 -- GETNCNT and GETZCNT: each waiting semop is counted where it stops now
 abbrev pub get_waiting : State → ℕ → ℕ → (SemOper → Bool) → Plan Sems
-get_waiting s id num which = look s.sems id num (λ semaphores. count_by (λ w. waits_for s.sems id which w.client w.call) s.parked)
+get_waiting s id num which =
+    look s.sems id num (λ _. count_by (λ w. waits_for s.sems id which w.client w.call) s.parked)
 
 -- it waits for the value to rise, or to become 0
 abbrev pub is_negative : ℕ → SemOper → Bool

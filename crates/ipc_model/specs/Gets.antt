@@ -1,6 +1,6 @@
--- The gets: the object of a key, or a new one (msgget(2), semget(2), shmget(2), POSIX.1-2017 XSH). With a key that an object has:
--- IPC_CREAT with IPC_EXCL is refused, then the rights that the flags ask for are needed. With any other key: IPC_CREAT
--- is needed, and then a slot. Key 0 is IPC_PRIVATE: no object has it, and it needs no IPC_CREAT.
+-- The gets: the object of a key, or a new one (msgget(2), semget(2), shmget(2), POSIX.1-2017 XSH). With a key that an
+-- object has: IPC_CREAT with IPC_EXCL is refused, then the rights that the flags ask for are needed. With any other
+-- key: IPC_CREAT is needed, and then a slot. Key 0 is IPC_PRIVATE: no object has it, and it needs no IPC_CREAT.
 use Rattle.std.specs.Prelude.{ℕ, ◌%◌, ◌==◌, nat_le, nat_lt, false, not, ◌&&◌, ◌||◌, List, [], ◌∷◌, length, replicate, Option, Some, None}
 use Rattle.ipc_call.specs.Flags.{has_flag, ipc_creat, ipc_excl}
 use Rattle.ipc_call.specs.declared.limits.Limits.{Limits}

@@ -1,13 +1,10 @@
-pub mod Access
 pub mod Attached
 pub mod Cancelled
 pub mod Controls
 pub mod Decide
 pub mod Decision
 pub mod Gets
-pub mod History
 pub mod Listings
-pub mod Made
 pub mod Messages
 pub mod Plan
 pub mod Processes

@@ -85,10 +85,7 @@ decision c (Grant answer new) = decisions.Grant answer new
 
 -- what these checks alone give: all pass, or a rule refuses, or the call waits
 abbrev pub passed : Credentials → List Check → Option (Result ⊤ Rule)
-passed c checks = without_answer (decision c (in_order checks nothing))
-  where
-    nothing : Plan ⊤
-    nothing = Grant Done tt
+passed c checks = without_answer (decision c (in_order checks (Grant Done (tt {0}))))
 
 -- the checks of a plan, and the needs among them
 abbrev pub checks_in : {X : Type 0} → Plan X → List Check

@@ -1,5 +1,5 @@
--- The calls on processes: interrupts, the end of a waiting call as a caught signal brings it (EINTR of msgop(2); the call
--- is the project's own), and exit (_exit(2); semop(2), SEM_UNDO; shmop(2)).
+-- The calls on processes: interrupts, the end of a waiting call as a caught signal brings it (EINTR of msgop(2); the
+-- call is the project's own), and exit (_exit(2); semop(2), SEM_UNDO; shmop(2)).
 use Rattle.std.specs.Prelude.{ℕ, ◌-◌, ◌==◌, [], ◌∷◌, ◌++◌, Option, None, if◌then◌else◌, slice_get}
 use Rattle.ipc_call.specs.declared.rules.Rule.TheVariants.{NoProcess}
 use Rattle.ipc_call.specs.declared.replies.Answer.TheVariants.{Done}

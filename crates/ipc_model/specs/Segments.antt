@@ -1,7 +1,7 @@
 -- shmat, shmdt, and the bytes behind an attachment (shmop(2); that an attachment is a number, with reads and writes at
--- offsets in the place of mapped memory, is the project's own). shmat: the segment is there; the caller may read it, and
--- alter it without SHM_RDONLY; it has a number free. The others: the caller has the attachment; a write asks that it isn't
--- read-only; a read or write is all within the segment.
+-- offsets in the place of mapped memory, is the project's own). shmat: the segment is there; the caller may read it,
+-- and alter it without SHM_RDONLY; it has a number free. The others: the caller has the attachment; a write asks that
+-- it isn't read-only; a read or write is all within the segment.
 use Rattle.std.specs.Prelude.{ℕ, zero, suc, ◌+◌, ◌==◌, true, not, ◌&&◌, List, length, Option, Some, None, option_and_then, option_map, if◌then◌else◌}
 use Rattle.std.specs.FinMap as finite
 use Rattle.ipc_call.specs.Flags.{has_flag, shm_rdonly}

@@ -1,9 +1,9 @@
--- semop (semop(2), POSIX.1-2017 XSH), the values of a set (semctl(2)), and what exit undoes. semop: there are operations,
--- at most SEMOPM; the set is there; the caller may read it where an operation is 0, and alter it where one isn't; each
--- names one of its semaphores; then the operations are tried in their order. The values: the set is there; the caller may
--- read or alter it; the semaphore is there, or as many values are given as it has semaphores; a value that is set is asked
--- for its range first.
-use Rattle.std.specs.Prelude.{ℕ, ◌==◌, nat_le, nat_lt, ℤ, pos, ◌+ℤ◌, ◌-ℤ◌, int_lt, Bool, true, not, ◌&&◌, List, [], ◌∷◌, ◌++◌, length, map, slice_get, slice_set, Option, option_map, unwrap_or, if◌then◌else◌}
+-- semop (semop(2), POSIX.1-2017 XSH), the values of a set (semctl(2)), and what exit undoes. semop: there are
+-- operations, at most SEMOPM; the set is there; the caller may read it where an operation is 0, and alter it where one
+-- isn't; each names one of its semaphores; then the operations are tried in their order. The values: the set is there;
+-- the caller may read or alter it; the semaphore is there, or as many values are given as it has semaphores; a value
+-- that is set is asked for its range first.
+use Rattle.std.specs.Prelude.{ℕ, ◌==◌, nat_le, nat_lt, ℤ, pos, ◌+ℤ◌, ◌-ℤ◌, int_lt, Bool, true, not, ◌&&◌, List, [], ◌∷◌, ◌++◌, length, map, slice_get, slice_set, Option, None, option_map, unwrap_or, if◌then◌else◌}
 use Rattle.std.specs.List.{list_all, list_any}
 use Rattle.std.specs.Ordering.{int_eq}
 use Rattle.std.specs.FinMap as finite
@@ -143,17 +143,17 @@ operate limits sems who id ops =
 
 -- the operation at which a semop stops, where it waits
 abbrev pub stops_at : List SemOper → Trial → Option SemOper
-stops_at ops trials.Go = Option.None
+stops_at ops trials.Go = None
 stops_at ops (trials.Wait place) = slice_get ops place
-stops_at ops (trials.Refuse rule) = Option.None
+stops_at ops (trials.Refuse rule) = None
 
 abbrev pub stopping_on : (ℕ → ℤ) → List SemOper → List Semaphore → Option SemOper
-stopping_on adj ops sems = if are_in sems ops then stops_at ops (trial_on sems adj ops) else Option.None
+stopping_on adj ops sems = if are_in sems ops then stops_at ops (trial_on sems adj ops) else None
 
 -- of a client on the set of an identifier
 abbrev pub stopping : Sems → ℕ → ℕ → List SemOper → Option SemOper
 stopping sems client id ops = unwrap_or
-    (option_map (λ set. stopping_on (adj_of sems.undo client id) ops set.contents.semaphores) (set_at sems id)) Option.None
+    (option_map (λ set. stopping_on (adj_of sems.undo client id) ops set.contents.semaphores) (set_at sems id)) None
 
 -- a set after the exit of a process, of which these are the semadj there
 abbrev pub undone_set : (ℕ → ℤ) → ℕ → ℕ → SemSet → SemSet
@@ -170,4 +170,5 @@ exited sems who id set = record set {
 
 -- each set, and the caller's entries go
 abbrev pub after_exit : Sems → Caller → Sems
-after_exit sems who = record { sets = map_entries (exited sems who) sems.sets; undo = without_client sems.undo who.client }
+after_exit sems who =
+    record { sets = map_entries (exited sems who) sems.sets; undo = without_client sems.undo who.client }

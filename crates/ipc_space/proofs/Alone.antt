@@ -7,7 +7,7 @@ use Rattle.ipc_model.specs.Decision.{Decision, Refuse, Wait, Grant, proceeds}
 use Rattle.ipc_model.specs.Decide.{decide}
 use Rattle.ipc_model.specs.Step.{Event, at_time, entered}
 use Rattle.ipc_model.specs.Decision.{outcome_of}
-use Rattle.ipc_model.specs.History.{History, run, next_step}
+use Rattle.ipc_history.specs.History.{History, run, next_step}
 use Rattle.ipc_namespace.proofs.Settling.{quiet-at_time, settled-none, still_quiet}
 use Rattle.ipc_space.proofs.Quiet.{IsQuiet, quiet-run}
 

@@ -38,7 +38,7 @@ use Rattle.ipc_model.specs.Controls.{is_within, perm_of, status_of, with_set}
 use Rattle.ipc_model.specs.Decide.{OnQueues, OnSems, OnShared, can_wait, decide, get_waiting, is_negative, is_zero, part_plan, plan, whole}
 use Rattle.ipc_model.specs.Cancelled.{cancelled}
 use Rattle.ipc_model.specs.Step.{Event, at_time, cancel, end_waiting, ended_by, entered, first_ready, is_ready, settle, settle_from, settled, told_cancelled, without}
-use Rattle.ipc_model.specs.History.{History, next_step, run}
+use Rattle.ipc_history.specs.History.{History, next_step, run}
 use Rattle.ipc_model.proofs.Calls.{Keeps-decide, only_parkable}
 use Rattle.ipc_model.proofs.Growing.{Keeps}
 use Rattle.ipc_model.proofs.Plans.{Ends, Ends-decision, Ends-found, Ends-on, Ends-order, IfGranted}

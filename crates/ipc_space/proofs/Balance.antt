@@ -18,7 +18,7 @@ use Rattle.ipc_model.specs.Decide.{decide}
 use Rattle.ipc_model.specs.Cancelled.{cancelled}
 use Rattle.ipc_model.specs.Step.{Event, Moved, Stepped, at_time, end_waiting, ended_by, first_ready, cancelled_by, is_ready, settle, settle_from, settled, state_by, step, told_cancelled, without}
 use Rattle.ipc_model.specs.Decision.{Outcome, outcome_of}
-use Rattle.ipc_model.specs.History.{AreLegalFrom, History, IsLegal, IsLegalAt, Told, answers_from, answers, next_step, own, replies, reply_of, run, run_from, told_by, told_ended, told_own, with_event}
+use Rattle.ipc_history.specs.History.{AreLegalFrom, History, IsLegal, IsLegalAt, Told, answers_from, answers, next_step, own, replies, reply_of, run, run_from, told_by, told_ended, told_own, with_event}
 use Rattle.ipc_call.specs.declared.replies.Reply.{Reply}
 use Rattle.ipc_space.specs.Telling.{told_to, told_of, replies_in}
 use Rattle.ipc_model.proofs.Calls.{Keeps-decide, parked_alike}

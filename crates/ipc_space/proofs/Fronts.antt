@@ -7,7 +7,7 @@ use Rattle.std.proofs.lemmas.Option.{get_or_from_slice_get, none-some, same_Some
 use Rattle.ipc_call.specs.declared.replies.JournalRow.{JournalRow}
 use Rattle.ipc_model.specs.State.{State}
 use Rattle.ipc_model.specs.Step.{Event, step}
-use Rattle.ipc_model.specs.History.{AreLegalFrom, Told, answered_row, rows_from, run_from, told_by}
+use Rattle.ipc_history.specs.History.{AreLegalFrom, Told, answered_row, rows_from, run_from, told_by}
 use Rattle.ipc_space.specs.Following.{IsAnswered, call_row}
 
 module _ {X : Type 0} where

@@ -5,7 +5,7 @@ use Rattle.ipc_call.specs.declared.replies.JournalRow.{JournalRow}
 use Rattle.ipc_call.specs.declared.replies.JournalRow.TheVariants.{Called, Answered}
 use Rattle.ipc_model.specs.State.{State, opening}
 use Rattle.ipc_model.specs.Step.{Event, Stepped, step}
-use Rattle.ipc_model.specs.History.{AreLegalFrom, History, IsLegal, IsLegalAt, Told, answered_row, rows_by, rows_from, rows_of, run, run_from, told_by, told_ended, told_own, with_event}
+use Rattle.ipc_history.specs.History.{AreLegalFrom, History, IsLegal, IsLegalAt, Told, answered_row, rows_by, rows_from, rows_of, run, run_from, told_by, told_ended, told_own, with_event}
 use Rattle.ipc_space.specs.Spaces.{IsOfHistory, events_in, history_in}
 
 run_from-push : (s : State) (es : List Event) (e : Event) → run_from s (es ++ e ∷ []) ≡ (step (run_from s es) e).state

@@ -8,7 +8,7 @@ use Rattle.ipc_model.specs.State.{State, opening, is_waiting}
 use Rattle.ipc_model.specs.Decision.{Decision, Refuse, Wait, Grant}
 use Rattle.ipc_model.specs.Decide.{decide}
 use Rattle.ipc_model.specs.Cancelled.{cancelled}
-use Rattle.ipc_model.specs.History.{AreLegalFrom, History, IsLegal, IsLegalAt, run, run_from}
+use Rattle.ipc_history.specs.History.{AreLegalFrom, History, IsLegal, IsLegalAt, run, run_from}
 use Rattle.ipc_model.specs.Step.{Event, at_time, end_waiting, ended_by, first_ready, cancelled_by, settle, settle_from, state_by, step, without}
 use Rattle.ipc_parked.specs.Parked.{AreApart}
 use Rattle.ipc_model.proofs.Calls.{Keeps-decide}

@@ -22,12 +22,12 @@ use Rattle.ipc_model.proofs.Alike.{proceeds-on}
 use Rattle.ipc_namespace.specs.Namespace.{needs_for}
 use Rattle.ipc_model.specs.Decide.{can_wait, decide, decide_alive, needs, part_plan}
 use Rattle.ipc_model.specs.Cancelled.{first_denial, or_later}
-use Rattle.ipc_model.specs.History.{History, run}
+use Rattle.ipc_history.specs.History.{History, run}
 use Rattle.ipc_model.specs.Step.{is_ready}
 use Rattle.ipc_model.specs.Waits.{AreNotReady, ArePermitted}
 use Rattle.ipc_model.specs.Attached.{AreAttached}
 use Rattle.ipc_model.proofs.Calls.{only_parkable}
-use Rattle.ipc_model.proofs.Keeping.{attached-run}
+use Rattle.ipc_history.proofs.Runs.{attached-run}
 use Rattle.ipc_namespace.proofs.Endings.{operator-needs, receiver-needs, sender-needs}
 use Rattle.ipc_namespace.proofs.Own.{found-none}
 use Rattle.ipc_space.proofs.Quiet.{IsQuiet, quiet-run}

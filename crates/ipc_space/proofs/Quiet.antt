@@ -12,7 +12,7 @@ use Rattle.ipc_model.specs.Decision.{Decision, Refuse, Wait, Grant}
 use Rattle.ipc_model.specs.Decide.{decide}
 use Rattle.ipc_model.specs.Step.{Event, at_time, end_waiting, ended_by, entered, first_ready, is_ready, settle, settle_from, settled, step, without}
 use Rattle.ipc_model.specs.Decision.{outcome_of}
-use Rattle.ipc_model.specs.History.{History, run, run_from, next_step}
+use Rattle.ipc_history.specs.History.{History, run, run_from, next_step}
 use Rattle.ipc_model.specs.Step.{moved_by}
 use Rattle.ipc_model.proofs.Calls.{Keeps-decide}
 use Rattle.ipc_model.proofs.Growing.{Keeps}

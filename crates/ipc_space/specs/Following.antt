@@ -4,7 +4,7 @@ use Rattle.ipc_call.specs.declared.limits.Limits.{Limits}
 use Rattle.ipc_call.specs.declared.replies.JournalRow.{JournalRow}
 use Rattle.ipc_call.specs.declared.replies.JournalRow.TheVariants.{Called, Answered}
 use Rattle.ipc_creds.specs.Credentials.{Credentials}
-use Rattle.ipc_model.specs.History.{History, IsLegalAt, rows_of, run, with_event}
+use Rattle.ipc_history.specs.History.{History, IsLegalAt, rows_of, run, with_event}
 use Rattle.ipc_model.specs.Step.{Event}
 use Rattle.ipc_space.specs.Replays.{AreNoJournal, IsHistoryOf}
 

@@ -3,7 +3,7 @@ use Rattle.std.specs.Prelude.{◌≡◌, ℕ, ◌≤◌, List, ◌++◌, length,
 use Rattle.ipc_call.specs.declared.limits.Limits.{Limits}
 use Rattle.ipc_call.specs.declared.replies.JournalRow.{JournalRow}
 use Rattle.ipc_creds.specs.Credentials.{Credentials}
-use Rattle.ipc_model.specs.History.{History, IsLegal, rows_of}
+use Rattle.ipc_history.specs.History.{History, IsLegal, rows_of}
 use Rattle.ipc_space.specs.declared.replaying.Replayed.{Replayed}
 use Rattle.ipc_space.specs.declared.replaying.Replayed.TheVariants.{Same, Differs}
 

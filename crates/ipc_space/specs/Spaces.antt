@@ -8,7 +8,7 @@ use Rattle.ipc_call.specs.declared.replies.Reply.TheVariants.{Entered}
 use Rattle.ipc_model.specs.State.{State}
 use Rattle.ipc_model.specs.Step.{Event}
 use Rattle.ipc_model.specs.Decision.{Outcome}
-use Rattle.ipc_model.specs.History.{History, IsLegal, run, rows_of, told_ended, reply_of}
+use Rattle.ipc_history.specs.History.{History, IsLegal, run, rows_of, told_ended, reply_of}
 
 abbrev pub event_in : JournalRow → List Event → List Event
 event_in (Called client now call) events = record { client = client; now = now; call = call } ∷ events

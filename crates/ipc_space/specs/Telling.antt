@@ -2,7 +2,7 @@
 use Rattle.std.specs.Prelude.{ℕ, ◌+◌, ◌==◌, List, length, map, filter}
 use Rattle.ipc_call.specs.declared.replies.Reply.{Reply}
 use Rattle.ipc_model.specs.Step.{Event}
-use Rattle.ipc_model.specs.History.{History, Told, next_step, reply_of, told_by}
+use Rattle.ipc_history.specs.History.{History, Told, next_step, reply_of, told_by}
 
 abbrev pub told_to : Told → ℕ × Reply
 told_to told = (told.client, reply_of told)

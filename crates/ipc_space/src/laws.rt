@@ -7,15 +7,15 @@ ghost use Rattle.ipc_call.specs.Limits.{are_in_range};
 ghost use Rattle.ipc_call.specs.declared.calls.Kind.{Kind as KindOf};
 ghost use Rattle.ipc_call.specs.declared.rules.Rule.{Rule as RuleOf};
 ghost use Rattle.ipc_call.specs.declared.replies.Answer.{Answer as AnswerOf};
-ghost use Rattle.ipc_model.specs.Access.{AreMet, IsDenied, caller_of, checks_of, needs_of};
+ghost use Rattle.ipc_history.specs.Access.{AreMet, IsDenied, caller_of, checks_of, needs_of};
 ghost use Rattle.ipc_model.specs.Decide.{can_wait};
 ghost use Rattle.ipc_model.specs.Plan.{is_denial};
 ghost use Rattle.ipc_model.specs.Step.{Event, Stepped, at_time};
 ghost use Rattle.ipc_model.specs.State.{is_waiting};
-ghost use Rattle.ipc_model.specs.History.{History, IsLegal, run, own, replies, with_event, next_step};
+ghost use Rattle.ipc_history.specs.History.{History, IsLegal, run, own, replies, with_event, next_step};
 ghost use Rattle.ipc_space.specs.Answers.{can_give, is_end_of};
 ghost use Rattle.ipc_space.specs.Telling.{told_of, replies_in};
-ghost use Rattle.ipc_model.specs.Made.{made};
+ghost use Rattle.ipc_history.specs.Made.{made};
 ghost use Rattle.ipc_model.specs.Attached.{AreAttached};
 ghost use Rattle.ipc_model.specs.Waits.{AreNotReady, ArePermitted, WaitOnce};
 

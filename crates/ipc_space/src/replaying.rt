@@ -3,7 +3,7 @@
 ghost use Rattle.std.specs.Prelude.{◌≡◌, ◌≤◌, ◌<◌, true, false, [], length, take, vec_len, slice_get, IsTrue, IfOk, IfSome};
 ghost use Rattle.ipc_call.specs.Limits.{are_in_range};
 ghost use Rattle.ipc_model.specs.State.{is_waiting as waits};
-ghost use Rattle.ipc_model.specs.History.{run};
+ghost use Rattle.ipc_history.specs.History.{run};
 ghost use Rattle.ipc_space.specs.Following.{IsAnswered, Enters, Followed};
 ghost use Rattle.ipc_space.specs.Replays.{Replays};
 

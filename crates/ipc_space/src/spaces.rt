@@ -22,7 +22,7 @@ ghost use Rattle.std.specs.Prelude.{
 ghost use Rattle.ipc_call.specs.Limits.{are_in_range};
 ghost use Rattle.ipc_model.specs.State.{is_waiting as waits};
 ghost use Rattle.ipc_model.specs.Step.{Stepped};
-ghost use Rattle.ipc_model.specs.History.{run, rows_of, rows_by, IsLegal, with_event, next_step, told_own, told_ended, answered_row, rule_in};
+ghost use Rattle.ipc_history.specs.History.{run, rows_of, rows_by, IsLegal, with_event, next_step, told_own, told_ended, answered_row, rule_in};
 ghost use Rattle.ipc_model.specs.Attached.{AreAttached};
 ghost use Rattle.ipc_model.specs.Listings.{lines_of};
 ghost use Rattle.ipc_model.specs.Waits.{AreNotReady, ArePermitted, WaitOnce};
@@ -60,7 +60,7 @@ pub struct Space {
 
 impl Model for Space {
     ghost use Rattle.std.specs.Prelude.{◌≡◌, []};
-    ghost use Rattle.ipc_model.specs.History.{History};
+    ghost use Rattle.ipc_history.specs.History.{History};
     ghost use Rattle.ipc_space.specs.Spaces.{history_in, IsOfHistory};
 
     ghost Value = { History };

@@ -5,7 +5,7 @@ use Rattle.ipc_call.specs.declared.calls.Call.TheVariants.{IpcRmid}
 use Rattle.ipc_call.specs.declared.calls.Kind.{Kind}
 use Rattle.ipc_call.specs.declared.replies.Reply.{Reply}
 use Rattle.ipc_call.specs.declared.replies.Reply.TheVariants.{Memory}
-use Rattle.ipc_model.specs.History.{History, next_step, with_event}
+use Rattle.ipc_history.specs.History.{History, next_step, with_event}
 use Rattle.ipc_model.specs.Step.{Event, Stepped}
 use Rattle.ipc_space.specs.Spaces.{own_reply, other_replies}
 use Rattle.ipc_commands.specs.declared.parts.Part.{Part}

@@ -2,7 +2,7 @@
 use Rattle.std.specs.Prelude.{◌≡◌, ◌≤◌, true, List, length, Option, Some, None}
 use Rattle.ipc_call.specs.Limits.{are_in_range}
 use Rattle.ipc_creds.specs.Credentials.{Credentials}
-use Rattle.ipc_model.specs.History.{History}
+use Rattle.ipc_history.specs.History.{History}
 use Rattle.ipcsh.specs.Session as session
 use Rattle.ipcsh.specs.declared.session.Session.TheInside.{Inside}
 

@@ -5,7 +5,7 @@ use Rattle.std.specs.List.{position_from}
 use Rattle.ipc_call.specs.declared.limits.Limits.{Limits}
 use Rattle.ipc_call.specs.Limits.{default_limits}
 use Rattle.ipc_creds.specs.Credentials.{Credentials}
-use Rattle.ipc_model.specs.History.{History, run}
+use Rattle.ipc_history.specs.History.{History, run}
 use Rattle.ipc_model.specs.State.{is_waiting}
 
 pub record Session : Type 0 where

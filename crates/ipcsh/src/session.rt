@@ -4,7 +4,7 @@ ghost use Rattle.std.specs.Prelude.{◌≡◌, ◌<◌, ◌≤◌, ◌+◌, ◌^
 ghost use Rattle.std.specs.List.{position_from};
 ghost use Rattle.ipcsh.specs.Session.{fresh_session, has_started as started, client_named as client_with, events_of, history_of, waits};
 ghost use Rattle.ipc_space.specs.Spaces.{own_reply, other_replies};
-ghost use Rattle.ipc_model.specs.History.{next_step, with_event};
+ghost use Rattle.ipc_history.specs.History.{next_step, with_event};
 ghost use Rattle.ipcsh.specs.Commands.{call_event};
 ghost use Rattle.ipcsh.specs.Output.{Answers, CarriesOut, counted};
 ghost use Rattle.ipcsh.specs.Readings.{CanJoin, IsSound};

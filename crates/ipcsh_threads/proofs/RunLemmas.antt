@@ -3,7 +3,7 @@ use Rattle.std.proofs.Common.{◌≡◌, ℕ, ◌+◌, Bool, true, false, List, 
 use Rattle.std.specs.Prelude.{count_by}
 use Rattle.ipc_commands.specs.declared.jobs.Job.{Job}
 use Rattle.ipc_jobs.specs.Courses.{AreCourses, Course, HaveGone, is_held}
-use Rattle.ipc_model.specs.History.{History}
+use Rattle.ipc_history.specs.History.{History}
 
 is_false : (b : Bool) → (b ≡ true → ⊥) → b ≡ false
 is_false true other = absurd (other refl)

@@ -6,7 +6,7 @@ use Rattle.ipc_call.specs.Limits.{are_in_range}
 use Rattle.ipc_commands.specs.declared.jobs.Job.{Job}
 use Rattle.ipc_creds.specs.Credentials.{Credentials}
 use Rattle.ipc_jobs.specs.Courses.{AreCounts, HaveGone}
-use Rattle.ipc_model.specs.History.{History, IsLegal, run}
+use Rattle.ipc_history.specs.History.{History, IsLegal, run}
 use Rattle.ipc_model.specs.Listings.{lines_of as lines_in}
 use Rattle.ipc_words.specs.Lines.{lines_of}
 use Rattle.ipcsh.specs.declared.plans.Plan.{Plan}

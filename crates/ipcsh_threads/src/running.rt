@@ -1,7 +1,7 @@
 // A script whose clients have a thread each.
 
 ghost use Rattle.std.specs.Prelude.{◌≡◌, ◌≤◌, ◌++◌, IfErr, IfOk, length, string_bytes};
-ghost use Rattle.ipc_model.specs.History.{run as run_of};
+ghost use Rattle.ipc_history.specs.History.{run as run_of};
 ghost use Rattle.ipc_model.specs.Listings.{lines_of};
 ghost use Rattle.ipcsh_threads.specs.Rows.{count_rows, object_lines};
 ghost use Rattle.ipcsh_threads.specs.Threads.{CanRun, EndsSo, StopsThreads, WritesThreads, setup_of};

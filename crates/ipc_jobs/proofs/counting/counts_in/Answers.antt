@@ -1,6 +1,6 @@
 use Rattle.std.proofs.Common.{length, ap, ◌∙◌}
 use Rattle.std.specs.Prelude.{count_by}
-use Rattle.ipc_model.specs.History.{own, replies}
+use Rattle.ipc_history.specs.History.{own, replies}
 use Rattle.ipc_jobs.specs.Courses.{is_refusal}
 use Rattle.ipc_jobs.specs.Rows.{is_call_of, is_refusal_of}
 use Rattle.ipc_jobs.proofs.Counted.{counted_calls, counted_refusals, pair_is}

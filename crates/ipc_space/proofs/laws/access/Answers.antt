@@ -1,4 +1,4 @@
-use Rattle.ipc_model.proofs.Access.{access-denied, access-granted}
+use Rattle.ipc_history.proofs.Access.{access-denied, access-granted}
 use Rattle.ipc_space.proofs.laws.access.Goals as goal
 
 pub returns-clause-granted : goal.returns-clause-granted

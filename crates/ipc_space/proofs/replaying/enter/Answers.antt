@@ -2,7 +2,7 @@ use Rattle.std.proofs.Common.{◌≡◌, ℕ, ◌<◌, length, false, refl, sym,
 use Rattle.std.proofs.lemmas.Bool.{true≢false}
 use Rattle.ipc_call.specs.declared.calls.Call.{Call}
 use Rattle.ipc_model.specs.State.{is_waiting, opening}
-use Rattle.ipc_model.specs.History.{History, run, with_event}
+use Rattle.ipc_history.specs.History.{History, run, with_event}
 use Rattle.ipc_model.specs.Step.{Event}
 use Rattle.ipc_space.proofs.Balance.{clients-run}
 use Rattle.ipc_space.proofs.replaying.enter.Goals as goal

@@ -2,7 +2,7 @@ use Rattle.std.proofs.Common.{◌≡◌, ◌<◌, ◌≤◌, ◌+◌, List, leng
 use Rattle.std.specs.Prelude.{slice_get, IfSome}
 use Rattle.std.proofs.lemmas.Option.{slice_get-get_or}
 use Rattle.ipc_call.specs.declared.replies.JournalRow.{JournalRow}
-use Rattle.ipc_model.specs.History.{IsLegalAt, rows_of, run, with_event}
+use Rattle.ipc_history.specs.History.{IsLegalAt, rows_of, run, with_event}
 use Rattle.ipc_model.specs.Step.{Event}
 use Rattle.ipc_space.specs.Following.{IsAnswered, call_row}
 use Rattle.ipc_space.proofs.Longest.{answers_behind, entered-not, entered-so, long_enough, one_more, parted-differs, stuck-differs}

@@ -1,5 +1,5 @@
 use Rattle.std.proofs.Common.{length, ◌-◌, ◌≡◌, ◌≤◌, take}
-use Rattle.ipc_model.specs.History.{rows_of}
+use Rattle.ipc_history.specs.History.{rows_of}
 use Rattle.ipc_space.specs.Replays.{IsHistoryOf}
 use Rattle.ipc_space.proofs.replaying.follow.Given as goal
 

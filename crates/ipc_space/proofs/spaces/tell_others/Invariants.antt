@@ -1,6 +1,6 @@
 use Rattle.std.proofs.Common.{◌≡◌, ◌+◌, ◌≤◌, ◌++◌, map, length, vec_len, vec_capacity}
 use Rattle.std.specs.Vec.Iter.{drain_items}
-use Rattle.ipc_model.specs.History.{answered_row, reply_of, told_ended}
+use Rattle.ipc_history.specs.History.{answered_row, reply_of, told_ended}
 use Rattle.ipc_space.proofs.spaces.tell_others.Given as goal
 
 -- what the calls that are left give completes the rows and the replies

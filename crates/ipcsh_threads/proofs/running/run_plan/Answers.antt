@@ -1,6 +1,6 @@
 use Rattle.std.proofs.Common.{rules, ◌≡◌, ℕ, List, ◌++◌, ap, ◌∙◌}
 use Rattle.std.proofs.lemmas.Result.{IfOk-weaker}
-use Rattle.ipc_model.specs.History.{run}
+use Rattle.ipc_history.specs.History.{run}
 use Rattle.ipc_model.specs.Listings.{lines_of}
 use Rattle.ipcsh_threads.specs.Rows.{count_rows, object_lines}
 use Rattle.ipcsh_threads.proofs.RunLemmas.{all_gone}

@@ -1,6 +1,6 @@
 use Rattle.std.proofs.Common.{◌≡◌, false, sym, subst, box_value, IfOk}
 use Rattle.ipc_model.specs.State.{is_waiting}
-use Rattle.ipc_model.specs.History.{run}
+use Rattle.ipc_history.specs.History.{run}
 use Rattle.ipc_combiner.specs.Serving.{HasEntered}
 use Rattle.ipc_combiner.proofs.Handing.{calls_freely, entered_if}
 use Rattle.ipc_combiner.proofs.shared.Shared.apply.Goals as goal

@@ -1,6 +1,6 @@
 use Rattle.std.proofs.Common.{◌≡◌, ◌≤◌, [], length, box_value, All, sym, ap, ◌∙◌, subst, arith}
 use Rattle.std.proofs.lemmas.List.Elements.{All-head, All-tail}
-use Rattle.ipc_model.specs.History.{IsLegal}
+use Rattle.ipc_history.specs.History.{IsLegal}
 use Rattle.pub_list.specs.Closing.{told_at_close, last_words}
 use Rattle.ipc_combiner.specs.Closing.{IsClientOf, IsOpenedBy, IsTold}
 use Rattle.ipc_combiner.specs.Entries.{entries_of}

@@ -1,7 +1,7 @@
 use Rattle.std.proofs.Common.{◌≡◌, ℕ, List, ◌+◌, [], ◌∷◌, ◌++◌, length, length-append, true, false, refl, sym, ap, ◌∙◌, Some}
 use Rattle.std.specs.Prelude.{string_bytes}
 use Rattle.ipc_call.specs.declared.replies.Reply.TheVariants.{Memory}
-use Rattle.ipc_model.specs.History.{next_step, with_event}
+use Rattle.ipc_history.specs.History.{next_step, with_event}
 use Rattle.ipc_space.specs.Spaces.{other_replies, own_reply}
 use Rattle.ipc_text.specs.Rows.{effect_rows, name_at, reply_row}
 use Rattle.ipcsh.specs.Commands.{call_event, id_told}

@@ -9,7 +9,7 @@ use Rattle.ipc_model.specs.State.{State, opening}
 use Rattle.ipc_model.specs.Gets.{object_of_key}
 use Rattle.ipc_model.specs.Step.{Event, step}
 use Rattle.ipc_model.specs.Decision.{Outcome}
-use Rattle.ipc_model.specs.History.{History}
+use Rattle.ipc_history.specs.History.{History}
 
 -- a get creates an object of its kind where no object has its key; key 0, IPC_PRIVATE, finds none
 abbrev pub makes : State → Kind → Call → Bool

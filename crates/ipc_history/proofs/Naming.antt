@@ -20,8 +20,8 @@ use Rattle.ipc_model.specs.Plan as plans
 use Rattle.ipc_model.specs.Gets.{Getting, get, get_found, get_queue, get_segment, get_set, getting_queue, getting_segment, getting_set, new_object, object_of_key}
 use Rattle.ipc_model.specs.Decide.{decide, part_plan, plan}
 use Rattle.ipc_model.specs.Step.{Event, at_time, cancel, cancelled_by, settled, state_by, step}
-use Rattle.ipc_model.specs.History.{History}
-use Rattle.ipc_model.specs.Made.{id_in, made, made_by, made_from, makes}
+use Rattle.ipc_history.specs.History.{History}
+use Rattle.ipc_history.specs.Made.{id_in, made, made_by, made_from, makes}
 use Rattle.ipc_model.proofs.Plans.{Ends, Ends-decision, Ends-on, Ends-order, IfGranted}
 use Rattle.ipc_model.proofs.Calls.{Keeps-decide}
 use Rattle.ipc_model.proofs.Growing.{Follows, Grows, Keeps}

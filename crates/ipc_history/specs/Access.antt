@@ -8,7 +8,7 @@ use Rattle.ipc_model.specs.Plan.{Check, Needs, checks_in, does_pass}
 use Rattle.ipc_model.specs.State.{creds_at}
 use Rattle.ipc_model.specs.Decide.{needs, plan}
 use Rattle.ipc_model.specs.Step.{Event, at_time}
-use Rattle.ipc_model.specs.History.{History, run}
+use Rattle.ipc_history.specs.History.{History, run}
 
 -- every need is met
 abbrev pub AreMet : Credentials → List Need → Type 0

@@ -16,8 +16,8 @@ use Rattle.ipc_model.specs.State.{State}
 use Rattle.ipc_model.specs.Decide.{decide, plan}
 use Rattle.ipc_model.specs.Step.{Event, at_time}
 use Rattle.ipc_model.specs.Decision.{Outcome, outcome_of}
-use Rattle.ipc_model.specs.History.{History, next_step, run}
-use Rattle.ipc_model.specs.Access.{AreMet, IsDenied, caller_of, checks_of, needs_of}
+use Rattle.ipc_history.specs.History.{History, next_step, run}
+use Rattle.ipc_history.specs.Access.{AreMet, IsDenied, caller_of, checks_of, needs_of}
 
 abbrev is_serve : {X : Type 0} → Decision X → Bool
 is_serve (decisions.Refuse rule) = false
