@@ -141,7 +141,9 @@ fn add_passes_apart<R: Clock + AllocGlobal>(
         Way::Receiver => 2,
     };
     let mut space = opened(rt.alloc(), clients)?;
-    add_passes(rt, &mut space, run, way, bytes, passes)
+    let added = add_passes(rt, &mut space, run, way, bytes, passes);
+    drop(space);
+    added
 }
 
 /// Passes a text of so many bytes: the two calls that pass it count as one.
@@ -177,7 +179,9 @@ pub fn while_others_wait<R: Clock + AllocGlobal>(
     calls: u32,
 ) -> io::Result<Run> {
     let mut space = opened(rt.alloc(), waiting.saturating_add(1))?;
-    pass_beside_waiting(rt, &mut space, calls)
+    let run = pass_beside_waiting(rt, &mut space, calls);
+    drop(space);
+    run
 }
 
 /// Makes a queue with so many messages, of which the last alone has its type.
@@ -237,5 +241,7 @@ fn receive_batches<R: Clock + AllocGlobal>(
 /// Receives the last of so many messages, which alone has the type that is asked for.
 pub fn receive_last<R: Clock + AllocGlobal>(rt: &R, messages: u32, calls: u32) -> io::Result<Run> {
     let mut space = opened(rt.alloc(), 1)?;
-    receive_batches(rt, &mut space, messages, calls)
+    let run = receive_batches(rt, &mut space, messages, calls);
+    drop(space);
+    run
 }

@@ -73,7 +73,9 @@ impl Access {
         batches: u32,
     ) -> io::Result<()> {
         let mut space = opened(rt.alloc(), 1)?;
-        self.add_batches(rt, &mut space, run, bytes, batches)
+        let added = self.add_batches(rt, &mut space, run, bytes, batches);
+        drop(space);
+        added
     }
 }
 
@@ -176,7 +178,9 @@ fn add_pairs_apart<R: Clock + AllocGlobal>(
     pairs: u32,
 ) -> io::Result<()> {
     let mut space = opened(rt.alloc(), 1)?;
-    add_pairs(rt, &mut space, run, attachments, pairs)
+    let added = add_pairs(rt, &mut space, run, attachments, pairs);
+    drop(space);
+    added
 }
 
 /// Attaches a segment and detaches it again, by a client that then has so many attachments: pairs of calls.

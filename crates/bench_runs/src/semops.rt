@@ -86,8 +86,8 @@ impl Semops {
         Ok(calls)
     }
 
-    /// Counts so many batches in a namespace. Its set is raised before: that call makes the row of semadj, and
-    /// the value at the end of each batch is 1.
+    /// Counts so many batches in a namespace, in which all clients but 0 wait on another set. Its set is raised
+    /// before: that call makes the row of semadj, and the value at the end of each batch is 1.
     fn add_batches<R: Clock + AllocGlobal>(
         self,
         rt: &R,
@@ -95,6 +95,7 @@ impl Semops {
         run: &mut Run,
         batches: u32,
     ) -> io::Result<()> {
+        others_wait(rt.alloc(), space)?;
         let id = semget(space, u32::from(self.operations))?;
         let last = u32::from(self.operations).saturating_sub(1);
         done(space, self.call(rt.alloc(), id, Step::Raise)?)?;
@@ -108,7 +109,7 @@ impl Semops {
         Ok(())
     }
 
-    /// The same in a namespace of its own, where so many other clients wait on another set.
+    /// The same in a namespace of its own, where so many clients wait.
     fn add_batches_apart<R: Clock + AllocGlobal>(
         self,
         rt: &R,
@@ -117,8 +118,9 @@ impl Semops {
         batches: u32,
     ) -> io::Result<()> {
         let mut space = opened(rt.alloc(), waiting.saturating_add(1))?;
-        others_wait(rt.alloc(), &mut space)?;
-        self.add_batches(rt, &mut space, run, batches)
+        let added = self.add_batches(rt, &mut space, run, batches);
+        drop(space);
+        added
     }
 
     /// Measures so many of them, each with the copy of its operations that the journal keeps, but without their

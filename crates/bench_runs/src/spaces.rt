@@ -120,7 +120,9 @@ fn get_each<R: Clock + AllocGlobal>(
 /// Gets the queues of keys that are there.
 pub fn get_of_a_key<R: Clock + AllocGlobal>(rt: &R, size: u32, calls: u32) -> io::Result<Run> {
     let mut space = opened(rt.alloc(), 1)?;
-    get_each(rt, &mut space, size, calls)
+    let run = get_each(rt, &mut space, size, calls);
+    drop(space);
+    run
 }
 
 /// How many queues client 0 is shown.
@@ -151,5 +153,7 @@ fn list_each<R: Clock + AllocGlobal>(
 /// Lists the queues that there are: so many rows in all, in one listing at least.
 pub fn list<R: Clock + AllocGlobal>(rt: &R, size: u32, rows: u32) -> io::Result<Run> {
     let mut space = opened(rt.alloc(), 1)?;
-    list_each(rt, &mut space, size, (rows / size.max(1)).max(1))
+    let run = list_each(rt, &mut space, size, (rows / size.max(1)).max(1));
+    drop(space);
+    run
 }

@@ -33,9 +33,16 @@ pub fn replay(limits: Limits, clients: Vec<Creds>, rows: &[JournalRow]) -> Resul
     ensures { IfOk result (λ replayed. Replays limits clients.items rows.now replayed) }
 {
     let mut space = Space::start(limits, clients)?;
-    match follow(&mut space, rows)? {
-        None => Ok(Replayed::Same(space)),
-        Some(count) => Ok(Replayed::Differs(count as u64)),
+    match follow(&mut space, rows) {
+        Ok(None) => Ok(Replayed::Same(space)),
+        Ok(Some(count)) => {
+            drop(space);
+            Ok(Replayed::Differs(count as u64))
+        }
+        Err(memory) => {
+            drop(space);
+            Err(memory)
+        }
     }
 }
 

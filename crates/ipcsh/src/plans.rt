@@ -56,6 +56,23 @@ fn plan_of(alloc: Global, text: &[u8]) -> Result<Plan, Memory>
     ensures { IfOk result (IsPlan (planned (lines_of text.now))) }
 {
     let mut planning = Planning::new(alloc);
+    match take_lines(alloc, text, &mut planning) {
+        Ok(()) => Ok(planning.into_plan()),
+        Err(memory) => {
+            drop(planning);
+            Err(memory)
+        }
+    }
+}
+
+/// Takes the lines of a text, the first ones of a plan.
+fn take_lines(alloc: Global, text: &[u8], planning: &mut Planning) -> Result<(), Memory>
+    requires few { length text.now ≤ longest_input }
+    requires first { planning.old ≡ nothing_planned }
+    requires ready { IsReady planning.old }
+    ensures planned { OnOk result (planning.new ≡ planned (lines_of text.now)) }
+    ensures ready { OnOk result (IsReady planning.new) }
+{
     let mut pending = Pending::new(alloc);
     for b in text {
         if *b == b'\n' {
@@ -68,7 +85,7 @@ fn plan_of(alloc: Global, text: &[u8]) -> Result<Plan, Memory>
     if !pending.is_empty() {
         planning.take_line(alloc, &pending.last())?;
     }
-    Ok(planning.into_plan())
+    Ok(())
 }
 
 /// A plan between two lines.

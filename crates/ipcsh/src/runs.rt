@@ -72,7 +72,9 @@ pub fn run<R: Read, W: Write>(
 {
     let mut piece = vec![in alloc; 0u8; PIECE]?;
     let mut input = ScriptInput::new(alloc);
-    answer_all(alloc, reader, writer, &mut piece, &mut input)
+    let answered = answer_all(alloc, reader, writer, &mut piece, &mut input);
+    drop(input);
+    answered
 }
 
 /// Answers a script from its first byte to its end or a fault, with a piece to read into.

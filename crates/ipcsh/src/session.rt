@@ -131,8 +131,10 @@ impl Session {
             names,
             clients,
             limits,
+            space,
             ..
         } = self;
+        drop(space);
         (names, clients, limits)
     }
 

@@ -178,16 +178,23 @@ fn counted(space: &Space, number: u32) -> (u64, u64) {
     (calls, refusals)
 }
 
+/// The replay has the same journal.
+fn check_same(rt: &impl Abort, replayed: &Replayed, space: &Space) {
+    match replayed {
+        Replayed::Same(same) => assert!(rt; same.journal() == space.journal()),
+        Replayed::Differs(count) => panic!(rt; "only {count} rows begin a journal"),
+    }
+}
+
 /// The journal is replayed to the same journal.
 fn check_replay(rt: &(impl Abort + AllocGlobal), space: &Space) -> Result<(), Fail> {
     let limits = Limits::default();
     assert!(rt; limits.in_range());
     let creds = creds_of(rt.alloc(), CLIENTS as usize)?;
     assert_eq!(rt; creds.len(), 64);
-    match replay(limits, creds, space.journal())? {
-        Replayed::Same(same) => assert!(rt; same.journal() == space.journal()),
-        Replayed::Differs(count) => panic!(rt; "only {count} rows begin a journal"),
-    }
+    let replayed = replay(limits, creds, space.journal())?;
+    check_same(rt, &replayed, space);
+    drop(replayed);
     Ok(())
 }
 
@@ -211,5 +218,7 @@ fn sixty_four_clients_of_a_hundred_calls(rt: HostRuntime) -> Result<(), Fail> {
     }
     let end = end_of(&rt, jobs, &OpenGate)?;
     check_counted(&rt, &end);
-    check_replay(&rt, &end.space)
+    let checked = check_replay(&rt, &end.space);
+    drop(end);
+    checked
 }

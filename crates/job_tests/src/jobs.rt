@@ -155,7 +155,10 @@ fn four_clients_add_to_a_semaphore(rt: HostRuntime) -> Result<(), Fail> {
     for _ in 0..4 {
         jobs.push(additions(rt.alloc())?)?;
     }
-    check_sum(&rt, &end_of(&rt, jobs, &OpenGate)?)
+    let end = end_of(&rt, jobs, &OpenGate)?;
+    let checked = check_sum(&rt, &end);
+    drop(end);
+    checked
 }
 
 /// So many jobs, each of one call, for the client of this number.
@@ -250,7 +253,9 @@ fn two_clients_meet_at_a_gate(rt: HostRuntime) -> Result<(), Fail> {
         one_did: AtomicU64::new(0),
         zero_did: AtomicU64::new(0),
     };
-    check_meeting(&rt, &end_of(&rt, gets_of(rt.alloc(), &[3, 2])?, &gate)?);
+    let end = end_of(&rt, gets_of(rt.alloc(), &[3, 2])?, &gate)?;
+    check_meeting(&rt, &end);
+    drop(end);
     Ok(())
 }
 
@@ -293,6 +298,7 @@ fn a_gate_stops_two_of_three(rt: HostRuntime) -> Result<(), Fail> {
 fn a_client_without_jobs(rt: HostRuntime) -> Result<(), Fail> {
     let end = end_of(&rt, gets_of(rt.alloc(), &[2, 0, 3])?, &OpenGate)?;
     check_counts(&rt, &end, 0, &[(2, 0), (0, 0), (3, 0)]);
+    drop(end);
     Ok(())
 }
 
@@ -376,7 +382,9 @@ fn waiting_calls_are_completed_by_others(rt: HostRuntime) -> Result<(), Fail> {
     for client in 0..2 {
         jobs.push(rounds(rt.alloc(), client)?)?;
     }
-    check_rounds(&rt, &end_of(&rt, jobs, &OpenGate)?);
+    let end = end_of(&rt, jobs, &OpenGate)?;
+    check_rounds(&rt, &end);
+    drop(end);
     Ok(())
 }
 
@@ -442,6 +450,8 @@ fn a_removal_by_key_is_a_get_and_a_removal(rt: HostRuntime) -> Result<(), Fail> 
     let mut jobs = Vec::new(rt.alloc());
     jobs.push(removals(rt.alloc())?)?;
     let rows = rows_of_removals(rt.alloc())?;
-    check_removals(&rt, &end_of(&rt, jobs, &OpenGate)?, rows.as_slice());
+    let end = end_of(&rt, jobs, &OpenGate)?;
+    check_removals(&rt, &end, rows.as_slice());
+    drop(end);
     Ok(())
 }

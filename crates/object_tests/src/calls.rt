@@ -17,22 +17,30 @@ fn a_copied_list_equals_its_source_alone(rt: HostRuntime) -> Result<(), Fail> {
     Ok(())
 }
 
+/// A copy of the call equals it.
+fn is_copied(call: Call) -> Result<bool, Fail> {
+    let copied = call.copy()?;
+    let equals = copied == call;
+    drop(copied);
+    drop(call);
+    Ok(equals)
+}
+
 #[test]
 fn a_copied_call_equals_its_source(rt: HostRuntime) -> Result<(), Fail> {
-    let call = Call::MsgGet {
+    let get = Call::MsgGet {
         key: 5,
         flags: IPC_CREAT | 0o600,
     };
-    assert!(rt; call.copy()? == call);
-    let call = Call::MsgSnd {
+    assert!(rt; is_copied(get)?);
+    let send = Call::MsgSnd {
         id: 7,
         mtype: -3,
         text: Items::new(vec![in rt.alloc(); 104u8, 0]?),
         flags: IPC_NOWAIT,
     };
-    assert!(rt; call.copy()? == call);
+    assert!(rt; is_copied(send)?);
     let (kind, id) = (Kind::Segment, 32768);
-    let call = Call::IpcRmid { kind, id };
-    assert!(rt; call.copy()? == call);
+    assert!(rt; is_copied(Call::IpcRmid { kind, id })?);
     Ok(())
 }

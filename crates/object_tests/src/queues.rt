@@ -2,8 +2,7 @@
 
 use bitflags::Flags;
 use ipc_call::{
-    Answer, IPC_CREAT, IPC_EXCL, IPC_NOWAIT, Items, Limits, MSG_EXCEPT, MSG_NOERROR, Outcome, Rule,
-    Status,
+    Answer, IPC_CREAT, IPC_EXCL, IPC_NOWAIT, Items, Limits, MSG_EXCEPT, MSG_NOERROR, Rule, Status,
 };
 use ipc_creds::{Caps, Creds};
 use object_calls::Caller;
@@ -11,9 +10,13 @@ use queue_calls::{Queues, status};
 use std::process::Abort;
 use std::test::Fail;
 
-/// What msgget answers, for which there is memory.
-fn get(queues: &mut Queues, who: &Caller, key: u32, flags: u32) -> Option<Outcome> {
-    queues.msgget(&Limits::default(), who, key, flags).ok()
+/// The identifier that msgget answers, for which there is memory.
+fn get(queues: &mut Queues, who: &Caller, key: u32, flags: u32) -> Option<Result<u32, Rule>> {
+    match queues.msgget(&Limits::default(), who, key, flags) {
+        Ok(Ok(Answer::Id(id))) => Some(Ok(id)),
+        Ok(Err(rule)) => Some(Err(rule)),
+        _ => None,
+    }
 }
 
 /// The owner and the key of a queue.
@@ -59,15 +62,26 @@ fn a_key_has_one_queue(rt: HostRuntime) {
     let alice = Caller::new(0, &alice, 5);
     let bob = Caller::new(1, &bob, 6);
     let mut queues = Queues::new(alloc, 2, 0);
-    assert!(rt; get(&mut queues, &alice, 9, 0) == Some(Err(Rule::NoKey)));
-    assert!(rt; get(&mut queues, &alice, 9, IPC_CREAT | 0o600) == Some(Ok(Answer::Id(0))));
-    assert!(rt; get(&mut queues, &alice, 9, 0o600) == Some(Ok(Answer::Id(0))));
-    assert!(rt; get(&mut queues, &bob, 9, 0o400) == Some(Err(Rule::OtherBits)));
-    assert!(rt; get(&mut queues, &bob, 9, IPC_CREAT | IPC_EXCL) == Some(Err(Rule::KeyExists)));
-    assert!(rt; get(&mut queues, &bob, 0, 0o600) == Some(Ok(Answer::Id(1))));
-    assert!(rt; get(&mut queues, &bob, 0, 0o600) == Some(Err(Rule::NoSlot)));
+    for (key, flags, wanted) in [
+        (9, 0, Err(Rule::NoKey)),
+        (9, IPC_CREAT | 0o600, Ok(0)),
+        (9, 0o600, Ok(0)),
+    ] {
+        let got = get(&mut queues, &alice, key, flags);
+        assert_eq!(rt; got, Some(wanted), "of {key}, {flags}");
+    }
+    for (key, flags, wanted) in [
+        (9, 0o400, Err(Rule::OtherBits)),
+        (9, IPC_CREAT | IPC_EXCL, Err(Rule::KeyExists)),
+        (0, 0o600, Ok(1)),
+        (0, 0o600, Err(Rule::NoSlot)),
+    ] {
+        let got = get(&mut queues, &bob, key, flags);
+        assert_eq!(rt; got, Some(wanted), "of {key}, {flags}");
+    }
     assert_eq!(rt; owner_and_key(&queues, 0), Some((100, 9)));
     assert_eq!(rt; owner_and_key(&queues, 1), Some((200, 0)));
+    drop(queues);
 }
 
 /// Sends that are refused.
@@ -97,19 +111,30 @@ fn check_status(rt: &impl Abort, queues: &Queues) {
     assert!(rt; told.stime == 7 && told.rtime == 7 && told.ctime == 7);
 }
 
+/// A message of two bytes goes through the queue.
+fn check_message(
+    rt: &(impl Abort + AllocGlobal),
+    queues: &mut Queues,
+    who: &Caller,
+) -> Result<(), Fail> {
+    let text = Items::new(vec![in rt.alloc(); 104u8, 105]?);
+    send(queues, who, 0, 3, text)?;
+    check_receives(rt, queues, who);
+    let (mtype, text) = receive_but(queues, who, 4)?;
+    assert!(rt; mtype == 3 && text.as_slice() == [104].as_slice());
+    check_status(rt, queues);
+    Ok(())
+}
+
 #[test]
 fn a_message_goes_through_a_queue(rt: HostRuntime) -> Result<(), Fail> {
     let alloc = rt.alloc();
     let creds = Creds::new(100, 10, Vec::new(alloc), Caps::empty());
     let who = Caller::new(4, &creds, 7);
     let mut queues = Queues::new(alloc, 1, 0);
-    assert!(rt; get(&mut queues, &who, 9, IPC_CREAT | 0o600) == Some(Ok(Answer::Id(0))));
+    assert_eq!(rt; get(&mut queues, &who, 9, IPC_CREAT | 0o600), Some(Ok(0)));
     check_refusals(&rt, &queues, &who);
-    let text = Items::new(vec![in alloc; 104u8, 105]?);
-    send(&mut queues, &who, 0, 3, text)?;
-    check_receives(&rt, &mut queues, &who);
-    let (mtype, text) = receive_but(&mut queues, &who, 4)?;
-    assert!(rt; mtype == 3 && text.as_slice() == [104].as_slice());
-    check_status(&rt, &queues);
-    Ok(())
+    let checked = check_message(&rt, &mut queues, &who);
+    drop(queues);
+    checked
 }

@@ -78,6 +78,17 @@ fn rows_to(alloc: Global, count: usize) -> Result<Vec<JournalRow>, Fail> {
     Ok(rows)
 }
 
+/// How many of the rows begin a journal. None where they are that of the namespace.
+fn length_of(rt: &impl Abort, replayed: &Replayed, rows: &[JournalRow]) -> Option<u64> {
+    match replayed {
+        Replayed::Same(space) => {
+            assert!(rt; space.journal() == rows);
+            None
+        }
+        Replayed::Differs(count) => Some(*count),
+    }
+}
+
 /// How many of the rows begin a journal of three clients with these limits. None where they are one, which the
 /// namespace then has.
 fn parted(
@@ -92,13 +103,10 @@ fn parted(
         clients.push(Creds::new(user, 10, Vec::new(alloc), Caps::empty()))?;
     }
     assert_eq!(rt; clients.len(), 3);
-    match replay(limits, clients, rows)? {
-        Replayed::Same(space) => {
-            assert!(rt; space.journal() == rows);
-            Ok(None)
-        }
-        Replayed::Differs(count) => Ok(Some(count)),
-    }
+    let replayed = replay(limits, clients, rows)?;
+    let length = length_of(rt, &replayed, rows);
+    drop(replayed);
+    Ok(length)
 }
 
 /// What comes of so many of the ten rows, from none to all.

@@ -67,30 +67,35 @@ fn effects_of(
     Ok(effects)
 }
 
+/// The call was the event at this place, ended so, and ended no waiting call.
+fn check_effects(rt: &impl Abort, effects: &Effects, place: u64, wanted: &Outcome) {
+    assert_eq!(rt; effects.place, place);
+    assert_eq!(rt; effects.others.len(), 0, "at {place}");
+    let Some(
+        Reply::Entered {
+            place: told,
+            turn,
+            outcome,
+        },
+    ) = &effects.own
+    else {
+        panic!(rt; "no reply at {place}");
+    };
+    assert_eq!(rt; (*told, *turn), (place, 0));
+    assert_eq!(rt; outcome, wanted, "at {place}");
+}
+
 /// Makes a call, which must be the event at this place, and end no waiting call.
 fn make(rt: &impl Abort, space: &mut Space, place: u64, worked: &Worked) -> Result<(), Fail> {
     let call = worked.call.copy()?;
     let effects = effects_of(rt, space, worked.client, worked.now, call)?;
-    assert_eq!(rt; effects.place, place);
-    assert_eq!(rt; effects.others.len(), 0, "at {place}");
-    match &effects.own {
-        Some(
-            Reply::Entered {
-                place: told,
-                turn,
-                outcome,
-            },
-        ) => {
-            assert_eq!(rt; (*told, *turn), (place, 0));
-            assert_eq!(rt; outcome, &worked.wanted, "at {place}");
-            Ok(())
-        }
-        _ => Err(Fail::from("no reply")),
-    }
+    check_effects(rt, &effects, place, &worked.wanted);
+    drop(effects);
+    Ok(())
 }
 
-/// Makes these calls in a namespace that has served none, whose clock never goes back.
-fn make_each(rt: &impl Abort, space: &mut Space, calls: &[Worked]) -> Result<(), Fail> {
+/// Makes these calls in a namespace that has served none. Its clock never goes back.
+fn make_in(rt: &impl Abort, space: &mut Space, calls: &[Worked]) -> Result<(), Fail> {
     let mut place: u64 = 0;
     let mut clock: u64 = 0;
     for worked in calls {
@@ -102,21 +107,31 @@ fn make_each(rt: &impl Abort, space: &mut Space, calls: &[Worked]) -> Result<(),
     Ok(())
 }
 
+/// Makes these calls, the first of a namespace with these limits.
+fn make_each(
+    rt: &(impl Abort + AllocGlobal),
+    limits: Limits,
+    calls: &[Worked],
+) -> Result<(), Fail> {
+    let mut space = space_with(rt, limits)?;
+    let made = make_in(rt, &mut space, calls);
+    drop(space);
+    made
+}
+
 #[test]
 fn a_removed_queue_is_gone(rt: HostRuntime) -> Result<(), Fail> {
-    let mut space = space_with(&rt, Limits::default())?;
     let calls = [
         get(ALICE, 0, 5, 0o1666, Ok(Answer::Id(0))),
         remove(DAVE, 0, Err(Rule::NotOwner)),
         remove(ALICE, 0, Ok(Answer::Done)),
         remove(ALICE, 0, Err(Rule::BadId)),
     ];
-    make_each(&rt, &mut space, &calls)
+    make_each(&rt, Limits::default(), &calls)
 }
 
 #[test]
 fn a_get_asks_its_bits_of_the_group(rt: HostRuntime) -> Result<(), Fail> {
-    let mut space = space_with(&rt, Limits::default())?;
     let calls = [
         get(ALICE, 0, 5, 0o1640, Ok(Answer::Id(0))),
         get(DAVE, 0, 5, 0o040, Ok(Answer::Id(0))),
@@ -125,7 +140,7 @@ fn a_get_asks_its_bits_of_the_group(rt: HostRuntime) -> Result<(), Fail> {
         get(DAVE, 0, 6, 0, Err(Rule::NoKey)),
         get(ALICE, 0, 5, 0o3640, Err(Rule::KeyExists)),
     ];
-    make_each(&rt, &mut space, &calls)
+    make_each(&rt, Limits::default(), &calls)
 }
 
 #[test]
@@ -135,22 +150,20 @@ fn a_private_key_makes_a_queue_each_time(rt: HostRuntime) -> Result<(), Fail> {
         first_seq: 65535,
         ..Limits::default()
     };
-    let mut space = space_with(&rt, limits)?;
     let calls = [
         get(ALICE, 0, 0, 0o600, Ok(Answer::Id(2_147_450_880))),
         get(ALICE, 0, 0, 0o600, Ok(Answer::Id(2_147_450_881))),
         get(ALICE, 0, 0, 0o600, Err(Rule::NoSlot)),
     ];
-    make_each(&rt, &mut space, &calls)
+    make_each(&rt, limits, &calls)
 }
 
 #[test]
 fn the_clock_never_goes_back(rt: HostRuntime) -> Result<(), Fail> {
-    let mut space = space_with(&rt, Limits::default())?;
     let calls = [
         get(ALICE, 50, 5, 0o3600, Ok(Answer::Id(0))),
         get(DAVE, 20, 6, 0, Err(Rule::NoKey)),
         get(DAVE, 60, 6, 0, Err(Rule::NoKey)),
     ];
-    make_each(&rt, &mut space, &calls)
+    make_each(&rt, Limits::default(), &calls)
 }

@@ -134,14 +134,21 @@ fn time_alone(rt: &HostRuntime, space: &mut Space, task: Task, calls: u32) -> io
 /// One client of a namespace makes so many calls.
 pub fn of_space(rt: &HostRuntime, task: Task, calls: u32) -> io::Result<Run> {
     let mut space = opened(rt.alloc(), 1)?;
-    time_alone(rt, &mut space, task, calls)
+    let run = time_alone(rt, &mut space, task, calls);
+    drop(space);
+    run
 }
 
 /// A namespace of so many clients under a mutex, in which each has made its queue and its set.
 fn shared(rt: &HostRuntime, task: Task, clients: u32) -> io::Result<(Mutex<Space>, Vec<Worker>)> {
     let mut space = opened(rt.alloc(), clients)?;
-    let workers = begun(rt, &mut space, task, clients)?;
-    Ok((Mutex::new(space), workers))
+    match begun(rt, &mut space, task, clients) {
+        Ok(workers) => Ok((Mutex::new(space), workers)),
+        Err(error) => {
+            drop(space);
+            Err(error)
+        }
+    }
 }
 
 /// So many clients of a namespace under a mutex make as many calls together, each in a thread of its own.

@@ -339,7 +339,9 @@ fn a_service_closes_while_a_call_waits(rt: HostRuntime) -> Result<(), Fail> {
     let alice = replied(&rt, &service, alice, get(5), Ok(Answer::Id(0)));
     let bob = waiting(&rt, &service, bob, receive(0));
     let clients = one_of_each(rt.alloc(), &service, carol, alice, bob)?;
-    check_closed(&rt, &service.close(clients));
+    let space = service.close(clients);
+    check_closed(&rt, &space);
+    drop(space);
     Ok(())
 }
 
@@ -446,7 +448,9 @@ fn run<R: Threads + Sync + Wait + Abort + AllocGlobal>(rt: &R, count: u32) -> Re
 {
     let (service, clients) = service_for(rt, count)?;
     let asked = in_threads(rt, &service, clients)?;
-    check_journal(rt, &closed(rt, service, asked)?, count);
+    let space = closed(rt, service, asked)?;
+    check_journal(rt, &space, count);
+    drop(space);
     Ok(())
 }
 

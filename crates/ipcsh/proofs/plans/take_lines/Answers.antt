@@ -1,9 +1,9 @@
 use Rattle.std.proofs.Common.{rules, arith, ◌+◌, get_or, take, refl, subst, sym, ◌∙◌}
-use Rattle.ipcsh.specs.Plans.{IsPlan, IsReady, Planned}
+use Rattle.ipcsh.specs.Plans.{IsReady, Planned}
 use Rattle.ipc_words.specs.LineText.{content_of}
 use Rattle.ipcsh.proofs.PlanLemmas.{Has, Has-all, Has-byte, Has-feed, planned_last, planned_whole}
-use Rattle.ipcsh.proofs.plans.plan_of.Goals as goal
-use Rattle.ipcsh.proofs.plans.plan_of.Goals.{then-b-eq10+in_ok-take_line, else-b-eq10+in_ok-push, then-not-is_empty+in_ok-take_line-2, else-not-is_empty}
+use Rattle.ipcsh.proofs.plans.take_lines.Goals as goal
+use Rattle.ipcsh.proofs.plans.take_lines.Goals.{then-b-eq10+in_ok-take_line, else-b-eq10+in_ok-push, then-not-is_empty+in_ok-take_line-2, else-not-is_empty}
 
 pub loop-b-preserved : goal.loop-b-preserved
 loop-b-preserved c = elim c.if-b-eq10.branch [
@@ -19,12 +19,12 @@ loop-b-preserved c = elim c.if-b-eq10.branch [
   }
 ]
 
-pub returns : goal.returns
-returns c =
+pub returns-clause-planned : goal.returns-clause-planned
+returns-clause-planned c =
     let h = Has-all c.args.text.now c.loop-b.pending c.loop-b.planning c.loop-b.b-index (omega arith) c.loop-b.invariant.has in
     elim c.if-not-is_empty.branch [
       | then-not-is_empty+in_ok-take_line-2 w ↦
-          subst (λ (p : Planned). IsPlan p c.into_plan.result) (planned_last c.args.text.now c.loop-b.pending c.loop-b.planning c.if-not-is_empty.planning (content_of w.last.result) h (search rules) w.last.ensures (w.planning-is ∙ w.in_ok-take_line-2.ensures.takes)) c.into_plan.ensures
+          planned_last c.args.text.now c.loop-b.pending c.loop-b.planning c.if-not-is_empty.planning (content_of w.last.result) h (search rules) w.last.ensures (w.planning-is ∙ w.in_ok-take_line-2.ensures.takes)
       | else-not-is_empty w ↦
-          subst (λ (p : Planned). IsPlan p c.into_plan.result) (planned_whole c.args.text.now c.loop-b.pending c.if-not-is_empty.planning (subst (λ (p : Planned). Has c.args.text.now c.loop-b.pending p) (sym w.planning-is) h) (search rules)) c.into_plan.ensures
+          planned_whole c.args.text.now c.loop-b.pending c.if-not-is_empty.planning (subst (λ (p : Planned). Has c.args.text.now c.loop-b.pending p) (sym w.planning-is) h) (search rules)
     ]

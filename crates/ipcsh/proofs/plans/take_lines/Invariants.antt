@@ -1,7 +1,7 @@
 use Rattle.std.proofs.Common.{◌≤◌, take}
 use Rattle.ipcsh.specs.Plans.{IsReady}
 use Rattle.ipcsh.proofs.PlanLemmas.{Has}
-use Rattle.ipcsh.proofs.plans.plan_of.Given as goal
+use Rattle.ipcsh.proofs.plans.take_lines.Given as goal
 
 -- the complete lines of the bytes so far are planned, and what follows them is kept
 abbrev pub invariant-loop-b : goal.invariant-loop-b
