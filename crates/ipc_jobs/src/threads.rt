@@ -59,12 +59,25 @@ pub fn run_threads<R: Threads + Sync + Wait, G: Gate + Sync>(
     let ended = work_all(rt, &service, gate, workers)?;
     let held = count_held(&ended);
     let space = service.close(clients_of(alloc, ended)?);
-    let counts = counts_of(alloc, &space)?;
-    Ok(ThreadsEnd {
-        space,
-        counts,
-        held,
-    })
+    counted(alloc, space, held)
+}
+
+// The namespace with what each client has in its journal.
+fn counted(alloc: Global, space: Space, held: u32) -> Result<ThreadsEnd, Memory>
+    ensures same { IfOk result (λ end. (end.space ≡ space) × (end.held ≡ held)) }
+    ensures counts { IfOk result (λ end. AreCounts end.space end.counts.items) }
+{
+    match counts_of(alloc, &space) {
+        Ok(counts) => Ok(ThreadsEnd {
+            space,
+            counts,
+            held,
+        }),
+        Err(memory) => {
+            drop(space);
+            Err(memory)
+        }
+    }
 }
 
 // Each client with its jobs.

@@ -1,10 +1,13 @@
 use Rattle.std.proofs.Common.{◌≡◌, List, length, sym, ap, ◌∙◌, subst, arith, All}
-use Rattle.std.specs.Prelude.{count_by}
+use Rattle.std.specs.Prelude.{count_by, map}
 use Rattle.std.proofs.lemmas.List.{length-map}
+use Rattle.std.proofs.lemmas.Result.{IfOk-weaker}
 use Rattle.ipc_combiner.specs.declared.closing.Client.{Client}
 use Rattle.ipc_combiner.specs.Closing.{IsClientOf, IsTold}
 use Rattle.ipc_combiner.specs.Entries.{entries_of}
 use Rattle.ipc_combiner.specs.States.{IsUnjoinedOf}
+use Rattle.ipc_history.specs.History.{History}
+use Rattle.ipc_jobs.specs.Courses.{HaveGone}
 use Rattle.ipc_jobs.specs.declared.working.Ended.{Ended}
 use Rattle.ipc_jobs.specs.declared.working.Worker.{Worker}
 use Rattle.ipc_jobs.specs.Working.{AreEnds, client_of}
@@ -38,7 +41,8 @@ close-space-requires-clause-service g c = let list = c.in_ok-service.service.lis
     (are_clients (g.G.Gate.may_hold c.args.gate.now) list c.in_ok-workers.workers.items c.in_ok-ended.ended.items c.in_ok-ended.ensures)
 
 pub returns-clause-opening : goal.returns-clause-opening
-returns-clause-opening g c = let o = c.close-space.ensures.opening in let opening = c.in_ok-service.ensures.opening in (o.0 ∙ ap (λ h. h.limits) opening, o.1 ∙ ap (λ h. h.clients) opening)
+returns-clause-opening g c = let o = c.close-space.ensures.opening in let opening = c.in_ok-service.ensures.opening in
+    IfOk-weaker c.counted.result _ _ (λ end same. (ap (λ h. h.limits) same.0 ∙ o.0 ∙ ap (λ h. h.limits) opening, ap (λ h. h.clients) same.0 ∙ o.1 ∙ ap (λ h. h.clients) opening)) c.counted.ensures.same
 
 pub returns-clause-courses : goal.returns-clause-courses
 returns-clause-courses g c = let list = c.in_ok-service.service.list in let us = c.in_ok-service.clients.items in let js = c.args.jobs.items in
@@ -46,4 +50,7 @@ returns-clause-courses g c = let list = c.in_ok-service.service.list in let us =
     let alike : length us ≡ length js = (let count = c.in_ok-service.ensures.count in let jobs = c.requires.jobs in let size = c.args.jobs.ok.0 in omega (arith, count, jobs, size)) in
     let went = gone holds h list all 0 us js es alike (subst (λ (ws : List Worker). AreEnds holds list ws es) c.in_ok-workers.ensures c.in_ok-ended.ensures)
     (numbered us c.in_ok-service.ensures.numbers) (subst (λ (cs : List Client). All (λ x. IsTold (entries_of h) all x) cs) c.in_ok-clients_of.ensures c.close-space.ensures.told) in
-    (went.0, went.1, c.count_held-held.ensures ∙ ap (count_by (λ (e : Ended). e.held)) c.deref.ensures.value ∙ went.2)
+    let held = c.count_held-held.ensures ∙ ap (count_by (λ (e : Ended). e.held)) c.deref.ensures.value ∙ went.2 in
+    IfOk-weaker c.counted.result _ _
+    (λ end same. subst (λ (x : History). HaveGone holds x (map (λ own. own.items) js) end.held) (sym same.0) (went.0, went.1, same.1 ∙ held))
+    c.counted.ensures.same
