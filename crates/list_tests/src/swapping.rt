@@ -83,6 +83,20 @@ fn seen_by(onlooker: &mut Joined<Swap>, list: &List<Swap>) -> (&'static str, &'s
     (first, second)
 }
 
+/// The records of clients 0 and 1 are so far, as another client sees them.
+fn check_seen(
+    rt: &impl Abort,
+    onlooker: &mut Joined<Swap>,
+    list: &List<Swap>,
+    wanted: (&'static str, &'static str),
+)
+    requires list { BelongsTo list.now onlooker.old }
+    requires clients { 2 ≤ list.now.clients }
+    ensures list { BelongsTo list.now onlooker.new }
+{
+    assert_eq!(rt; seen_by(onlooker, list), wanted);
+}
+
 /// A client takes the record of client 1, which another sees meanwhile, and answers it Memory.
 fn seen_while_taken(
     taker: &mut Joined<Swap>,
@@ -120,18 +134,18 @@ fn look_on(
     requires clients { 2 ≤ list.now.clients }
     requires idle { IsResting first.client (view first) × IsResting second.client (view second) }
 {
-    assert_eq!(rt; seen_by(onlooker, list), ("free", "free"));
+    check_seen(rt, onlooker, list, ("free", "free"));
     first.post(list, 5);
-    assert_eq!(rt; seen_by(onlooker, list), ("posted", "free"));
+    check_seen(rt, onlooker, list, ("posted", "free"));
     assert!(rt; first.combine_with(list, &OpenGate).is_ok());
-    assert_eq!(rt; seen_by(onlooker, list), ("parked", "free"));
+    check_seen(rt, onlooker, list, ("parked", "free"));
     second.post(list, 7);
-    assert_eq!(rt; seen_by(onlooker, list), ("parked", "posted"));
+    check_seen(rt, onlooker, list, ("parked", "posted"));
     let meanwhile = seen_while_taken(&mut first, onlooker, list);
     assert_eq!(rt; meanwhile, Some(("parked", "taken")));
-    assert_eq!(rt; seen_by(onlooker, list), ("parked", "answered"));
+    check_seen(rt, onlooker, list, ("parked", "answered"));
     assert!(rt; matches!(told(&mut second, list), Err(WordState::Free)));
-    assert_eq!(rt; seen_by(onlooker, list), ("parked", "free"));
+    check_seen(rt, onlooker, list, ("parked", "free"));
 }
 
 #[test]
@@ -152,6 +166,15 @@ fn own_word(joined: &mut Joined<Swap>, list: &List<Swap>) -> &'static str
 {
     let own = joined.client();
     name_of(joined.look(list, own))
+}
+
+/// The own record of a client is so far, as it looks at it.
+fn check_own(rt: &impl Abort, joined: &mut Joined<Swap>, list: &List<Swap>, wanted: &'static str)
+    requires list { BelongsTo list.now joined.old }
+    ensures client { IsSame joined.old joined.new }
+    ensures work { ((work joined.new).stage ≡ (work joined.old).stage) × ((work joined.new).holds ≡ (work joined.old).holds) }
+{
+    assert_eq!(rt; own_word(joined, list), wanted);
 }
 
 /// A client takes the record of client 1, which that client sees itself, and answers it Memory.
@@ -190,14 +213,14 @@ fn look_at_own(
     requires clients { 2 ≤ list.now.clients }
     requires idle { IsResting taker.client (view taker) × IsResting looker.client (view looker) }
 {
-    assert_eq!(rt; own_word(&mut looker, list), "free");
+    check_own(rt, &mut looker, list, "free");
     looker.post(list, 5);
-    assert_eq!(rt; own_word(&mut looker, list), "posted");
+    check_own(rt, &mut looker, list, "posted");
     let meanwhile = taken_as_it_looks(&mut taker, &mut looker, list);
     assert_eq!(rt; meanwhile, Some("taken"));
-    assert_eq!(rt; own_word(&mut looker, list), "answered");
+    check_own(rt, &mut looker, list, "answered");
     assert!(rt; matches!(told(&mut looker, list), Err(WordState::Free)));
-    assert_eq!(rt; own_word(&mut looker, list), "free");
+    check_own(rt, &mut looker, list, "free");
 }
 
 /// The same of a call that waits.
@@ -213,9 +236,9 @@ fn look_at_parked(
 {
     looker.post(list, 5);
     assert!(rt; other.combine_with(list, &OpenGate).is_ok());
-    assert_eq!(rt; own_word(&mut looker, list), "parked");
+    check_own(rt, &mut looker, list, "parked");
     assert!(rt; ask(&mut other, list, 7));
-    assert_eq!(rt; own_word(&mut looker, list), "answered");
+    check_own(rt, &mut looker, list, "answered");
     assert!(rt; matches!(told(&mut looker, list), Ok(7)));
 }
 
