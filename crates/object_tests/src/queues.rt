@@ -54,6 +54,19 @@ fn receive_but(queues: &mut Queues, who: &Caller, msgtyp: i64) -> Result<(i64, I
     }
 }
 
+/// Gets by these keys and flags, each with the identifier or the refusal beside them.
+fn check_gets(
+    rt: &impl Abort,
+    queues: &mut Queues,
+    who: &Caller,
+    gets: &[(u32, u32, Result<u32, Rule>)],
+) {
+    for (key, flags, wanted) in gets {
+        let got = get(queues, who, *key, *flags);
+        assert_eq!(rt; got, Some(*wanted), "of {key}, {flags}");
+    }
+}
+
 #[test]
 fn a_key_has_one_queue(rt: HostRuntime) {
     let alloc = rt.alloc();
@@ -62,23 +75,19 @@ fn a_key_has_one_queue(rt: HostRuntime) {
     let alice = Caller::new(0, &alice, 5);
     let bob = Caller::new(1, &bob, 6);
     let mut queues = Queues::new(alloc, 2, 0);
-    for (key, flags, wanted) in [
+    let alices = [
         (9, 0, Err(Rule::NoKey)),
         (9, IPC_CREAT | 0o600, Ok(0)),
         (9, 0o600, Ok(0)),
-    ] {
-        let got = get(&mut queues, &alice, key, flags);
-        assert_eq!(rt; got, Some(wanted), "of {key}, {flags}");
-    }
-    for (key, flags, wanted) in [
+    ];
+    check_gets(&rt, &mut queues, &alice, &alices);
+    let bobs = [
         (9, 0o400, Err(Rule::OtherBits)),
         (9, IPC_CREAT | IPC_EXCL, Err(Rule::KeyExists)),
         (0, 0o600, Ok(1)),
         (0, 0o600, Err(Rule::NoSlot)),
-    ] {
-        let got = get(&mut queues, &bob, key, flags);
-        assert_eq!(rt; got, Some(wanted), "of {key}, {flags}");
-    }
+    ];
+    check_gets(&rt, &mut queues, &bob, &bobs);
     assert_eq!(rt; owner_and_key(&queues, 0), Some((100, 9)));
     assert_eq!(rt; owner_and_key(&queues, 1), Some((200, 0)));
     drop(queues);
