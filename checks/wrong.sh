@@ -1,7 +1,8 @@
 # Wrong bodies and weakened plans, which the prover must refuse, over what `rt ci` has proved (lib/wrong_bodies.py).
 #
 # What a caller knows of a function are its clauses alone. So wrong bodies of several functions are tried in one check, in a
-# fifth of the time that one check for each takes: crates/CRATE/wrong has them. `rt ci` tries those of must-fail/ one by
+# fifth of the time that one check for each takes, and of the other functions the clauses are left alone (lib/stubs.py):
+# crates/CRATE/wrong has them. `rt ci` tries those of must-fail/ one by
 # one, most of which change what several functions or a whole law stand on.
 #
 # The law of access speaks of the plans of the calls, so it says as much as these. A plan from which a need is dropped, or in

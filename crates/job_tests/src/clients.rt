@@ -198,15 +198,17 @@ fn check_replay(rt: &(impl Abort + AllocGlobal), space: &Space) -> Result<(), Fa
     Ok(())
 }
 
-/// Each client has its hundred calls in the journal, with as many refusals as were counted.
+/// The client has its hundred calls in the journal, with as many refusals as were counted.
+fn check_client(rt: &impl Abort, space: &Space, client: u32, counts: (u64, u64)) {
+    assert_eq!(rt; counts, counted(space, client), "of client {client}");
+    assert_eq!(rt; counts.0, u64::from(CALLS), "of client {client}");
+}
+
+/// Each client has its calls in the journal, and none is held.
 fn check_counted(rt: &impl Abort, end: &ThreadsEnd) {
-    assert_eq!(rt; end.held, 0);
-    assert_eq!(rt; end.counts.len(), CLIENTS as usize);
-    let mut client: u32 = 0;
-    for counts in &end.counts {
-        assert_eq!(rt; *counts, counted(&end.space, client), "of client {client}");
-        assert_eq!(rt; counts.0, u64::from(CALLS), "of client {client}");
-        client = client.wrapping_add(1);
+    assert_eq!(rt; (end.held, end.counts.len()), (0, CLIENTS as usize));
+    for (client, counts) in (0..CLIENTS).zip(&end.counts) {
+        check_client(rt, &end.space, client, *counts);
     }
 }
 

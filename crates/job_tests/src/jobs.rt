@@ -52,8 +52,8 @@ pub(crate) fn end_of<R: Threads + Sync + Wait + Abort + AllocGlobal, G: Gate + S
     Ok(run_threads(rt, alloc, limits, creds, jobs, gate)?)
 }
 
-/// How many calls of the client are in the journal. They are at the times 1, 2 and so on.
-fn calls_of(rt: &impl Abort, space: &Space, number: u32) -> u64 {
+/// The client has so many calls in the journal, at the times 1, 2 and so on.
+fn check_calls(rt: &impl Abort, space: &Space, number: u32, wanted: u64) {
     let mut count: u64 = 0;
     for row in space.journal() {
         if let JournalRow::Called { client, now, .. } = *row
@@ -63,17 +63,15 @@ fn calls_of(rt: &impl Abort, space: &Space, number: u32) -> u64 {
             assert_eq!(rt; now, count, "of client {number}");
         }
     }
-    count
+    assert_eq!(rt; count, wanted, "of client {number}");
 }
 
 /// So many clients are held, and each has so many calls, at the times of its jobs, and so many refusals.
 fn check_counts(rt: &impl Abort, end: &ThreadsEnd, held: u32, wanted: &[(u64, u64)]) {
     assert_eq!(rt; end.held, held);
     assert_eq!(rt; end.counts.as_slice(), wanted);
-    let mut client: u32 = 0;
-    for (calls, _) in wanted {
-        assert_eq!(rt; calls_of(rt, &end.space, client), *calls);
-        client = client.wrapping_add(1);
+    for (client, counts) in (0..64).zip(wanted) {
+        check_calls(rt, &end.space, client, counts.0);
     }
 }
 

@@ -1,19 +1,35 @@
 // Lists and calls that are copied.
 
 use ipc_call::{Call, IPC_CREAT, IPC_NOWAIT, Items, Kind};
+use std::alloc::Global;
 use std::test::Fail;
+
+/// These bytes as a list.
+fn list(alloc: Global, bytes: &[u8]) -> Result<Items<u8>, Fail> {
+    Ok(Items::new(Vec::from_slice(alloc, bytes)?))
+}
+
+/// A copy of a list of the one equals a list of the other.
+fn copy_equals(alloc: Global, bytes: &[u8], others: &[u8]) -> Result<bool, Fail> {
+    let copied = list(alloc, bytes)?.copy()?;
+    Ok(copied == list(alloc, others)?)
+}
+
+/// A copy of a list has so many bytes and these, also when it is taken apart.
+fn copy_has(alloc: Global, bytes: &[u8]) -> Result<bool, Fail> {
+    let copied = list(alloc, bytes)?.copy()?;
+    let same = copied.len() == bytes.len() && copied.as_slice() == bytes;
+    let apart = copied.into_vec();
+    Ok(same && apart.as_slice() == bytes)
+}
 
 #[test]
 fn a_copied_list_equals_its_source_alone(rt: HostRuntime) -> Result<(), Fail> {
-    let text = Items::new(vec![in rt.alloc(); 104u8, 0, 255]?);
-    let copied = text.copy()?;
-    assert!(rt; copied == text);
-    assert_eq!(rt; copied.len(), 3);
-    assert_eq!(rt; copied.as_slice(), [104, 0, 255].as_slice());
-    assert!(rt; copied != Items::new(vec![in rt.alloc(); 104u8, 0]?));
-    assert!(rt; copied != Items::new(vec![in rt.alloc(); 104u8, 0, 254]?));
-    let bytes = copied.into_vec();
-    assert_eq!(rt; bytes.as_slice(), [104, 0, 255].as_slice());
+    let alloc = rt.alloc();
+    assert!(rt; copy_has(alloc, &[104, 0, 255])?);
+    assert!(rt; copy_equals(alloc, &[104, 0, 255], &[104, 0, 255])?);
+    assert!(rt; !copy_equals(alloc, &[104, 0, 255], &[104, 0])?);
+    assert!(rt; !copy_equals(alloc, &[104, 0, 255], &[104, 0, 254])?);
     Ok(())
 }
 

@@ -4,15 +4,23 @@ use bitflags::Flags;
 use ipc_creds::{Caps, Creds};
 use std::test::Fail;
 
+fn caps() -> Caps {
+    Caps::SYS_ADMIN.union(Caps::IPC_OWNER)
+}
+
+/// User 300 of group 30, with the groups 7 and 10 and two capabilities.
+fn is_own(creds: &Creds) -> bool {
+    let user = creds.euid() == 300 && creds.egid() == 30;
+    let groups = creds.groups() == [10, 7, 10].as_slice();
+    let in_groups = creds.in_group(7) && creds.in_group(30) && !creds.in_group(300);
+    user && groups && in_groups && creds.caps() == caps()
+}
+
 #[test]
 fn a_copy_equals_its_source(rt: HostRuntime) -> Result<(), Fail> {
     let groups = vec![in rt.alloc(); 10, 7, 10]?;
-    let creds = Creds::new(300, 30, groups, Caps::SYS_ADMIN.union(Caps::IPC_OWNER));
+    let creds = Creds::new(300, 30, groups, caps());
     let copied = creds.copy()?;
-    assert_eq!(rt; copied.euid(), 300);
-    assert_eq!(rt; copied.egid(), 30);
-    assert_eq!(rt; copied.groups(), [10, 7, 10].as_slice());
-    assert!(rt; copied.caps() == creds.caps());
-    assert!(rt; copied.in_group(7) && copied.in_group(30) && !copied.in_group(300));
+    assert!(rt; is_own(&creds) && is_own(&copied));
     Ok(())
 }

@@ -2,6 +2,7 @@
 
 use ipc_call::{Call, JournalRow};
 use ipc_journal::Journal;
+use std::process::Abort;
 use std::test::Fail;
 
 fn called(client: u32) -> JournalRow {
@@ -10,15 +11,21 @@ fn called(client: u32) -> JournalRow {
     JournalRow::Called { client, now, call }
 }
 
+/// The rows are the calls of these clients.
+fn check_entries(rt: &impl Abort, journal: &Journal, clients: &[u32]) {
+    assert_eq!(rt; journal.entries().len(), clients.len());
+    for (entry, client) in journal.entries().iter().zip(clients) {
+        assert!(rt; *entry == called(*client));
+    }
+}
+
 #[test]
 fn rows_stand_in_the_order_in_which_they_came(rt: HostRuntime) -> Result<(), Fail> {
     let mut journal = Journal::new(rt.alloc());
-    assert_eq!(rt; journal.entries().len(), 0);
+    check_entries(&rt, &journal, &[]);
     journal.reserve(2)?;
     journal.enter(called(3));
     journal.enter(called(1));
-    assert_eq!(rt; journal.entries().len(), 2);
-    assert!(rt; journal.entries()[0] == called(3));
-    assert!(rt; journal.entries()[1] == called(1));
+    check_entries(&rt, &journal, &[3, 1]);
     Ok(())
 }

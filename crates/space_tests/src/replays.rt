@@ -109,6 +109,18 @@ fn parted(
     Ok(length)
 }
 
+/// So many of the rows begin a journal. None where they are one.
+fn check_parted(
+    rt: &(impl Abort + AllocGlobal),
+    limits: Limits,
+    rows: &[JournalRow],
+    wanted: Option<u64>,
+) -> Result<(), Fail> {
+    let found = parted(rt, limits, rows)?;
+    assert_eq!(rt; found, wanted, "of {} rows", rows.len());
+    Ok(())
+}
+
 /// What comes of so many of the ten rows, from none to all.
 const CUT: [Option<u64>; 11] = [
     None,
@@ -128,11 +140,9 @@ const CUT: [Option<u64>; 11] = [
 fn are_cut(rt: &(impl Abort + AllocGlobal), rows: &[JournalRow]) -> Result<(), Fail> {
     assert_eq!(rt; rows.len(), 10);
     for count in 0..11 {
-        let found = parted(rt, Limits::default(), &rows[..count])?;
-        assert_eq!(rt; found, CUT[count], "of {count}");
+        check_parted(rt, Limits::default(), &rows[..count], CUT[count])?;
     }
-    assert_eq!(rt; parted(rt, Limits::default(), &rows[1..])?, Some(0));
-    Ok(())
+    check_parted(rt, Limits::default(), &rows[1..], Some(0))
 }
 
 #[test]
@@ -140,19 +150,23 @@ fn rows_that_end_inside_an_event_are_no_journal(rt: HostRuntime) -> Result<(), F
     are_cut(&rt, rows_to(rt.alloc(), 10)?.as_slice())
 }
 
-/// The text is too long for the limit; and the reply to bob goes to carol.
+/// The text is too long for the limit.
 #[test]
-fn other_clients_and_other_limits_are_told(rt: HostRuntime) -> Result<(), Fail> {
-    let mut rows = rows_to(rt.alloc(), 10)?;
+fn other_limits_are_told(rt: HostRuntime) -> Result<(), Fail> {
+    let rows = rows_to(rt.alloc(), 10)?;
     let limits = Limits {
         msg_max: 1,
         ..Limits::default()
     };
-    assert_eq!(rt; parted(&rt, limits, rows.as_slice())?, Some(5));
-    assert_eq!(rt; rows.len(), 10);
-    rows[6] = answered(CAROL, 4, 1, None);
-    assert_eq!(rt; parted(&rt, Limits::default(), rows.as_slice())?, Some(6));
-    Ok(())
+    check_parted(&rt, limits, rows.as_slice(), Some(5))
+}
+
+/// The reply to bob goes to carol.
+#[test]
+fn another_client_is_told(rt: HostRuntime) -> Result<(), Fail> {
+    let mut rows = rows_to(rt.alloc(), 6)?;
+    rows.push(answered(CAROL, 4, 1, None))?;
+    check_parted(&rt, Limits::default(), rows.as_slice(), Some(6))
 }
 
 #[test]
@@ -165,8 +179,7 @@ fn a_client_that_waits_or_is_not_there_makes_no_call(rt: HostRuntime) -> Result<
     ] {
         let mut rows = rows_to(rt.alloc(), 4)?;
         rows.push(receive(client))?;
-        let found = parted(&rt, Limits::default(), rows.as_slice())?;
-        assert_eq!(rt; found, wanted, "{client}");
+        check_parted(&rt, Limits::default(), rows.as_slice(), wanted)?;
     }
     Ok(())
 }

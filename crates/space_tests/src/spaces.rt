@@ -41,17 +41,22 @@ fn remove(client: u32, id: u32, wanted: Outcome) -> Worked {
 }
 
 /// Alice is 100:10, and dave is 300:30 with the supplementary group 10.
-fn space_with(rt: &(impl Abort + AllocGlobal), limits: Limits) -> Result<Space, Fail> {
-    assert!(rt; limits.in_range());
+fn users(rt: &(impl Abort + AllocGlobal)) -> Result<Vec<Creds>, Fail> {
     let alloc = rt.alloc();
     let groups = vec![in alloc; 10]?;
     assert!(rt; groups.len() <= 32);
     let mut clients = Vec::new(alloc);
     clients.push(Creds::new(100, 10, Vec::new(alloc), Caps::empty()))?;
     clients.push(Creds::new(300, 30, groups, Caps::empty()))?;
+    Ok(clients)
+}
+
+/// A namespace of alice and dave.
+fn space_with(rt: &(impl Abort + AllocGlobal), limits: Limits) -> Result<Space, Fail> {
+    assert!(rt; limits.in_range());
+    let clients = users(rt)?;
     assert_eq!(rt; clients.len(), 2);
-    let space = Space::start(limits, clients)?;
-    Ok(space)
+    Ok(Space::start(limits, clients)?)
 }
 
 fn effects_of(
@@ -67,22 +72,28 @@ fn effects_of(
     Ok(effects)
 }
 
+/// The call was the event at this place, and ended so.
+fn check_reply(rt: &impl Abort, reply: &Reply, place: u64, wanted: &Outcome) {
+    let Reply::Entered {
+        place: told,
+        turn,
+        outcome,
+    } = reply
+    else {
+        panic!(rt; "no event at {place}");
+    };
+    assert_eq!(rt; (*told, *turn), (place, 0));
+    assert_eq!(rt; outcome, wanted, "at {place}");
+}
+
 /// The call was the event at this place, ended so, and ended no waiting call.
 fn check_effects(rt: &impl Abort, effects: &Effects, place: u64, wanted: &Outcome) {
     assert_eq!(rt; effects.place, place);
     assert_eq!(rt; effects.others.len(), 0, "at {place}");
-    let Some(
-        Reply::Entered {
-            place: told,
-            turn,
-            outcome,
-        },
-    ) = &effects.own
-    else {
-        panic!(rt; "no reply at {place}");
-    };
-    assert_eq!(rt; (*told, *turn), (place, 0));
-    assert_eq!(rt; outcome, wanted, "at {place}");
+    match &effects.own {
+        Some(reply) => check_reply(rt, reply, place, wanted),
+        None => panic!(rt; "no reply at {place}"),
+    }
 }
 
 /// Makes a call, which must be the event at this place, and end no waiting call.
