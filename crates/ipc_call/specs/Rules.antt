@@ -1,8 +1,8 @@
 -- The rules by which calls are refused, each with its error and its printed name.
 use Rattle.std.specs.Prelude.{ℕ, List, codes}
 use Rattle.ipc_call.specs.declared.rules.Rule.{Rule}
-use Rattle.ipc_call.specs.declared.rules.Rule.TheVariants.{NotOwner, NeedsResource, NotSameUser, NoKey, NoProcess}
-use Rattle.ipc_call.specs.declared.rules.Rule.TheVariants.{Interrupted, MessageTooLong, QueueFull, WouldWait, OwnerBits}
+use Rattle.ipc_call.specs.declared.rules.Rule.TheVariants.{NotOwner, NeedsResource, NotSameUser, NotOwnUser, NotOwnGroup, NeedsSetgid, TooManyGroups, NoKey, NoProcess}
+use Rattle.ipc_call.specs.declared.rules.Rule.TheVariants.{Interrupted, MessageTooLong, QueueFull, WouldWait, TimedOut, OwnerBits}
 use Rattle.ipc_call.specs.declared.rules.Rule.TheVariants.{GroupBits, OtherBits, KeyExists, BadId, BadType}
 use Rattle.ipc_call.specs.declared.rules.Rule.TheVariants.{TextTooLong, BadArgument, NoSlot, ValueRange, UndoRange}
 use Rattle.ipc_call.specs.declared.rules.Rule.TheVariants.{NoMessage, Removed, Ended, TooManyOperations, BadSize}
@@ -16,6 +16,10 @@ unfoldable pub row_of : Rule → Errno × List ℕ
 row_of NotOwner = (EPERM, codes "not-owner")
 row_of NeedsResource = (EPERM, codes "needs-resource")
 row_of NotSameUser = (EPERM, codes "not-same-user")
+row_of NotOwnUser = (EPERM, codes "not-own-user")
+row_of NotOwnGroup = (EPERM, codes "not-own-group")
+row_of NeedsSetgid = (EPERM, codes "needs-setgid")
+row_of TooManyGroups = (EINVAL, codes "too-many-groups")
 row_of NoKey = (ENOENT, codes "no-key")
 row_of Ended = (ESRCH, codes "ended")
 row_of NoProcess = (ESRCH, codes "no-process")
@@ -24,6 +28,7 @@ row_of MessageTooLong = (E2BIG, codes "message-too-long")
 row_of TooManyOperations = (E2BIG, codes "too-many-operations")
 row_of QueueFull = (EAGAIN, codes "queue-full")
 row_of WouldWait = (EAGAIN, codes "would-wait")
+row_of TimedOut = (EAGAIN, codes "timed-out")
 row_of OwnerBits = (EACCES, codes "owner-bits")
 row_of GroupBits = (EACCES, codes "group-bits")
 row_of OtherBits = (EACCES, codes "other-bits")

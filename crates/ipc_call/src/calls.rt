@@ -68,6 +68,12 @@ pub enum Call {
         id: u32,
         ops: Items<SemOper>,
     },
+    /// The same, and waits no longer than `timeout` seconds of the service's clock (semtimedop of semop(2)).
+    SemTimedOp {
+        id: u32,
+        ops: Items<SemOper>,
+        timeout: u64,
+    },
     /// Reports the value of a semaphore (GETVAL of semctl(2)).
     GetVal {
         id: u32,
@@ -162,6 +168,13 @@ pub enum Call {
     Interrupt {
         pid: u32,
     },
+    /// Gives the client another effective user and group, and other supplementary groups where some are given
+    /// (seteuid(2), setegid(2) and setgroups(2) in one). It is the project's own.
+    SetCreds {
+        euid: u32,
+        egid: u32,
+        groups: Option<Items<u32>>,
+    },
     /// Ends the process of the client (_exit(2)). What its semops with `SEM_UNDO` left to undo is added to the
     /// values (semadj of semop(2)), and what it has attached is detached.
     Exit,
@@ -204,6 +217,14 @@ impl Call {
                 let ops = ops.copy()?;
                 Call::SemOp { id, ops }
             }
+            Call::SemTimedOp {
+                id,
+                ref ops,
+                timeout,
+            } => {
+                let ops = ops.copy()?;
+                Call::SemTimedOp { id, ops, timeout }
+            }
             Call::GetVal { id, num } => Call::GetVal { id, num },
             Call::GetPid { id, num } => Call::GetPid { id, num },
             Call::GetNcnt { id, num } => Call::GetNcnt { id, num },
@@ -245,7 +266,24 @@ impl Call {
             Call::IpcRmid { kind, id } => Call::IpcRmid { kind, id },
             Call::Listing { kind } => Call::Listing { kind },
             Call::Interrupt { pid } => Call::Interrupt { pid },
+            Call::SetCreds {
+                euid,
+                egid,
+                ref groups,
+            } => {
+                let groups = copied(groups)?;
+                Call::SetCreds { euid, egid, groups }
+            }
             Call::Exit => Call::Exit,
         })
+    }
+}
+
+fn copied(groups: &Option<Items<u32>>) -> Result<Option<Items<u32>>, Memory>
+    ensures { IfOk result (λ copied. copied ≡ groups.now) }
+{
+    match groups {
+        None => Ok(None),
+        Some(groups) => Ok(Some(groups.copy()?)),
     }
 }

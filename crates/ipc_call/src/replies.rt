@@ -128,6 +128,8 @@ pub struct Waiting {
     pub client: u32,
     /// Its call.
     pub call: Call,
+    /// The second of the clock at which it ends, where it is one that waits no longer (semtimedop of semop(2)).
+    pub deadline: Option<u64>,
 }
 
 /// A waiting call that has ended, with its client.

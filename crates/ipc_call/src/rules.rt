@@ -15,6 +15,14 @@ pub enum Rule {
     NeedsResource,
     /// The caller has another effective user than the process, and lacks CAP_SYS_ADMIN.
     NotSameUser,
+    /// The user asked for is neither the effective, the real nor the saved one, and the caller lacks CAP_SETUID.
+    NotOwnUser,
+    /// The group asked for is neither the effective, the real nor the saved one, and the caller lacks CAP_SETGID.
+    NotOwnGroup,
+    /// Supplementary groups are given, and the caller lacks CAP_SETGID.
+    NeedsSetgid,
+    /// More than 32 supplementary groups are given.
+    TooManyGroups,
     /// The key has no object, and `IPC_CREAT` isn't given.
     NoKey,
     /// The client has ended.
@@ -31,6 +39,9 @@ pub enum Rule {
     QueueFull,
     /// An operation of semop with `IPC_NOWAIT` can't go on now.
     WouldWait,
+    /// The call has waited until its deadline, or would have to wait and its deadline isn't above the clock
+    /// (semtimedop of semop(2)).
+    TimedOut,
     /// The caller is in the owner class, and the owner's permission bits lack one that is asked.
     OwnerBits,
     /// The caller is in the group class, and the group's permission bits lack one that is asked.
@@ -101,6 +112,10 @@ impl Rule {
             Rule::NotOwner => (Errno::EPERM, "not-owner"),
             Rule::NeedsResource => (Errno::EPERM, "needs-resource"),
             Rule::NotSameUser => (Errno::EPERM, "not-same-user"),
+            Rule::NotOwnUser => (Errno::EPERM, "not-own-user"),
+            Rule::NotOwnGroup => (Errno::EPERM, "not-own-group"),
+            Rule::NeedsSetgid => (Errno::EPERM, "needs-setgid"),
+            Rule::TooManyGroups => (Errno::EINVAL, "too-many-groups"),
             Rule::NoKey => (Errno::ENOENT, "no-key"),
             Rule::Ended => (Errno::ESRCH, "ended"),
             Rule::NoProcess => (Errno::ESRCH, "no-process"),
@@ -109,6 +124,7 @@ impl Rule {
             Rule::TooManyOperations => (Errno::E2BIG, "too-many-operations"),
             Rule::QueueFull => (Errno::EAGAIN, "queue-full"),
             Rule::WouldWait => (Errno::EAGAIN, "would-wait"),
+            Rule::TimedOut => (Errno::EAGAIN, "timed-out"),
             Rule::OwnerBits => (Errno::EACCES, "owner-bits"),
             Rule::GroupBits => (Errno::EACCES, "group-bits"),
             Rule::OtherBits => (Errno::EACCES, "other-bits"),

@@ -136,7 +136,7 @@ client_saw list (InFlight c) is = is.1
 below_from : (n : ℕ) (s : State) (es : List Event) → length s.clients ≡ n → AreLegalFrom s es → All (λ e. e.client < n) es
 below_from n s [] is law = All-nil (λ (e : Event). e.client < n)
 below_from n s (e ∷ es) is law = All-cons (λ (x : Event). x.client < n) e es (let known = law.0.known in omega arith)
-    (below_from n (step s e).state es (ap length (Follows-step s e).clients ∙ is) law.1)
+    (below_from n (step s e).state es ((Follows-step s e).clients ∙ is) law.1)
 
 pub is_opened : (list : Records) (h : History) (cs : List Client) → IsOpened list → 1 ≤ length cs → All (λ c. IsClientOf list c) cs → All (λ c. IsTold (entries_of h) cs c) cs → IsLegal h → IsOpenedBy (opened list) list.clients h
 is_opened list h [] for some are told law = absurd (omega (arith, some))

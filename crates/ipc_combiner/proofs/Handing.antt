@@ -11,7 +11,7 @@ use Rattle.ipc_model.specs.State.{is_waiting}
 use Rattle.ipc_space.specs.declared.spaces.Effects.{Effects}
 use Rattle.ipc_model.specs.Step.{Event}
 use Rattle.ipc_model.specs.Decision.{Outcome}
-use Rattle.ipc_history.specs.History.{History, IsLegal, next_step, with_event, told_by}
+use Rattle.ipc_history.specs.History.{History, IsLegal, next_step, with_event}
 use Rattle.ipc_history.specs.History as model
 use Rattle.ipc_space.specs.Spaces.{own_reply, other_replies}
 use Rattle.ipc_space.specs.Telling.{told_to, told_of, replies_in}
@@ -159,9 +159,6 @@ module _ (n client now : ℕ) (call : Call) (v : Knowledge) (old : Shared) (take
     more r = replies_of (box_value new.space) r ∙ ap (λ (z : History). model.replies z r) ent.0 ∙ replies_push was event r
         ∙ ap (λ (l : List Reply). l ++ replies_in (told_of was event) r) (sym (replies_of was r) ∙ ap (λ (es : List Entry). replies es r) taken.2)
 
-    few_told : (r : ℕ) → length (replies_in (told_of was event) r) ≤ 1
-    few_told r = told_once was event r next_legal
-
     goes_on : GoesOn v.work.seen (entries_in new)
     goes_on = (called event ∷ [], longer)
 
@@ -172,11 +169,8 @@ module _ (n client now : ℕ) (call : Call) (v : Knowledge) (old : Shared) (take
       told_mine : replies_in (told_of was event) client ≡ reply ∷ replies_in others client
       told_mine = ap (λ l. replies_in l client) told_is_all ∙ here client reply others
 
-      mine_alone : replies_in others client ≡ []
-      mine_alone = alone (replies_in (told_of was event) client) (replies_in others client) reply told_mine (few_told client)
-
       pub may_answer : MayAnswer entries_in legal client_of call_of n client v new replies (answers.Reply reply)
-      may_answer = inl (enters, more client ∙ ap (λ (l : List Reply). replies v.work.seen client ++ l) (told_mine ∙ ap (λ (l : List Reply). reply ∷ l) mine_alone))
+      may_answer = inl (enters, more client ∙ ap (λ (l : List Reply). replies v.work.seen client ++ l) (told_mine ∙ ap (λ (l : List Reply). reply ∷ l) ent.3))
 
       pub replied : (w : Knowledge) (same : Shared) → w ≡ with_work (replying v.work.serving client (entries_in new) v.work) v → same ≡ new → IsHanding n w same others
       replied w same e eq = subst (λ (z : Knowledge). IsHanding n z same others) (sym (e ∙ (λ i. with_work (replying (taken.1 i) client (entries_in new) v.work) v))) record {
@@ -189,50 +183,52 @@ module _ (n client now : ℕ) (call : Call) (v : Knowledge) (old : Shared) (take
         is_legal = next_legal;
         known = subst (λ k. All (λ (t : ℕ × Reply). t.0 < k) others) clients_are (All-tail (λ (t : ℕ × Reply). t.0 < length was.clients) (client, reply) others (subst (All (λ (t : ℕ × Reply). t.0 < length was.clients)) told_is_all (told_known was event next_legal)));
         each = λ r lt. dite (ℕ_discrete r client)
-            (λ a. inl (inl a, ap (λ k. replies_in others k) a ∙ mine_alone))
+            (λ a. inl (inl a, ap (λ k. replies_in others k) a ∙ ent.3))
             (λ a. inr ((λ on. ⊎_elim a (λ t. t) on), sym (ap (λ l. replies_in l r) told_is_all ∙ elsewhere client r reply others (λ b. a (sym b)))));
       }
 
-    module _ (is : mine ≡ None) where
-      tells_none : told_of was event ≡ []
-      tells_none = ent.2 ∙ ap (λ o. told_list client o others) is ∙ ent.3 is
+      pub replied_far : (w : Knowledge) → w ≡ with_work (replying v.work.serving client (entries_in new) v.work) v → IsAsFar v w
+      replied_far w e = subst (λ (z : Knowledge). IsAsFar v z) (sym (e ∙ (λ i. with_work (replying (taken.1 i) client (entries_in new) v.work) v))) (refl, refl, refl, refl, goes_on)
 
-      same_replies : (r : ℕ) → replies (entries_in new) r ≡ replies v.work.seen r
-      same_replies r = more r ∙ ap (λ l. replies v.work.seen r ++ replies_in l r) tells_none ∙ append-nil (replies v.work.seen r)
+    module _ (is : mine ≡ None) where
+      tells_others : told_of was event ≡ others
+      tells_others = ent.2 ∙ ap (λ o. told_list client o others) is
+
+      same_replies : replies (entries_in new) client ≡ replies v.work.seen client
+      same_replies = more client ∙ ap (λ l. replies v.work.seen client ++ l) (ap (λ l. replies_in l client) tells_others ∙ ent.3) ∙ append-nil (replies v.work.seen client)
 
       pub may_park : MayPark entries_in legal client_of call_of n client v new own replies
       may_park = (
         enters,
-        (let told = ap length (same_replies client) in
+        (let told = ap length same_replies in
             let calls = ap length (ap (λ (l : List Entry). own l client) longer ∙ own_call v.work.seen (called event) taken.7 (subst legal longer legal_now)) in
             let sum = length-append (own v.work.seen client) ((now, call) ∷ []) in
             let even = taken.4 in omega (arith, told, calls, sum, even)),
       )
 
-      pub parked : (w : Knowledge) (same : Shared) → w ≡ with_work (leaving client (entries_in new) v.work) v → same ≡ new → Serves n w same
-      parked w same e eq = subst (λ (z : Knowledge). Serves n z same) (sym e) ((taken.0, refl), ap entries_in eq, (λ r _. inl (same_replies r)), legal_now)
+      pub parked : (w : Knowledge) (same : Shared) → w ≡ with_work (leaving client (entries_in new) v.work) v → same ≡ new → IsHanding n w same others
+      parked w same e eq = subst (λ (z : Knowledge). IsHanding n z same others) (sym e) record {
+        combines = (taken.0, refl);
+        seen = ap entries_in eq;
+        before = was;
+        event = event;
+        was = sym taken.2;
+        is = ap entries_of ent.0;
+        is_legal = next_legal;
+        known = subst (λ k. All (λ (t : ℕ × Reply). t.0 < k) others) clients_are (subst (All (λ (t : ℕ × Reply). t.0 < length was.clients)) tells_others (told_known was event next_legal));
+        each = λ r lt. inr ((λ on. on), sym (ap (λ l. replies_in l r) tells_others));
+      }
 
       pub parked_far : (w : Knowledge) → w ≡ with_work (leaving client (entries_in new) v.work) v → IsAsFar v w
       parked_far w e = subst (λ (z : Knowledge). IsAsFar v z) (sym e) (refl, refl, refl, refl, goes_on)
 
-    pub dealt_reply : (w u : Knowledge) → w ≡ with_work (replying v.work.serving client (entries_in new) v.work) v → HasKept w u → IsAsFar w u → IsAsFar v u × HasDealt client v u
-    dealt_reply w u e kept far = let is = e ∙ (λ i. with_work (replying (taken.1 i) client (entries_in new) v.work) v) in (
-      (
-        far.0 ∙ ap (λ (z : Knowledge). z.work.stage) is,
-        far.1 ∙ ap (λ (z : Knowledge). z.work.posts) is,
-        far.2 ∙ ap (λ (z : Knowledge). z.work.entered) is,
-        far.3 ∙ ap (λ (z : Knowledge). z.work.got) is,
-        goes_further v.work.seen w.work.seen u.work.seen (subst (λ (z : Knowledge). GoesOn v.work.seen z.work.seen) (sym is) goes_on) far.4,
-      ),
-      (
-        kept.0 ∙ ap (λ (z : Knowledge). z.work.passed) is,
-        kept.1 ∙ ap (λ (z : Knowledge). z.work.past) is,
-        kept.2 ∙ ap (λ (z : Knowledge). z.work.begun) is,
-        kept.3 ∙ ap (λ (z : Knowledge). z.work.heard) is,
-        kept.4 ∙ ap (λ (z : Knowledge). z.work.met) is,
-        kept.5 ∙ ap (λ (z : Knowledge). z.walk) is,
-      ),
-    )
+-- what is known after handing out
+module _ (client : ℕ) (v w u : Knowledge) where
+  pub far_then : IsAsFar v w → IsAsFar w u → IsAsFar v u
+  far_then first then_far = (then_far.0 ∙ first.0, then_far.1 ∙ first.1, then_far.2 ∙ first.2, then_far.3 ∙ first.3, goes_further v.work.seen w.work.seen u.work.seen first.4 then_far.4)
+
+  pub dealt_then : HasDealt client v w → HasKept w u → HasDealt client v u
+  dealt_then dealt kept = (kept.0 ∙ dealt.0, kept.1 ∙ dealt.1, kept.2 ∙ dealt.2, kept.3 ∙ dealt.3, kept.4 ∙ dealt.4, kept.5 ∙ dealt.5)
 
 module _ (o : ℕ) (v u w : Knowledge) (e : w ≡ with_work (paying o u.work) u) where
   pub far_paying : IsAsFar v u → IsAsFar v w
@@ -250,11 +246,11 @@ module _ (h k : History) (client now : ℕ) (call : Call) where
   abbrev e : Event
   e = record { client = client; now = now; call = call }
 
-  entered : (x : Effects) → k ≡ with_event h e → x.own ≡ own_reply (length h.events + 1) (next_step h e).own → x.others.items ≡ other_replies (length h.events + 1) (next_step h e).ended → IsLegal k → (x.own ≡ None → x.others.items ≡ [])
+  entered : (x : Effects) → k ≡ with_event h e → x.own ≡ own_reply (length h.events + 1) (next_step h e).own → x.others.items ≡ other_replies (length h.events + 1) (next_step h e).ended → IsLegal k → replies_in x.others.items client ≡ []
       → HasEntered client now call h k x.own x.others.items
-  entered x is mine others law alone = (is, law, told_as client (length h.events + 1) (next_step h e).own (next_step h e).ended ∙ (λ i. told_list client (sym mine i) (sym others i)), alone)
+  entered x is mine others law apart = (is, law, told_as client (length h.events + 1) (next_step h e).own (next_step h e).ended ∙ (λ i. told_list client (sym mine i) (sym others i)), apart)
 
   pub entered_if : {X : Type 0} (r : Result Effects X) → OnOk r (k ≡ with_event h e) → IfOk r (λ x. x.own ≡ own_reply (length h.events + 1) (next_step h e).own) → IfOk r (λ x. x.others.items ≡ other_replies (length h.events + 1) (next_step h e).ended)
-      → IsLegal k → IfOk r (λ x. x.own ≡ None → x.others.items ≡ []) → IfOk r (λ x. HasEntered client now call h k x.own x.others.items)
-  entered_if (Ok x) is mine others law alone = entered x is mine others law alone
-  entered_if (Err x) is mine others law alone = tt
+      → IsLegal k → IfOk r (λ x. replies_in x.others.items client ≡ []) → IfOk r (λ x. HasEntered client now call h k x.own x.others.items)
+  entered_if (Ok x) is mine others law apart = entered x is mine others law apart
+  entered_if (Err x) is mine others law apart = tt

@@ -27,11 +27,11 @@ abbrev pub told_list : ℕ → Option Reply → List (ℕ × Reply) → List (�
 told_list client None others = others
 told_list client (Some reply) others = (client, reply) ∷ others
 
--- one more event, this call, has entered, and tells this; where the call waits it tells nobody
+-- one more event, this call, has entered, and tells this; its client is none of the others that it tells
 abbrev pub HasEntered : ℕ → ℕ → Call → History → History → Option Reply → List (ℕ × Reply) → Type 0
 HasEntered client now call h k mine others =
     let e : Event = record { client = client; now = now; call = call } in
-    (k ≡ with_event h e) × IsLegal k × (told_of h e ≡ told_list client mine others) × (mine ≡ None → others ≡ [])
+    (k ≡ with_event h e) × IsLegal k × (told_of h e ≡ told_list client mine others) × (replies_in others client ≡ [])
 
 -- it has answered the own call of the last event, and has still to hand out the rest of what the event tells: each
 -- client was handed its reply, or all that it is told is among the rest

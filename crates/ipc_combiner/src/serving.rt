@@ -40,7 +40,10 @@ impl Serves for Shared {
                 let entered = combiner.answer(list, client, Answer::Reply(reply), state);
                 hand_out(combiner, list, others, entered)
             }
-            None => combiner.mark_parked(list, client, state),
+            None => {
+                let parked = combiner.mark_parked(list, client, state);
+                hand_out(combiner, list, others, parked)
+            }
         }
     }
 }

@@ -1,7 +1,7 @@
 //! The capabilities that the service knows.
 
 ghost use Rattle.std.specs.Prelude.{⊤, [], ◌∷◌, codes};
-ghost use Rattle.ipc_creds.specs.Credentials.{cap_ipc_owner, cap_sys_admin, cap_sys_resource};
+ghost use Rattle.ipc_creds.specs.Credentials.{cap_ipc_owner, cap_setgid, cap_setuid, cap_sys_admin, cap_sys_resource};
 
 use bitflags::{Flag, Flags, bitflag_items};
 
@@ -14,6 +14,8 @@ bitflag_items! {
         const IPC_OWNER = 1;
         const SYS_ADMIN = 2;
         const SYS_RESOURCE = 4;
+        const SETUID = 8;
+        const SETGID = 16;
     }
 }
 
@@ -25,6 +27,8 @@ impl Flags for Caps {
     ghost table = { (codes "IPC_OWNER", cap_ipc_owner)
         ∷ (codes "SYS_ADMIN", cap_sys_admin)
         ∷ (codes "SYS_RESOURCE", cap_sys_resource)
+        ∷ (codes "SETUID", cap_setuid)
+        ∷ (codes "SETGID", cap_setgid)
         ∷ [] };
 
     ghost set_of = { λ c. c.0 };

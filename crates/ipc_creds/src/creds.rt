@@ -1,10 +1,11 @@
 //! The credentials of a client.
 
-ghost use Rattle.std.specs.Prelude.{◌≡◌, ◌≤◌, IfOk, length, vec_len};
-ghost use Rattle.ipc_creds.specs.Credentials.{is_in_group};
+ghost use Rattle.std.specs.Prelude.{◌≡◌, ◌≤◌, ◌==◌, IfOk, IfSome, length, option_map, vec_len};
+ghost use Rattle.std.specs.List.{list_any};
+ghost use Rattle.ipc_creds.specs.Credentials.{became, is_in_group, own_groups, own_users};
 
 use crate::caps::Caps;
-use std::alloc::AllocError;
+use std::alloc::{AllocError, Global};
 use std::marker::Model;
 
 /// How many supplementary groups a client may have at most. Linux's NGROUPS_MAX is 65536.
@@ -17,6 +18,10 @@ pub struct Creds {
     egid: u32,
     groups: Vec<u32>,
     caps: Caps,
+    ruid: u32,
+    suid: u32,
+    rgid: u32,
+    sgid: u32,
 }
 
 impl Model for Creds {
@@ -25,23 +30,60 @@ impl Model for Creds {
 
     ghost Value = { Credentials };
 
-    ghost view = { λ c. record { euid = c.euid; egid = c.egid; groups = c.groups.items; caps = c.caps.0 } };
+    ghost view = { λ c. record { euid = c.euid; egid = c.egid; groups = c.groups.items; caps = c.caps.0; ruid = c.ruid; suid = c.suid; rgid = c.rgid; sgid = c.sgid } };
 
     ghost invariant = { λ c. vec_len c.groups ≤ groups_max };
 }
 
 impl Creds {
-    /// Credentials of these parts.
+    /// Credentials of these parts; the real and the saved user and group are the effective ones.
     pub fn new(euid: u32, egid: u32, groups: Vec<u32>, caps: Caps) -> Creds
         requires { vec_len groups ≤ GROUPS_MAX }
-        ensures { result ≡ record { euid = euid; egid = egid; groups = groups.items; caps = caps.0 } }
+        ensures { result ≡ record { euid = euid; egid = egid; groups = groups.items; caps = caps.0; ruid = euid; suid = euid; rgid = egid; sgid = egid } }
     {
         Creds {
             euid,
             egid,
             groups,
             caps,
+            ruid: euid,
+            suid: euid,
+            rgid: egid,
+            sgid: egid,
         }
+    }
+
+    /// The same with another saved user and group (credentials(7)).
+    pub fn with_saved(self, suid: u32, sgid: u32) -> Creds
+        ensures { result ≡ record self { suid = suid; sgid = sgid } }
+    {
+        Creds { suid, sgid, ..self }
+    }
+
+    /// The same with another effective user and group, and other supplementary groups where some are given.
+    pub fn take_on(&mut self, euid: u32, egid: u32, groups: Option<Vec<u32>>)
+        requires few { IfSome groups (λ groups. vec_len groups ≤ GROUPS_MAX) }
+        ensures { self.new ≡ became euid egid (option_map (λ groups. groups.items) groups) self.old }
+    {
+        self.euid = euid;
+        self.egid = egid;
+        if let Some(groups) = groups {
+            self.groups = groups;
+        }
+    }
+
+    /// Whether the user is the effective, the real or the saved one.
+    pub fn is_own_user(&self, uid: u32) -> bool
+        ensures { result ≡ list_any (λ own. own == uid) (own_users self.now) }
+    {
+        self.euid == uid || self.ruid == uid || self.suid == uid
+    }
+
+    /// Whether the group is the effective, the real or the saved one.
+    pub fn is_own_group(&self, gid: u32) -> bool
+        ensures { result ≡ list_any (λ own. own == gid) (own_groups self.now) }
+    {
+        self.egid == gid || self.rgid == gid || self.sgid == gid
     }
 
     /// The effective user.
@@ -89,8 +131,32 @@ impl Creds {
             egid,
             groups,
             caps,
+            ruid,
+            suid,
+            rgid,
+            sgid,
         } = self;
-        let copied = Vec::from_slice(*groups.allocator(), groups.as_slice())?;
-        Ok(Creds::new(*euid, *egid, copied, *caps))
+        let groups = Vec::from_slice(*groups.allocator(), groups.as_slice())?;
+        Ok(Creds {
+            euid: *euid,
+            egid: *egid,
+            groups,
+            caps: *caps,
+            ruid: *ruid,
+            suid: *suid,
+            rgid: *rgid,
+            sgid: *sgid,
+        })
     }
+}
+
+/// Copies of credentials, in their order. The error comes only where an allocation fails.
+pub fn copies(alloc: Global, clients: &[Creds]) -> Result<Vec<Creds>, AllocError>
+    ensures { IfOk result (λ copied. copied.items ≡ clients.now) }
+{
+    let mut copied = Vec::with_capacity(alloc, clients.len())?;
+    for creds in clients {
+        copied.push(creds.copy()?)?;
+    }
+    Ok(copied)
 }

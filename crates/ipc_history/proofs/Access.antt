@@ -13,8 +13,9 @@ use Rattle.ipc_model.specs.Decision.{Decision}
 use Rattle.ipc_model.specs.Decision as decisions
 use Rattle.ipc_model.specs.Plan.{Check, Proceeds, IsPlain, Needs, Passes, Plan, Refuse, Grant, Wait, by_check, checks_in, decision, does_pass, is_denial, needs_in, or_wait, unless, ◌⨾◌}
 use Rattle.ipc_model.specs.State.{State}
-use Rattle.ipc_model.specs.Decide.{decide, plan}
-use Rattle.ipc_model.specs.Step.{Event, at_time}
+use Rattle.ipc_call.specs.declared.rules.Rule.TheVariants.{TimedOut}
+use Rattle.ipc_model.specs.Decide.{decide, is_late, plan, unless_late}
+use Rattle.ipc_model.specs.Step.{Event, begun}
 use Rattle.ipc_model.specs.Decision.{Outcome, outcome_of}
 use Rattle.ipc_history.specs.History.{History, next_step, run}
 use Rattle.ipc_history.specs.Access.{AreMet, IsDenied, caller_of, checks_of, needs_of}
@@ -131,14 +132,31 @@ refused (decisions.Refuse other) rule is = ap rule_of_own is
 refused decisions.Wait rule is = absurd (none-some (Err rule) is)
 refused (decisions.Grant answer new) rule is = absurd (true≢false (ap is_ok_own is))
 
+-- of a call that may be late
+late-served : (late : Bool) (d : Decision State) (answer : Answer) → outcome_of (unless_late late d) ≡ Some (Ok answer) → is_serve d ≡ true
+late-served true (decisions.Refuse rule) answer is = absurd (true≢false (ap is_ok_own (sym is)))
+late-served true decisions.Wait answer is = absurd (true≢false (ap is_ok_own (sym is)))
+late-served true (decisions.Grant other new) answer is = refl
+late-served false d answer is = served d answer is
+
+late-denied : (late : Bool) (d : Decision State) (rule : Rule) → is_denial rule ≡ true → outcome_of (unless_late late d) ≡ Some (Err rule) → refusal d ≡ Some rule
+late-denied true (decisions.Refuse other) rule denies is = ap rule_of_own is
+late-denied true decisions.Wait rule denies is = absurd (other-rule TimedOut rule tt denies (ap rule_of_own is))
+late-denied true (decisions.Grant answer new) rule denies is = absurd (true≢false (ap is_ok_own is))
+late-denied false d rule denies is = refused d rule is
+
+late-refuses : (late : Bool) (rule : Rule) → outcome_of {X = State} (unless_late late (decisions.Refuse rule)) ≡ Some (Err rule)
+late-refuses true rule = refl
+late-refuses false rule = refl
+
 -- of every history: a granted call's needs were met
 pub access-granted : (h : History) (e : Event) (answer : Answer) → (next_step h e).own ≡ Some (Ok answer) → AreMet (caller_of h e) (needs_of h e)
-access-granted h e answer is = let now = at_time (run h) e.now in met (caller_of h e) (plan now e.client e.call) (served (decide now e.client e.call) answer is)
+access-granted h e answer is = let now = begun (run h) e.now in met (caller_of h e) (plan now e.client e.call) (late-served (is_late now e.call) (decide now e.client e.call) answer is)
 
 -- and a denial is answered exactly where every check before its need passed, and the need failed
 pub access-denied : (h : History) (e : Event) (rule : Rule) → is_denial rule ≡ true → ((next_step h e).own ≡ Some (Err rule)) ↔ IsDenied (caller_of h e) (checks_of h e) rule
 access-denied h e rule denies =
-    let now = at_time (run h) e.now in
+    let now = begun (run h) e.now in
     let c = caller_of h e in
     let p = plan now e.client e.call in
-    (λ is. denied c p rule denies (refused (decide now e.client e.call) rule is), λ d. ap outcome_of (decides c p d.before d.after d.need rule d.split d.passed d.fails))
+    (λ is. denied c p rule denies (late-denied (is_late now e.call) (decide now e.client e.call) rule denies is), λ d. ap (λ x. outcome_of (unless_late (is_late now e.call) x)) (decides c p d.before d.after d.need rule d.split d.passed d.fails) ∙ late-refuses (is_late now e.call) rule)

@@ -15,11 +15,11 @@ use Rattle.ipc_ids.proofs.Sound.{IsFresh, IsSound-empty, WasUsed-there, fresh-un
 use Rattle.ipc_objects.specs.declared.object.Object.{Object}
 use Rattle.ipc_model.specs.State.{Caller, Queues, Segment, SemSet, Sems, Shared, State, caller, creds_at, opening}
 use Rattle.ipc_model.specs.Decision.{Decision, Grant, Outcome, outcome_of}
-use Rattle.ipc_model.specs.Plan.{found, on_part}
+use Rattle.ipc_model.specs.Plan.{found}
 use Rattle.ipc_model.specs.Plan as plans
 use Rattle.ipc_model.specs.Gets.{Getting, get, get_found, get_queue, get_segment, get_set, getting_queue, getting_segment, getting_set, new_object, object_of_key}
 use Rattle.ipc_model.specs.Decide.{decide, part_plan, plan}
-use Rattle.ipc_model.specs.Step.{Event, at_time, cancel, cancelled_by, settled, state_by, step}
+use Rattle.ipc_model.specs.Step.{Event, begun, cancel, cancelled_by, settled, state_by, step}
 use Rattle.ipc_history.specs.History.{History}
 use Rattle.ipc_history.specs.Made.{id_in, made, made_by, made_from, makes}
 use Rattle.ipc_model.proofs.Plans.{Ends, Ends-decision, Ends-on, Ends-order, IfGranted}
@@ -113,17 +113,17 @@ sound-later s t follows sound = record { queues = follows.queues.sound sound.que
 named-by : (kind : Kind) (s : State) (client now : ℕ) (call : Call) → AreSound s
     → AllByRecursion (IsNamed s kind (step s (record { client = client; now = now; call = call })).state) (made_by kind s (record { client = client; now = now; call = call }))
 named-by kinds.Queue s client now (MsgGet key flags) sound =
-    let here = at_time s now in
+    let here = begun s now in
     let call = MsgGet key flags in
     all-where _ (is_none (object_of_key s.queues key)) _ (λ absent.
     named-in (λ t. t.queues) (λ s t follows. follows.queues) here (decide here client call) client call (Names-queue here client key flags sound.queues.few absent) (Keeps-decide here client call) sound.queues)
 named-by kinds.Sems s client now (SemGet key nsems flags) sound =
-    let here = at_time s now in
+    let here = begun s now in
     let call = SemGet key nsems flags in
     all-where _ (is_none (object_of_key s.sems.sets key)) _ (λ absent.
     named-in (λ t. t.sems.sets) (λ s t follows. follows.sets) here (decide here client call) client call (Names-set here client key nsems flags sound.sets.few absent) (Keeps-decide here client call) sound.sets)
 named-by kinds.Segment s client now (ShmGet key size flags) sound =
-    let here = at_time s now in
+    let here = begun s now in
     let call = ShmGet key size flags in
     all-where _ (is_none (object_of_key s.shared.segments key)) _ (λ absent.
     named-in (λ t. t.shared.segments) (λ s t follows. follows.shared.grows) here (decide here client call) client call (Names-segment here client key size flags sound.segments.few absent) (Keeps-decide here client call) sound.segments)

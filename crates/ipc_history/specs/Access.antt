@@ -7,7 +7,7 @@ use Rattle.ipc_perm.specs.Access.{Need, denial}
 use Rattle.ipc_model.specs.Plan.{Check, Needs, checks_in, does_pass}
 use Rattle.ipc_model.specs.State.{creds_at}
 use Rattle.ipc_model.specs.Decide.{needs, plan}
-use Rattle.ipc_model.specs.Step.{Event, at_time}
+use Rattle.ipc_model.specs.Step.{Event, begun}
 use Rattle.ipc_history.specs.History.{History, run}
 
 -- every need is met
@@ -28,7 +28,7 @@ abbrev pub caller_of : History → Event → Credentials
 caller_of h e = creds_at (run h) e.client
 
 abbrev pub needs_of : History → Event → List Need
-needs_of h e = needs (at_time (run h) e.now) e.client e.call
+needs_of h e = needs (begun (run h) e.now) e.client e.call
 
 abbrev pub checks_of : History → Event → List Check
-checks_of h e = checks_in (plan (at_time (run h) e.now) e.client e.call)
+checks_of h e = checks_in (plan (begun (run h) e.now) e.client e.call)

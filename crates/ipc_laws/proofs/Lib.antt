@@ -1,6 +1,7 @@
 mod Attached
 mod Closed
 mod Controls
+pub mod Deadlines
 mod Lists
 mod Needs
 mod Own
@@ -18,3 +19,4 @@ mod Steps
 mod Tables
 mod Turns
 mod Undo
+mod Within

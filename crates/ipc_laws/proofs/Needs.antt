@@ -4,7 +4,7 @@ use Rattle.std.specs.Prelude.{option_map, if◌then◌else◌}
 use Rattle.std.specs.FinMap as finite
 use Rattle.ipc_call.specs.Flags.{has_flag, msg_except}
 use Rattle.ipc_call.specs.declared.calls.Call.{Call}
-use Rattle.ipc_call.specs.declared.calls.Call.TheVariants.{IpcSet, MsgSnd, MsgRcv, SemOp}
+use Rattle.ipc_call.specs.declared.calls.Call.TheVariants.{IpcSet, MsgSnd, MsgRcv, SemOp, SemTimedOp}
 use Rattle.ipc_call.specs.declared.calls.Kind.{Kind}
 use Rattle.ipc_call.specs.declared.calls.SemOper.{SemOper}
 use Rattle.ipc_call.specs.declared.perms.Perm.{Perm}
@@ -76,6 +76,11 @@ module _ (s : State) (who id : ℕ) where
   operator-needs ops =
       needs-on (λ sems. record s { sems = sems }) (operate s.limits s.sems (caller s who) id ops) ∙ operated-needs s.sems (caller s who) id ops (set_at s.sems id)
 
+  timed-needs : (ops : List SemOper) (timeout : ℕ) → needs s who (SemTimedOp id ops timeout) ≡ needs_for (wanted_by ops) (perm_in s.sems.sets id)
+  unfolding part_plan
+  timed-needs ops timeout =
+      needs-on (λ sems. record s { sems = sems }) (operate s.limits s.sems (caller s who) id ops) ∙ operated-needs s.sems (caller s who) id ops (set_at s.sems id)
+
 -- permissions are seen as they are
 pub perm-all : {X : Type 0} (empty : X → X) (hides : ℕ → Perm → Bool) (t : Table (Object X)) (id : ℕ) → perm_in (all_masked empty hides t) id ≡ perm_in t id
 perm-all {X} empty hides t id = ap (option_map (λ (o : Object X). o.perm)) (get-masked empty hides t id) ∙ by (finite.get t.objects id)
@@ -98,6 +103,9 @@ module _ (client : ℕ) (c : Credentials) (s : State) where
   set-dim kind id who (SemOp at ops) =
       ap (λ ns. if waits_on kind id (SemOp at ops) then first_denial (creds_at s who) ns else None)
       (operator-needs dimmed who at ops ∙ ap (needs_for (wanted_by ops)) (perm-all blank_set (hides_closed client c) s.sems.sets at) ∙ sym (operator-needs s who at ops))
+  set-dim kind id who (SemTimedOp at ops timeout) =
+      ap (λ ns. if waits_on kind id (SemTimedOp at ops timeout) then first_denial (creds_at s who) ns else None)
+      (timed-needs dimmed who at ops timeout ∙ ap (needs_for (wanted_by ops)) (perm-all blank_set (hides_closed client c) s.sems.sets at) ∙ sym (timed-needs s who at ops timeout))
   set-dim kind id who call = refl
 
   pub cancelled-dim : (call : Call) (w : Waiting) → cancelled dimmed call w ≡ cancelled s call w

@@ -1,17 +1,17 @@
 -- Each call of the client itself comes out alike in a state and in its blur: a line for each call.
 use Rattle.std.proofs.Common.{◌≡◌, ℕ, Bool, true, false, List, [], ◌∷◌, ◌++◌, refl, sym, ap, ◌∙◌, subst, ℤ, Some, None}
-use Rattle.std.specs.Prelude.{◌==◌, not, ◌&&◌, option_map, unwrap_or}
+use Rattle.std.specs.Prelude.{◌==◌, not, ◌&&◌, length, nat_le, is_some, option_map, unwrap_or, slice_set, if◌then◌else◌}
 use Rattle.std.specs.List.{count_by}
 use Rattle.std.proofs.lemmas.Bool.{eqb-true, true≢false}
 use Rattle.ipc_call.specs.declared.calls.Call.{Call}
-use Rattle.ipc_call.specs.declared.calls.Call.TheVariants.{MsgGet, MsgSnd, MsgRcv, SemGet, SemOp, GetVal, GetPid, GetNcnt, GetZcnt, GetAll, SetVal, SetAll, ShmGet, ShmAt, ShmDt, ShmRead, ShmWrite, Exit, IpcStat, IpcSet, IpcRmid, Listing, Interrupt}
+use Rattle.ipc_call.specs.declared.calls.Call.TheVariants.{MsgGet, MsgSnd, MsgRcv, SemGet, SemOp, SemTimedOp, GetVal, GetPid, GetNcnt, GetZcnt, GetAll, SetVal, SetAll, ShmGet, ShmAt, ShmDt, ShmRead, ShmWrite, Exit, IpcStat, IpcSet, IpcRmid, Listing, Interrupt, SetCreds}
 use Rattle.ipc_call.specs.declared.calls.Kind.{Kind}
 use Rattle.ipc_call.specs.declared.calls.Kind.TheVariants as kinds
 use Rattle.ipc_call.specs.declared.calls.SemOper.{SemOper}
 use Rattle.ipc_call.specs.declared.replies.Answer.TheVariants.{Done}
-use Rattle.ipc_call.specs.declared.rules.Rule.TheVariants.{Ended, NoProcess}
-use Rattle.ipc_creds.specs.Credentials.{Credentials}
-use Rattle.ipc_perm.specs.Access.{SameUser}
+use Rattle.ipc_call.specs.declared.rules.Rule.TheVariants.{Ended, NoProcess, TooManyGroups}
+use Rattle.ipc_creds.specs.Credentials.{Credentials, became, groups_max}
+use Rattle.ipc_perm.specs.Access.{BecomeGroup, BecomeUser, SameUser, SetGroups}
 use Rattle.ipc_objects.specs.declared.object.Object.{Object}
 use Rattle.sem_set.specs.Sets.{pid_of as last_of, value_of}
 use Rattle.sem_undo.specs.Entries.{adj_of}
@@ -20,12 +20,12 @@ use Rattle.ipc_model.specs.Plan.{Needs, Passes, Plan}
 use Rattle.ipc_model.specs.Gets.{getting_queue}
 use Rattle.ipc_model.specs.Semaphores.{after_exit, set_at, stopping, stopping_on}
 use Rattle.ipc_model.specs.Segments.{after_detaches}
-use Rattle.ipc_model.specs.Processes.{process}
+use Rattle.ipc_model.specs.Processes.{process, with_creds}
 use Rattle.ipc_model.specs.Decide.{OnQueues, OnSems, OnShared, get_waiting, is_negative, is_stopped_at, is_zero, part_plan, plan, plan_alive, waits_at, waits_for, whole}
 use Rattle.ipc_laws.specs.Worlds.{blank_queue, blank_set, blur_by, hides_closed, is_hidden, is_hidden_at}
 use Rattle.ipc_laws.proofs.Controls.{own-list, own-remove, own-set, own-stat}
 use Rattle.ipc_laws.proofs.Lists.{count-kept}
-use Rattle.ipc_laws.proofs.Pairs.{Both, both-check, both-found, both-grant, both-on}
+use Rattle.ipc_laws.proofs.Pairs.{Both, both-check, both-found, both-grant, both-on, both-order}
 use Rattle.ipc_laws.proofs.Parts.{both-get}
 use Rattle.ipc_laws.proofs.Queues as queues
 use Rattle.ipc_laws.proofs.Segments as segments
@@ -98,6 +98,14 @@ module _ (client : ℕ) (s : State) where
       by kinds.Sems q is = on_sems.1 q is
       by kinds.Segment q is = on_shared.1 q is
 
+  own-creds : (new : Credentials) → R (with_creds s client new) (with_creds b client new)
+  own-creds new = (λ i. record (dim-twice client c s i) { clients = slice_set s.clients client new }, by)
+    where
+      by : (kind : Kind) (q : ℕ) → is_hidden client c s kind q ≡ true → is_hidden client c (with_creds s client new) kind q ≡ true
+      by kinds.Queue q is = is
+      by kinds.Sems q is = is
+      by kinds.Segment q is = is
+
   own-alive : (call : Call) → Both c R (plan_alive s client call) (plan_alive b client call)
   unfolding part_plan
   own-alive (MsgGet key flags) = on-queues (both-get blank_queue (hides_closed client c) s.queues (λ x. refl) c (getting_queue s.limits) (λ x. refl) (caller s client) key flags)
@@ -105,6 +113,7 @@ module _ (client : ℕ) (s : State) where
   own-alive (MsgRcv id size msgtyp flags) = on-queues (queues.own-receive client c s.queues (caller s client) id flags size msgtyp)
   own-alive (SemGet key nsems flags) = on-sems (sets.own-get client c s.sems s.limits (caller s client) key nsems flags)
   own-alive (SemOp id ops) = on-sems (sets.own-operate client c s.sems id (caller s client) ops s.limits)
+  own-alive (SemTimedOp id ops timeout) = on-sems (sets.own-operate client c s.sems id (caller s client) ops s.limits)
   own-alive (GetVal id num) = on-sems (sets.own-look client c s.sems id num (λ ss. value_of ss num) (λ ss. value_of ss num) (λ o there isnt. refl))
   own-alive (GetPid id num) = on-sems (sets.own-look client c s.sems id num (λ ss. last_of ss num) (λ ss. last_of ss num) (λ o there isnt. refl))
   own-alive (GetNcnt id num) = on-sems (own-waiting id num (is_negative num))
@@ -122,6 +131,10 @@ module _ (client : ℕ) (s : State) where
   own-alive (IpcRmid kind id) = own-remove client c s kind id
   own-alive (Listing kind) = own-list client c s s.clock kind
   own-alive (Interrupt pid) = both-found R c (process s pid) NoProcess tt (λ target is. both-check R c (Needs (SameUser target.euid)) (both-grant R c Done s b (same-state client c s)))
+  own-alive (SetCreds euid egid groups) =
+      let new = became euid egid groups c in
+      both-check R c (Passes (nat_le (length (unwrap_or groups [])) groups_max) TooManyGroups tt) (both-check R c (Needs (BecomeUser euid)) (both-check R c (Needs (BecomeGroup egid))
+      (both-order R c (if is_some groups then Needs SetGroups ∷ [] else []) (both-grant R c Done (with_creds s client new) (with_creds b client new) (own-creds new)))))
   own-alive Exit = both-grant R c Done _ _ own-exit
 
   own-plan : (call : Call) → Both c R (plan s client call) (plan b client call)

@@ -7,8 +7,9 @@ use Rattle.ipc_creds.specs.Credentials.{Credentials}
 use Rattle.ipc_perm.specs.Access.{Need, denial}
 use Rattle.ipc_model.specs.Decision.{Decision, Refuse, Wait, Grant, outcome_of, proceeds}
 use Rattle.std.proofs.lemmas.Option.{none-some}
+use Rattle.ipc_model.specs.Decide.{unless_late}
 use Rattle.ipc_model.specs.Plan as plans
-use Rattle.ipc_model.specs.Plan.{Check, IsPlain, Needs, Passes, Plan, Proceeds, by_check, decision, found, in_order, on_part, or_wait, unless, ◌⨾◌}
+use Rattle.ipc_model.specs.Plan.{Check, IsPlain, Needs, Passes, Plan, Proceeds, decision, found, in_order, on_part, or_wait, unless, ◌⨾◌}
 use Rattle.ipc_model.proofs.Plans.{IfGranted, decision-on, on_whole}
 use Rattle.ipc_model.proofs.Alike.{proceeds-on}
 
@@ -136,6 +137,19 @@ proceeds-pair R (Grant answer new) (Refuse rule) both = refl
 proceeds-pair R (Grant answer new) Wait both = absurd both
 proceeds-pair R (Grant answer new) (Grant other later) both = refl
 
+-- where both are late or neither is
+pub late-pair : {X Y : Type 0} (R : X → Y → Type 0) (late : Bool) (d : Decision X) (e : Decision Y) → Pair R d e → Pair R (unless_late late d) (unless_late late e)
+late-pair R false d e both = both
+late-pair R true (Refuse rule) (Refuse other) both = both
+late-pair R true (Refuse rule) Wait both = absurd both
+late-pair R true (Refuse rule) (Grant answer new) both = absurd both
+late-pair R true Wait (Refuse rule) both = absurd both
+late-pair R true Wait Wait both = refl
+late-pair R true Wait (Grant answer new) both = absurd both
+late-pair R true (Grant answer new) (Refuse rule) both = absurd both
+late-pair R true (Grant answer new) Wait both = absurd both
+late-pair R true (Grant answer new) (Grant other later) both = both
+
 -- what is granted by a plan: the checks before it passed
 module _ {X : Type 0} (P : Answer → X → Type 0) where
   granted-if : (b : Bool) (d : Decision X) (rule : Rule) → (b ≡ true → IfGranted P d) → IfGranted P (cond b d (Refuse rule))
@@ -171,6 +185,13 @@ module _ {X : Type 0} (P : X → Type 0) (c : Credentials) where
 
   pub grants-passes : (b : Bool) (rule : Rule) (plain : IsPlain rule) {p : Plan X} → (b ≡ true → Grants c P p) → Grants c P (Passes b rule plain ⨾ p)
   grants-passes b rule plain {p} is = record { granted = granted-if (λ answer x. P x) b (decision c p) rule (λ yes. (is yes).granted) }
+
+  pub grants-needs : (need : Need) {p : Plan X} → (denial c need ≡ None → Grants c P p) → Grants c P (Needs need ⨾ p)
+  grants-needs need {p} is = record { granted = by (denial c need) refl }
+    where
+      by : (o : Option Rule) → denial c need ≡ o → IfGranted (λ answer x. P x) (unless o (decision c p))
+      by None met = (is met).granted
+      by (Some rule) fails = tt
 
   pub grants-check : (check : Check) {p : Plan X} → Grants c P p → Grants c P (check ⨾ p)
   grants-check (Passes b rule plain) is = grants-passes b rule plain (λ yes. is)

@@ -4,7 +4,7 @@ use Rattle.std.proofs.Common.{◌≡◌, ℕ, ℤ, true, false, List, length, re
 use Rattle.std.specs.Prelude.{int_le, nat_le, nat_lt, pos, not, option_map}
 use Rattle.std.proofs.lemmas.Bool.{true≢false}
 use Rattle.ipc_call.specs.declared.calls.Call.{Call}
-use Rattle.ipc_call.specs.declared.calls.Call.TheVariants.{MsgSnd, MsgRcv, SemOp, GetVal, GetPid, GetNcnt, GetZcnt, GetAll, SetVal, SetAll, ShmRead, ShmWrite, IpcStat, Listing}
+use Rattle.ipc_call.specs.declared.calls.Call.TheVariants.{MsgSnd, MsgRcv, SemOp, SemTimedOp, GetVal, GetPid, GetNcnt, GetZcnt, GetAll, SetVal, SetAll, ShmRead, ShmWrite, IpcStat, Listing}
 use Rattle.ipc_call.specs.declared.calls.Kind.{Kind}
 use Rattle.ipc_call.specs.declared.calls.Kind.TheVariants as kinds
 use Rattle.ipc_call.specs.declared.calls.SemOper.{SemOper}
@@ -53,6 +53,9 @@ module _ (client : ℕ) (c : Credentials) (s : State) where
     visible-alive (SemOp id ops) can seen =
         both-on (sets.IsExact client c s.sems) (IsExact client c s) (λ u. record s { sems = u }) (λ v. record b { sems = v }) (exact-sems client c s) d
         (sets.exact-operate client c s.sems id (caller s who) ops d seen s.limits)
+    visible-alive (SemTimedOp id ops timeout) can seen =
+        both-on (sets.IsExact client c s.sems) (IsExact client c s) (λ u. record s { sems = u }) (λ v. record b { sems = v }) (exact-sems client c s) d
+        (sets.exact-operate client c s.sems id (caller s who) ops d seen s.limits)
     visible-alive call can seen = absurd (true≢false (sym can))
 
     pub visible-alike : (call : Call) → can_wait call ≡ true → is_hidden_at client c s (waits_at call) ≡ false → Both d (IsExact client c s) (plan s who call) (plan b who call)
@@ -77,6 +80,7 @@ module _ (client : ℕ) (c : Credentials) (s : State) where
     stays-alive (MsgSnd id mtype text flags) hidden = stays-queues (queues.same-send client c s.queues (caller s who) id flags d hidden s.limits (record { mtype = mtype; text = text }))
     stays-alive (MsgRcv id size msgtyp flags) hidden = stays-queues (queues.same-receive client c s.queues (caller s who) id flags d hidden size msgtyp)
     stays-alive (SemOp id ops) hidden = stays-sems (sets.same-operate client c s.sems id d hidden (caller s who) ops s.limits)
+    stays-alive (SemTimedOp id ops timeout) hidden = stays-sems (sets.same-operate client c s.sems id d hidden (caller s who) ops s.limits)
     stays-alive (SetVal id num value) hidden = stays-sems (sets.same-set client c s.sems id d hidden (caller s who) num value)
     stays-alive (SetAll id values) hidden = stays-sems (sets.same-set_all client c s.sems id d hidden (caller s who) values)
     stays-alive (ShmWrite att offset bytes) hidden = stays-shared (segments.same-write client c s.shared d (caller s who) att (behind-hidden att hidden) offset bytes)
@@ -99,6 +103,7 @@ module _ (client : ℕ) (c : Credentials) (s : State) where
     unseen-waits (MsgSnd id mtype text flags) can = refl
     unseen-waits (MsgRcv id size msgtyp flags) can = refl
     unseen-waits (SemOp id ops) can = refl
+    unseen-waits (SemTimedOp id ops timeout) can = refl
     unseen-waits call can = absurd (true≢false (sym can))
 
   -- the client's own call
@@ -132,6 +137,7 @@ module _ (client : ℕ) (c : Credentials) (s : State) where
     refused-alive (MsgSnd id mtype text flags) hidden = refused-queues (refused-send id flags (record { mtype = mtype; text = text }) hidden)
     refused-alive (MsgRcv id size msgtyp flags) hidden = refused-queues (refused-receive id size msgtyp flags hidden)
     refused-alive (SemOp id ops) hidden = refused-sems (refused-operate id ops hidden)
+    refused-alive (SemTimedOp id ops timeout) hidden = refused-sems (refused-operate id ops hidden)
     refused-alive call hidden = absurd (true≢false (sym hidden))
 
     pub own-refused : (call : Call) → is_hidden_at client c s (waits_at call) ≡ true → proceeds (decide s who call) ≡ true

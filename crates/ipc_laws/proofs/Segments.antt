@@ -36,7 +36,7 @@ use Rattle.ipc_laws.proofs.Tables.{again, get-seen, hidden-at, more-same}
 blank-same : (x y : Segment) → length x.bytes ≡ length y.bytes → blank_segment x ≡ blank_segment y
 blank-same x y same = ap (λ n. record { bytes = replicate n 0; is_marked = false; creator = 0; last = 0; attach_time = 0; detach_time = 0 }) same
 
-segment-twice : (x : Segment) → blank_segment (blank_segment x) ≡ blank_segment x
+pub segment-twice : (x : Segment) → blank_segment (blank_segment x) ≡ blank_segment x
 segment-twice x = blank-same (blank_segment x) x (length-replicate (length x.bytes) 0)
 
 written-long : (offset : ℕ) (new old : List ℕ) → lies_within offset (length new) old ≡ true → length (overwritten offset new old) ≡ length old
@@ -80,14 +80,14 @@ module _ (client : ℕ) (c : Credentials) where
   pub closed-of : (attached : Attached) (q : ℕ) (p : Perm) → hides_segment client c attached q p ≡ true → is_closed c p ≡ true
   closed-of attached q p is = (and_parts (is_closed c p) (not (has_attached attached client q)) is).0
 
-  unattached-of : (attached : Attached) (q : ℕ) (p : Perm) → hides_segment client c attached q p ≡ true → has_attached attached client q ≡ false
+  pub unattached-of : (attached : Attached) (q : ℕ) (p : Perm) → hides_segment client c attached q p ≡ true → has_attached attached client q ≡ false
   unattached-of attached q p is = turned (has_attached attached client q) (and_parts (is_closed c p) (not (has_attached attached client q)) is).1
     where
       turned : (b : Bool) → not b ≡ true → b ≡ false
       turned true is = absurd (false≢true is)
       turned false is = refl
 
-  hides-by : (attached : Attached) (q : ℕ) (p : Perm) → is_closed c p ≡ true → has_attached attached client q ≡ false → hides_segment client c attached q p ≡ true
+  pub hides-by : (attached : Attached) (q : ℕ) (p : Perm) → is_closed c p ≡ true → has_attached attached client q ≡ false → hides_segment client c attached q p ≡ true
   hides-by attached q p closed none = λ i. (◌&&◌ (closed i) (not (none i)))
 
   -- a segment that is attached is in sight

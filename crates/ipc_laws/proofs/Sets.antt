@@ -40,7 +40,7 @@ use Rattle.ipc_laws.proofs.Undo.{AreSame, kept-same, lowered-apart, lowered-kept
 blank-same : (x y : SemSet) → length x.semaphores ≡ length y.semaphores → blank_set x ≡ blank_set y
 blank-same x y same = ap (λ n. record { semaphores = replicate n zeroed; op_time = 0 }) same
 
-set-twice : (x : SemSet) → blank_set (blank_set x) ≡ blank_set x
+pub set-twice : (x : SemSet) → blank_set (blank_set x) ≡ blank_set x
 set-twice x = blank-same (blank_set x) x (length-replicate (length x.semaphores) zeroed)
 
 left-long : (num : ℕ) (ops : List SemOper) (pid : ℕ) (ss : List Semaphore) → length (left_from num ops pid ss) ≡ length ss
@@ -72,7 +72,7 @@ module _ (client : ℕ) (c : Credentials) where
   hid-alike t u same q = sym (hidden-masked blank_set (hides_closed client c) t q) ∙ ap (λ x. is_hidden_in (hides_closed client c) x q) same ∙ hidden-masked blank_set (hides_closed client c) u q
 
   -- two parts look the same
-  blur-same : (a b : Sems) → mask a.sets ≡ mask b.sets → AreSame (hid a) a.undo b.undo → blur_sems client c a ≡ blur_sems client c b
+  pub blur-same : (a b : Sems) → mask a.sets ≡ mask b.sets → AreSame (hid a) a.undo b.undo → blur_sems client c a ≡ blur_sems client c b
   blur-same a b sets undo =
       let entries = kept-same (hid a) a.undo b.undo (hid b) (hid-alike a.sets b.sets sets) undo in
       λ i. record { sets = sets i; undo = entries i }

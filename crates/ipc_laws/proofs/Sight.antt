@@ -1,6 +1,6 @@
 -- The state and its blur: what is hidden in both, and how what a call leaves of a part goes with the whole.
 use Rattle.std.proofs.Common.{◌≡◌, ℕ, Bool, true, false, [], refl, sym, ap, ◌∙◌, Option, Some, None}
-use Rattle.std.specs.Prelude.{not, filter}
+use Rattle.std.specs.Prelude.{not, filter, option_map, unwrap_or}
 use Rattle.std.proofs.lemmas.Bool.{true≢false}
 use Rattle.ipc_call.specs.declared.calls.Kind.{Kind}
 use Rattle.ipc_call.specs.declared.calls.Kind.TheVariants as kinds
@@ -8,12 +8,18 @@ use Rattle.ipc_call.specs.declared.replies.Waiting.{Waiting}
 use Rattle.ipc_creds.specs.Credentials.{Credentials}
 use Rattle.ipc_model.specs.State.{Queues, Sems, Shared, State}
 use Rattle.ipc_model.specs.Decide.{waits_at}
-use Rattle.ipc_laws.specs.Worlds.{blank_queue, blank_segment, blank_set, blur_by, blur_queues, blur_sems, blur_shared, hides_closed, hides_segment, is_hidden, is_hidden_at}
+use Rattle.std.specs.FinMap as finite
+use Rattle.ipc_call.specs.declared.perms.Perm.{Perm}
+use Rattle.ipc_ids.specs.Table.{Table}
+use Rattle.ipc_objects.specs.declared.object.Object.{Object}
+use Rattle.shm_seg.specs.Attachments.{Attached}
+use Rattle.ipc_laws.proofs.Undo.{AreSame, same-kept}
+use Rattle.ipc_laws.specs.Worlds.{is_closed, is_hidden_in, blank_queue, blank_segment, blank_set, blur_by, blur_queues, blur_sems, blur_shared, hides_closed, hides_segment, is_hidden, is_hidden_at}
 use Rattle.ipc_laws.proofs.Lists.{filter-finer}
 use Rattle.ipc_laws.proofs.Queues as queues
 use Rattle.ipc_laws.proofs.Sets as sets
 use Rattle.ipc_laws.proofs.Segments as segments
-use Rattle.ipc_laws.proofs.Tables.{hidden-masked}
+use Rattle.ipc_laws.proofs.Tables.{again, hidden-masked}
 
 module _ (client : ℕ) (c : Credentials) where
   -- the blur but for the calls that wait
@@ -134,3 +140,50 @@ module _ (client : ℕ) (c : Credentials) where
         by kinds.Queue q = refl
         by kinds.Sems q = exact.1 q
         by kinds.Segment q = refl
+
+-- the blur of a client that is closed out of more
+module _ (client : ℕ) (c d : Credentials) (more : (p : Perm) → is_closed c p ≡ true → is_closed d p ≡ true) where
+  hidden-in : {X : Type 0} (hides later : ℕ → Perm → Bool) (t : Table (Object X)) (q : ℕ) → ((p : Perm) → hides q p ≡ true → later q p ≡ true) → is_hidden_in hides t q ≡ true → is_hidden_in later t q ≡ true
+  hidden-in {X} hides later t q then_so is = by (finite.get t.objects q) is
+    where
+      by : (o : Option (Object X)) → unwrap_or (option_map (λ (x : Object X). hides q x.perm) o) false ≡ true → unwrap_or (option_map (λ (x : Object X). later q x.perm) o) false ≡ true
+      by None is = is
+      by (Some o) is = then_so o.perm is
+
+  segment-more : (attached : Attached) (q : ℕ) (p : Perm) → hides_segment client c attached q p ≡ true → hides_segment client d attached q p ≡ true
+  segment-more attached q p is = segments.hides-by client d attached q p (more p (segments.closed-of client c attached q p is)) (segments.unattached-of client c attached q p is)
+
+  hidden-more : (s : State) (kind : Kind) (q : ℕ) → is_hidden client c s kind q ≡ true → is_hidden client d s kind q ≡ true
+  hidden-more s kinds.Queue q is = hidden-in (hides_closed client c) (hides_closed client d) s.queues q (λ p closed. more p closed) is
+  hidden-more s kinds.Sems q is = hidden-in (hides_closed client c) (hides_closed client d) s.sems.sets q (λ p closed. more p closed) is
+  hidden-more s kinds.Segment q is = hidden-in (hides_segment client c s.shared.attached) (hides_segment client d s.shared.attached) s.shared.segments q (λ p closed. segment-more s.shared.attached q p closed) is
+
+  more-at : (s : State) (at : Option (Kind × ℕ)) → is_hidden_at client c s at ≡ true → is_hidden_at client d s at ≡ true
+  more-at s None is = is
+  more-at s (Some at) is = hidden-more s at.0 at.1 is
+
+  seen-both : (x y : Bool) → (x ≡ true → y ≡ true) → not y ≡ true → not x ≡ true
+  seen-both true y then_so is = absurd (true≢false (sym is ∙ ap not (then_so refl)))
+  seen-both false y then_so is = refl
+
+  undo-more : (u : Sems) → AreSame (sets.hid client d u) u.undo (blur_sems client c u).undo
+  undo-more u k isnt = same-kept (sets.hid client c u) u.undo k (turned (sets.hid client c u k.set) refl)
+    where
+      turned : (b : Bool) → sets.hid client c u k.set ≡ b → sets.hid client c u k.set ≡ false
+      turned true is = absurd (true≢false (sym (hidden-in (hides_closed client c) (hides_closed client d) u.sets k.set (λ p closed. more p closed) is) ∙ isnt))
+      turned false is = is
+
+  dim-more : (s : State) → dim client d s ≡ dim client d (blur_by client c s)
+  dim-more s = λ i. record (dim client d s) {
+    queues = again blank_queue (λ x. refl) (hides_closed client c) (hides_closed client d) s.queues (λ q p is. more p is) i;
+    sems = sets.blur-same client d s.sems (blur_sems client c s.sems) (again blank_set sets.set-twice (hides_closed client c) (hides_closed client d) s.sems.sets (λ q p is. more p is)) (undo-more s.sems) i;
+    shared = ap (λ segments. record s.shared { segments = segments })
+        (again blank_segment segments.segment-twice (hides_segment client c s.shared.attached) (hides_segment client d s.shared.attached) s.shared.segments (λ q p is. segment-more s.shared.attached q p is)) i;
+  }
+
+  pub blur-more : (s : State) → blur_by client d s ≡ blur_by client d (blur_by client c s)
+  blur-more s =
+      let b = blur_by client c s in
+      blur-from client d s b (dim-more s)
+      (sym (ap (λ f. filter f (filter (sight client c s) s.parked)) (sym (same-sight client d s b (dim-more s)))
+      ∙ filter-finer (sight client d s) (sight client c s) (λ w is. seen-both (is_hidden_at client c s (waits_at w.call)) (is_hidden_at client d s (waits_at w.call)) (more-at s (waits_at w.call)) is) s.parked))

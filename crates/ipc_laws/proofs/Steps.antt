@@ -1,6 +1,6 @@
 -- One event: the client's own is alike in a state and in its blur, and another's out of sight leaves the blur.
 use Rattle.std.proofs.Common.{◌≡◌, ℕ, Bool, true, false, cond, eqb-true, List, [], ◌∷◌, ◌++◌, refl, sym, ap, ◌∙◌, ⊎_elim, subst, arith, Option, Some, None}
-use Rattle.std.specs.Prelude.{◌==◌, max, not, is_none, filter, flat_map}
+use Rattle.std.specs.Prelude.{◌==◌, max, not, is_none, is_some, filter, flat_map, if◌then◌else◌}
 use Rattle.std.specs.List.{AllByRecursion}
 use Rattle.std.proofs.lemmas.Bool.{cases_Bool, true≢false}
 use Rattle.std.proofs.lemmas.List.{append-nil}
@@ -12,19 +12,21 @@ use Rattle.ipc_call.specs.declared.rules.Rule.{Rule}
 use Rattle.ipc_creds.specs.Credentials.{Credentials}
 use Rattle.ipc_model.specs.State.{State, creds_at, is_waiting}
 use Rattle.ipc_model.specs.Decision.{Decision, Refuse, Wait, Grant, outcome_of, proceeds}
-use Rattle.ipc_model.specs.Decide.{can_wait, decide, plan, waits_at}
+use Rattle.ipc_model.specs.Decide.{can_wait, decide, decide_call, is_late, is_reached, plan, waits_at}
 use Rattle.ipc_model.specs.Plan.{decision}
 use Rattle.ipc_model.specs.Cancelled.{cancelled}
-use Rattle.ipc_model.specs.Step.{Event, Moved, enter, Stepped, and_then, at_time, cancel, cancelled_by, entered, is_ready, moved_as, settled, state_by, step, stepped, told_cancelled}
-use Rattle.ipc_model.specs.Waits.{AreNotReady}
-use Rattle.ipc_model.proofs.Calls.{Keeps-decide, only_parkable}
+use Rattle.ipc_model.specs.Step.{Event, Moved, after, begun, enter, expire, expired, Stepped, and_then, at_time, cancel, cancelled_by, entered, is_ready, moved_as, settled, state_by, step, stepped, told_cancelled, waiting_as}
+use Rattle.ipc_model.specs.Waits.{AreInTime, AreNotReady}
+use Rattle.ipc_model.proofs.Calls.{only_parkable}
+use Rattle.ipc_model.proofs.Late.{Keeps-call, at-as, late-granted, late-waits, only_parkable_call}
+use Rattle.ipc_call.specs.declared.rules.Rule.TheVariants.{TimedOut}
 use Rattle.ipc_model.proofs.Growing.{Keeps}
 use Rattle.ipc_model.proofs.Plans.{IfGranted}
 use Rattle.ipc_laws.specs.Worlds.{IsOutOfSight, blur_by, ends_of, is_hidden_at, is_unseen, own_by}
 use Rattle.ipc_laws.proofs.Lists.{all-filter, all-map, all-push, filter-all, filter-finer, filter-not, filter-turned}
 use Rattle.ipc_laws.proofs.Needs.{cancelled-dim}
 use Rattle.ipc_laws.proofs.Own.{own-alike}
-use Rattle.ipc_laws.proofs.Pairs.{Pair, outcome-pair}
+use Rattle.ipc_laws.proofs.Pairs.{Pair, late-pair, outcome-pair}
 use Rattle.ipc_laws.proofs.Seen.{own-refused, unseen-stays, unseen-waits}
 use Rattle.ipc_laws.proofs.Settled.{AreOthers, IsAnother, another-by, ends-append, quiet-blur, settled-alike}
 use Rattle.ipc_laws.proofs.Sight.{IsAlike, IsSame, blur-alike, blur-from, blur-same, blur-twice, dim, dim-of, dim-twice, same-hidden, sight, sight-blur}
@@ -43,6 +45,21 @@ cancel-none : (s : State) (call : Call) → ((w : Waiting) → cancelled s call 
 cancel-none s call none = λ i. record {
   state = record s { parked = filter-all (λ w. is_none (cancelled s call w)) s.parked (all-kept (cancelled s call) none s.parked) i };
   ended = told-none (cancelled s call) none s.parked i;
+}
+
+-- where none has reached its deadline, none ends
+in-time-kept : (s : State) (ws : List Waiting) → AllByRecursion (λ w. is_reached s.clock w.deadline ≡ false) ws → AllByRecursion (λ w. is_none (expired s w) ≡ true) ws
+in-time-kept s [] all = tt
+in-time-kept s (w ∷ ws) all = (ap (λ b. is_none (if b then Some TimedOut else None)) all.0, in-time-kept s ws all.1)
+
+in-time-told : (s : State) (ws : List Waiting) → AllByRecursion (λ w. is_reached s.clock w.deadline ≡ false) ws → flat_map (λ w. told_cancelled w.client (expired s w)) ws ≡ []
+in-time-told s [] all = refl
+in-time-told s (w ∷ ws) all = ap (λ b. told_cancelled w.client (if b then Some TimedOut else None) ++ flat_map (λ w. told_cancelled w.client (expired s w)) ws) all.0 ∙ in-time-told s ws all.1
+
+expire-none : (s : State) → AreInTime s → expire s ≡ done s
+expire-none s in_time = λ i. record {
+  state = record s { parked = filter-all (λ w. is_none (expired s w)) s.parked (in-time-kept s s.parked in_time) i };
+  ended = in-time-told s s.parked in_time i;
 }
 
 -- where none is ready, the calls that wait out of sight are others'
@@ -76,28 +93,29 @@ module _ (client : ℕ) (c : Credentials) where
     blur-unseen : (d : Decision State) → (proceeds d ≡ false → can_wait call ≡ true) → IfGranted (λ answer new. IsSame client c s new) d → Keeps s d → blur_by client c (state_by s who call d) ≡ blur_by client c s
     blur-unseen (Refuse rule) can stays keeps = refl
     blur-unseen Wait can stays keeps =
-        let w : Waiting = record { client = who; call = call } in
-        let gone : filter (sight client c s) (w ∷ []) ≡ [] = filter-not (sight client c s) w [] (ap not (waits-hidden (can refl))) in
+        let w : Waiting = waiting_as s who call in
+        let gone : filter (sight client c s) (w ∷ []) ≡ [] = filter-not (sight client c s) w [] (ap not (ap (is_hidden_at client c s) (at-as call) ∙ waits-hidden (can refl))) in
         ap (λ ws. record (blur_by client c s) { parked = ws })
         (filter-append (sight client c s) s.parked (w ∷ []) ∙ ap (λ l. filter (sight client c s) s.parked ++ l) gone ∙ append-nil (filter (sight client c s) s.parked))
     blur-unseen (Grant answer new) can stays keeps = blur-same client c new s stays keeps.0
 
     others-unseen : (d : Decision State) → (proceeds d ≡ false → can_wait call ≡ true) → IfGranted (λ answer new. IsSame client c s new) d → Keeps s d → AreOthers client c s → AreOthers client c (state_by s who call d)
     others-unseen (Refuse rule) can stays keeps are = are
-    others-unseen Wait can stays keeps are = all-push (IsAnother client c s) s.parked (record { client = who; call = call }) are (can refl, λ out. other)
+    others-unseen Wait can stays keeps are = all-push (IsAnother client c s) s.parked (waiting_as s who call) are (ap (λ at. is_some at) (at-as call) ∙ can refl, λ out. other)
     others-unseen (Grant answer new) can stays keeps are =
         subst (AllByRecursion (IsAnother client c new)) (sym keeps.0) (all-map (IsAnother client c s) (IsAnother client c new) (λ w is. another-by client c s new (same-hidden client c new s stays) w is) s.parked are)
 
-  pub unseen-step : (s : State) (e : Event) → creds_at s client ≡ c → AreNotReady s → Apart s.parked → is_waiting s e.client ≡ false → IsOutOfSight client s e
+  pub unseen-step : (s : State) (e : Event) → creds_at s client ≡ c → AreNotReady s → AreInTime s → Apart s.parked → is_waiting s e.client ≡ false → IsOutOfSight client s e
       → (blur_by client c (step s e).state ≡ blur_by client c s) × (own_by client e (step s e) ≡ []) × (ends_of client (step s e).ended ≡ [])
-  unseen-step s e is quiet apart free out =
+  unseen-step s e is quiet in_time apart free out =
       let early : max s.clock e.now ≡ s.clock = let before = out.early in omega (arith, before) in
       let now : at_time s e.now ≡ s = ap (λ n. record s { clock = n }) early in
       let hidden : is_unseen client c s e.client e.call ≡ true = ap (λ x. is_unseen client x s e.client e.call) (sym is) ∙ out.unseen in
-      let d = decide s e.client e.call in
-      let can = only_parkable s e.client e.call in
-      let stays = unseen-stays client c s e.client e.call hidden in
-      let keeps = Keeps-decide s e.client e.call in
+      let begins : expire (at_time s e.now) ≡ done s = ap expire now ∙ expire-none s in_time in
+      let d = decide_call s e.client e.call in
+      let can = only_parkable_call s e.client e.call in
+      let stays = late-granted _ (is_late s e.call) (decide s e.client e.call) (unseen-stays client c s e.client e.call hidden) in
+      let keeps = Keeps-call s e.client e.call in
       let t = state_by s e.client e.call d in
       let none = cancels-none s e.client e.call hidden out.other t d in
       let seen_t = blur-unseen s e.client e.call hidden out.other d can stays keeps in
@@ -107,7 +125,7 @@ module _ (client : ℕ) (c : Credentials) where
       let b = blur_by client c s in
       let still : settled (blur_by client c t) ≡ done b = ap settled seen_t ∙ settled-none b (quiet-blur client c s (quiet-of s quiet)) in
       let whole : step s e ≡ record { state = (settled t).state; own = outcome_of d; ended = (settled t).ended } =
-      ap (λ x. entered x e.client e.call (decide x e.client e.call)) now ∙ ap (λ m. stepped (outcome_of d) (and_then m settled)) none in (
+      ap (λ (m : Moved). after m.ended (entered m.state e.client e.call (decide_call m.state e.client e.call))) begins ∙ ap (λ m. stepped (outcome_of d) (and_then m settled)) none in (
         ap (λ (x : Stepped). blur_by client c x.state) whole ∙ alike.0 ∙ ap (λ (m : Moved). m.state) still,
         ap (λ b. cond b ((step s e).own ∷ []) []) out.other,
         ap (λ (x : Stepped). ends_of client x.ended) whole ∙ alike.1 ∙ ap (λ (m : Moved). ends_of client m.ended) still,
@@ -142,11 +160,11 @@ module _ (client : ℕ) (c : Credentials) where
 
   module _ (s : State) (call : Call) (is : creds_at s client ≡ c) (free : Free client s.parked) (are : AreOthers client c s) where
     -- what the own call leaves waiting
-    others-own : (d : Decision State) → d ≡ decide s client call → Keeps s d → AreOthers client c (moved_as s client call d).state
+    others-own : (d : Decision State) → d ≡ decide_call s client call → Keeps s d → AreOthers client c (moved_as s client call d).state
     others-own (Refuse rule) decided keeps = are
     others-own Wait decided keeps =
-        let waits : proceeds (decide s client call) ≡ false = ap (λ d. proceeds d) (sym decided) in
-        all-push (IsAnother client c s) s.parked (record { client = client; call = call }) are (only_parkable s client call waits, waits-alone s client call is waits)
+        let waits : proceeds (decide s client call) ≡ false = late-waits (is_late s call) (decide s client call) (ap (λ d. proceeds d) (sym decided)) in
+        all-push (IsAnother client c s) s.parked (waiting_as s client call) are (ap (λ at. is_some at) (at-as call) ∙ only_parkable s client call waits, λ hidden. waits-alone s client call is waits (sym (ap (is_hidden_at client c s) (at-as call)) ∙ hidden))
     others-own (Grant answer new) decided keeps =
         all-filter (IsAnother client c new) (λ w. is_none (cancelled new call w)) new.parked (subst (AllByRecursion (IsAnother client c new)) (sym keeps.0) (another-free s new s.parked free are))
 
@@ -164,7 +182,7 @@ module _ (client : ℕ) (c : Credentials) where
   entered-alike s call Wait (Refuse rule) both keeps kept = absurd both
   entered-alike s call Wait Wait both keeps kept =
       let b = blur_by client c s in
-      let w : Waiting = record { client = client; call = call } in
+      let w : Waiting = waiting_as s client call in
       let f = sight client c s in
       blur-from client c (record s { parked = s.parked ++ w ∷ [] }) (record b { parked = b.parked ++ w ∷ [] }) (dim-twice client c s)
       (filter-append f s.parked (w ∷ []) ∙ ap (λ l. l ++ filter f (w ∷ [])) (sym (filter-finer f f (λ v yes. yes) s.parked)) ∙ sym (filter-append f b.parked (w ∷ []))
@@ -188,11 +206,11 @@ module _ (client : ℕ) (c : Credentials) where
   own-enter : (s : State) (call : Call) → creds_at s client ≡ c → AreOthers client c s → Free client s.parked → Apart s.parked → IsLike (enter s client call) (enter (blur_by client c s) client call)
   own-enter s call is are free apart =
       let b = blur_by client c s in
-      let d = decide s client call in
-      let e = decide b client call in
-      let both : Pair (IsAlike client c s) d e = subst (λ x. Pair (IsAlike client c s) (decision x (plan s client call)) (decision x (plan b client call))) (sym is) (own-alike client c s call is).pair in
-      let keeps = Keeps-decide s client call in
-      let kept = Keeps-decide b client call in
+      let d = decide_call s client call in
+      let e = decide_call b client call in
+      let both : Pair (IsAlike client c s) d e = late-pair (IsAlike client c s) (is_late s call) (decide s client call) (decide b client call) (subst (λ x. Pair (IsAlike client c s) (decision x (plan s client call)) (decision x (plan b client call))) (sym is) (own-alike client c s call is).pair) in
+      let keeps = Keeps-call s client call in
+      let kept = Keeps-call b client call in
       let free_b : Free client b.parked = free-filter (sight client c s) s.parked free in
       let are_b = others-blur s are in
       let m = moved_as s client call d in
@@ -212,7 +230,17 @@ module _ (client : ℕ) (c : Credentials) where
   pub own-step : (s : State) (e : Event) → creds_at s client ≡ c → AreNotReady s → Apart s.parked → e.client ≡ client → is_waiting s client ≡ false
       → (blur_by client c (step s e).state ≡ blur_by client c (step (blur_by client c s) e).state) × (own_by client e (step s e) ≡ own_by client e (step (blur_by client c s) e)) × (ends_of client (step s e).ended ≡ ends_of client (step (blur_by client c s) e).ended)
   own-step s e is quiet apart own waits =
-      let now = at_time s e.now in
-      let like : IsLike (enter now client e.call) (enter (blur_by client c now) client e.call) = own-enter now e.call is (others-quiet s is quiet) (free-of client s.parked waits) apart in
-      let here : IsLike (step s e) (step (blur_by client c s) e) = subst (λ who. IsLike (enter now who e.call) (enter (blur_by client c now) who e.call)) (sym own) like in
-      (here.0, ap (λ o. cond (e.client == client) (o ∷ []) []) here.1, here.2)
+      let now = begun s e.now in
+      let b = blur_by client c s in
+      let free = free-of client s.parked waits in
+      let stays : Waiting → Bool = λ w. is_none (expired (at_time s e.now) w) in
+      let seen : blur_by client c now ≡ begun b e.now = ap (λ ws. record b { clock = max s.clock e.now; parked = ws }) (filter-turned (sight client c s) stays s.parked) in
+      let like : IsLike (enter now client e.call) (enter (blur_by client c now) client e.call) =
+      own-enter now e.call is (all-filter (IsAnother client c s) stays s.parked (others-quiet s is quiet)) (free-filter stays s.parked free) (apart-filter stays s.parked apart) in
+      let mine : IsLike (enter now e.client e.call) (enter (begun b e.now) e.client e.call) = subst (λ who. IsLike (enter now who e.call) (enter (begun b e.now) who e.call)) (sym own) (subst (λ x. IsLike (enter now client e.call) (enter x client e.call)) seen like) in
+      let told = none-told (expired (at_time s e.now)) s.parked free in
+      let also = none-told (expired (at_time b e.now)) b.parked (free-filter (sight client c s) s.parked free) in (
+        mine.0,
+        ap (λ o. cond (e.client == client) (o ∷ []) []) mine.1,
+        ends-append client (expire (at_time s e.now)).ended (enter now e.client e.call).ended ∙ (λ i. (told ∙ sym also) i ++ mine.2 i) ∙ sym (ends-append client (expire (at_time b e.now)).ended (enter (begun b e.now) e.client e.call).ended),
+      )

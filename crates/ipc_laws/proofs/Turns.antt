@@ -1,18 +1,22 @@
 -- Settling, turn by turn: the number of turns doesn't matter, none is ready afterwards, and no client waits twice.
 use Rattle.std.proofs.Common.{◌≡◌, ◌≤◌, ℕ, zero, suc, ◌+◌, Bool, true, false, List, [], ◌∷◌, ◌++◌, map, length, refl, sym, ap, subst, ◌∙◌, ⊎_elim, arith, Option, Some, None}
-use Rattle.std.specs.Prelude.{◌==◌, not, is_none, filter}
+use Rattle.std.specs.Prelude.{◌==◌, not, is_none, filter, if◌then◌else◌}
 use Rattle.std.specs.List.{AllByRecursion, IsDistinct, find, list_any}
 use Rattle.std.proofs.lemmas.Bool.{cases_Bool, eq-eqb, or_parts, or_from}
 use Rattle.std.proofs.lemmas.Option.{none-some, same_Some}
 use Rattle.ipc_call.specs.declared.calls.Call.{Call}
 use Rattle.ipc_call.specs.declared.replies.Waiting.{Waiting}
+use Rattle.ipc_call.specs.declared.rules.Rule.TheVariants.{TimedOut}
 use Rattle.ipc_model.specs.State.{State, is_waiting}
-use Rattle.ipc_model.specs.Decision.{Decision, Refuse, Wait, Grant}
-use Rattle.ipc_model.specs.Decide.{decide}
+use Rattle.ipc_model.specs.Decision.{Decision, Refuse, Wait, Grant, proceeds}
+use Rattle.ipc_model.specs.Decide.{decide, decide_call, deadline_of, is_late, is_reached}
 use Rattle.ipc_model.specs.Cancelled.{cancelled}
-use Rattle.ipc_model.specs.Step.{Event, Moved, and_then, at_time, cancelled_by, end_waiting, ended_by, first_ready, is_ready, moved_by, settle, settle_from, settled, state_by, step, without}
-use Rattle.ipc_model.specs.Waits.{AreNotReady, WaitOnce}
+use Rattle.ipc_model.specs.Step.{Event, Moved, and_then, at_time, begun, cancelled_by, end_waiting, ended_by, expired, first_ready, is_ready, moved_by, settle, settle_from, settled, state_by, step, waiting_as, without}
+use Rattle.ipc_model.specs.Waits.{AreInTime, AreNotReady, WaitOnce}
+use Rattle.ipc_model.proofs.Beside.{clock-kept}
 use Rattle.ipc_model.proofs.Calls.{Keeps-decide}
+use Rattle.ipc_model.proofs.Late.{Keeps-call, late-granted, waits-early}
+use Rattle.ipc_model.proofs.Plans.{IfGranted}
 use Rattle.ipc_model.proofs.Growing.{Keeps}
 use Rattle.ipc_laws.proofs.Lists.{all-filter, all-found, all-map, all-push, filter-all, filter-here, filter-not, find-here, find-not, none-found, none-passes, others, shorter-others}
 
@@ -158,7 +162,7 @@ apart-settled s apart = kept-settled (λ t. Apart t.parked) (λ t w is p. apart-
 
 pub apart-state_by : (s : State) (who : ℕ) (call : Call) (d : Decision State) → Keeps s d → Free who s.parked → Apart s.parked → Apart (state_by s who call d).parked
 apart-state_by s who call (Refuse rule) keeps free apart = apart
-apart-state_by s who call Wait keeps free apart = apart-push s.parked (record { client = who; call = call }) apart free
+apart-state_by s who call Wait keeps free apart = apart-push s.parked (waiting_as s who call) apart free
 apart-state_by s who call (Grant answer new) keeps free apart = subst Apart (sym keeps.0) apart
 
 pub apart-cancelled_by : (s : State) (call : Call) (d : Decision State) → Apart s.parked → Apart (cancelled_by s call d).state.parked
@@ -168,12 +172,68 @@ apart-cancelled_by s call (Grant answer new) apart = apart-filter (λ w. is_none
 
 pub apart-moved : (s : State) (who : ℕ) (call : Call) → Free who s.parked → Apart s.parked → Apart (moved_by s who call).state.parked
 apart-moved s who call free apart =
-    let d = decide s who call in
-    apart-cancelled_by (state_by s who call d) call d (apart-state_by s who call d (Keeps-decide s who call) free apart)
+    let d = decide_call s who call in
+    apart-cancelled_by (state_by s who call d) call d (apart-state_by s who call d (Keeps-call s who call) free apart)
 
 pub apart-step : (s : State) (e : Event) → is_waiting s e.client ≡ false → Apart s.parked → Apart (step s e).state.parked
 apart-step s e free apart =
-    let now = at_time s e.now in apart-settled (moved_by now e.client e.call).state (apart-moved now e.client e.call (free-of e.client s.parked free) apart)
+    let now = begun s e.now in
+    let stays : Waiting → Bool = λ w. is_none (expired (at_time s e.now) w) in
+    apart-settled (moved_by now e.client e.call).state
+    (apart-moved now e.client e.call (all-filter (λ w. (w.client == e.client) ≡ false) stays s.parked (free-of e.client s.parked free)) (apart-filter stays s.parked apart))
+
+-- none has reached its deadline, at this second of the clock
+abbrev pub InTime : ℕ → List Waiting → Type 0
+InTime clock ws = AllByRecursion (λ w. is_reached clock w.deadline ≡ false) ws
+
+abbrev IsOnTime : ℕ → State → Type 0
+IsOnTime clock s = (s.clock ≡ clock) × InTime clock s.parked
+
+time-ended : (clock : ℕ) (s : State) (who : ℕ) (d : Decision State) → Keeps s d → IfGranted (λ answer new. new.clock ≡ s.clock) d → IsOnTime clock s → IsOnTime clock (ended_by s who d).state
+time-ended clock s who (Refuse rule) keeps kept on = on
+time-ended clock s who Wait keeps kept on = on
+time-ended clock s who (Grant answer new) keeps kept on = (kept ∙ on.0, subst (InTime clock) (sym keeps.0) on.1)
+
+pub time-end : (clock : ℕ) (s : State) (w : Waiting) → IsOnTime clock s → IsOnTime clock (end_waiting s w).state
+time-end clock s w on =
+    let rest = without s w.client in
+    time-ended clock rest w.client (decide rest w.client w.call) (Keeps-decide rest w.client w.call) (clock-kept rest w.client w.call)
+    (on.0, all-filter (λ v. is_reached clock v.deadline ≡ false) (λ v. not (v.client == w.client)) s.parked on.1)
+
+time-settled : (clock : ℕ) (s : State) → IsOnTime clock s → IsOnTime clock (settled s).state
+time-settled clock s on = kept-settled (IsOnTime clock) (λ t w is on. time-end clock t w on) s on
+
+time-state_by : (clock : ℕ) (s : State) (who : ℕ) (call : Call) (d : Decision State) → Keeps s d → IfGranted (λ answer new. new.clock ≡ s.clock) d → (d ≡ Wait → is_late s call ≡ false) → IsOnTime clock s → IsOnTime clock (state_by s who call d)
+time-state_by clock s who call (Refuse rule) keeps kept early on = on
+time-state_by clock s who call Wait keeps kept early on =
+    (on.0, all-push (λ w. is_reached clock w.deadline ≡ false) s.parked (waiting_as s who call) on.1 (ap (λ n. is_reached n (deadline_of s.clock call)) (sym on.0) ∙ early refl))
+time-state_by clock s who call (Grant answer new) keeps kept early on = (kept ∙ on.0, subst (InTime clock) (sym keeps.0) on.1)
+
+time-cancelled_by : (clock : ℕ) (s : State) (call : Call) (d : Decision State) → IsOnTime clock s → IsOnTime clock (cancelled_by s call d).state
+time-cancelled_by clock s call (Refuse rule) on = on
+time-cancelled_by clock s call Wait on = on
+time-cancelled_by clock s call (Grant answer new) on = (on.0, all-filter (λ w. is_reached clock w.deadline ≡ false) (λ w. is_none (cancelled s call w)) s.parked on.1)
+
+pub time-moved : (clock : ℕ) (s : State) (who : ℕ) (call : Call) → IsOnTime clock s → IsOnTime clock (moved_by s who call).state
+time-moved clock s who call on =
+    let d = decide_call s who call in
+    time-cancelled_by clock (state_by s who call d) call d
+    (time-state_by clock s who call d (Keeps-call s who call) (late-granted _ (is_late s call) (decide s who call) (clock-kept s who call))
+    (λ waits. waits-early (is_late s call) (decide s who call) (ap proceeds waits)) on)
+
+-- those that aren't expired are in time
+pub time-begun : (clock : ℕ) (ws : List Waiting) → InTime clock (filter (λ w. is_none (if is_reached clock w.deadline then Some TimedOut else None)) ws)
+time-begun clock [] = tt
+time-begun clock (w ∷ ws) = ⊎_elim
+    (λ (is : is_reached clock w.deadline ≡ true). rw is (time-begun clock ws))
+    (λ (isnt : is_reached clock w.deadline ≡ false). rw isnt (isnt, time-begun clock ws))
+    (cases_Bool (is_reached clock w.deadline))
+
+pub in-time-step : (s : State) (e : Event) → AreInTime (step s e).state
+in-time-step s e =
+    let now = begun s e.now in
+    let on = time-settled now.clock (moved_by now e.client e.call).state (time-moved now.clock now e.client e.call (refl, time-begun now.clock s.parked)) in
+    subst (λ n. InTime n (step s e).state.parked) (sym on.0) on.1
 
 -- the first that passes is hidden: without its client's calls as many are left in sight
 pub left-alike : (p q : Waiting → Bool) (ws : List Waiting) (w : Waiting) → Apart ws → find p ws ≡ Some w → q w ≡ false → filter q (others w.client ws) ≡ filter q ws

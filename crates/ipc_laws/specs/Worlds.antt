@@ -2,15 +2,16 @@
 use Rattle.std.specs.Prelude.{◌≡◌, ℕ, ◌==◌, ◌≤◌, nat_lt, ◌⊎◌, Bool, true, false, not, ◌&&◌, ◌||◌, if◌then◌else◌}
 use Rattle.std.specs.Prelude.{List, [], ◌∷◌, ◌++◌, map, filter, length, replicate}
 use Rattle.std.specs.Prelude.{Option, Some, None, option_map, unwrap_or}
+use Rattle.std.specs.List.{list_all}
 use Rattle.std.specs.FinMap as finite
 use Rattle.ipc_call.specs.declared.calls.Call.{Call}
-use Rattle.ipc_call.specs.declared.calls.Call.TheVariants.{MsgSnd, MsgRcv, SemOp, GetVal, GetPid, GetNcnt, GetZcnt}
+use Rattle.ipc_call.specs.declared.calls.Call.TheVariants.{MsgSnd, MsgRcv, SemOp, SemTimedOp, GetVal, GetPid, GetNcnt, GetZcnt}
 use Rattle.ipc_call.specs.declared.calls.Call.TheVariants.{GetAll, SetVal, SetAll, ShmRead, ShmWrite, IpcStat, Listing}
 use Rattle.ipc_call.specs.declared.calls.Kind.{Kind}
 use Rattle.ipc_call.specs.declared.calls.Kind.TheVariants as kinds
 use Rattle.ipc_call.specs.declared.perms.Perm.{Perm}
 use Rattle.ipc_call.specs.declared.replies.Ended.{Ended}
-use Rattle.ipc_creds.specs.Credentials.{Credentials, has_capability, cap_ipc_owner}
+use Rattle.ipc_creds.specs.Credentials.{Credentials, acting_as, cap_ipc_owner, cap_setgid, cap_setuid, has_capability, own_groups, own_users}
 use Rattle.ipc_perm.specs.Access.{controls, rights_of}
 use Rattle.ipc_ids.specs.Table.{Table}
 use Rattle.ipc_ids.specs.Images.{map_entries}
@@ -22,12 +23,18 @@ use Rattle.ipc_model.specs.Decision.{Outcome}
 use Rattle.ipc_model.specs.Decide.{waits_at}
 use Rattle.ipc_model.specs.Step.{Event, Stepped, step}
 use Rattle.ipc_history.specs.History.{AreLegalFrom, run_from}
-use Rattle.ipc_model.specs.Waits.{AreNotReady, WaitOnce}
+use Rattle.ipc_model.specs.Waits.{AreInTime, AreNotReady, WaitOnce}
 
 -- no right on an object, no control of it, and no capability that overrides rights
+abbrev pub is_shut : Credentials → Perm → Bool
+is_shut c p =
+    not (rights_of c p).read && not (rights_of c p).alter && not (controls c p) && not (has_capability c cap_ipc_owner)
+
+-- as any user and group that the client may become; one that may become any is closed out of nothing
 unfoldable pub is_closed : Credentials → Perm → Bool
 is_closed c p =
-    not (rights_of c p).read && not (rights_of c p).alter && not (controls c p) && not (has_capability c cap_ipc_owner)
+    not (has_capability c cap_setuid || has_capability c cap_setgid)
+    && list_all (λ u. list_all (λ g. is_shut (acting_as c u g) p) (own_groups c)) (own_users c)
 
 -- the client has the segment attached
 abbrev pub has_attached : Attached → ℕ → ℕ → Bool
@@ -151,6 +158,7 @@ abbrev pub contents_at : State → ℕ → Call → Option (Kind × ℕ)
 contents_at s client (MsgSnd id mtype text flags) = Some (kinds.Queue, id)
 contents_at s client (MsgRcv id size msgtyp flags) = Some (kinds.Queue, id)
 contents_at s client (SemOp id ops) = Some (kinds.Sems, id)
+contents_at s client (SemTimedOp id ops timeout) = Some (kinds.Sems, id)
 contents_at s client (SetVal id num value) = Some (kinds.Sems, id)
 contents_at s client (SetAll id values) = Some (kinds.Sems, id)
 contents_at s client (ShmWrite att offset bytes) =
@@ -177,9 +185,11 @@ AreOutOfSight client s (e ∷ es) =
 abbrev pub own_events : ℕ → List Event → List Event
 own_events client es = filter (λ e. e.client == client) es
 
--- as every legal history leaves a state: no waiting call is ready, and no client waits twice
+-- as every legal history leaves a state: no waiting call is ready, none has reached its deadline, and no client waits
+-- twice
 pub record IsSettled (s : State) : Type 0 where
   pub not_ready : AreNotReady s
+  pub in_time : AreInTime s
   pub once : WaitOnce s
 
 -- two settled states that the client can't tell apart, and a legal list of events from each: the client's own events

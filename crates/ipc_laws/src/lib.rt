@@ -1,9 +1,13 @@
-//! What a client can't learn of other clients. A law is a function that does nothing: what it ensures is the law.
+//! What a client can't learn of other clients, and what deadlines do. A law is a function that does nothing: what it
+//! ensures is the law.
 #![tactic(auto)]
 
-ghost use Rattle.std.specs.Prelude.{ℕ, List};
+ghost use Rattle.std.specs.Prelude.{◌≡◌, ℕ, List};
 ghost use Rattle.ipc_model.specs.State.{State};
-ghost use Rattle.ipc_model.specs.Step.{Event};
+ghost use Rattle.ipc_model.specs.Step.{Event, step};
+ghost use Rattle.ipc_model.specs.Waits.{AreInTime};
+ghost use Rattle.ipc_history.specs.History.{History, run};
+ghost use Rattle.ipc_laws.specs.Deadlines.{step_by_deadlines};
 ghost use Rattle.ipc_laws.specs.Worlds.{AreTwoWorlds, IsUnaware};
 
 /// A client can't tell apart two states that differ only in the contents of queues, sets and segments to which it has
@@ -15,4 +19,16 @@ ghost use Rattle.ipc_laws.specs.Worlds.{AreTwoWorlds, IsUnaware};
 pub fn two_worlds()
     ensures { (client : ℕ) (s t : State) (es fs : List Event) → AreTwoWorlds client s t es fs
         → IsUnaware client s t es fs }
+{}
+
+/// After every history the deadline of each call that waits is above the clock: nobody waits past a deadline that an
+/// event has reached.
+pub fn waiting_calls_are_in_time()
+    ensures { (h : History) → AreInTime (run h) }
+{}
+
+/// If a waiting call were ready also where its deadline is reached, and then ended as timed out, every event would do
+/// the same: the calls whose deadline it reaches end before any other does.
+pub fn settling_reads_deadlines()
+    ensures { (s : State) (e : Event) → step s e ≡ step_by_deadlines s e }
 {}

@@ -1,11 +1,12 @@
 -- The calls, a line for each in three tables: on what a plan doesn't depend, which plans wait, and what a grant keeps.
 use Rattle.std.proofs.Common.{◌≡◌, ℕ, Bool, true, false, List, [], ◌∷◌, length, refl, sym, ap, ◌∙◌, Option, Some, None, ℤ}
-use Rattle.std.specs.Prelude.{if◌then◌else◌, not, pos, int_le, nat_le, nat_lt, option_and_then, option_map}
+use Rattle.std.specs.Prelude.{if◌then◌else◌, is_some, not, pos, int_le, nat_le, nat_lt, option_and_then, option_map}
 use Rattle.std.proofs.lemmas.Bool.{true≢false}
 use Rattle.ipc_call.specs.Flags.{has_flag, msg_except}
 use Rattle.ipc_call.specs.declared.calls.Call.{Call}
-use Rattle.ipc_call.specs.declared.calls.Call.TheVariants.{MsgGet, MsgSnd, MsgRcv, SemGet, SemOp, GetVal, GetPid, GetNcnt, GetZcnt, GetAll, SetVal, SetAll, ShmGet, ShmAt, ShmDt, ShmRead, ShmWrite, Exit, IpcStat, IpcSet, IpcRmid, Listing, Interrupt}
+use Rattle.ipc_call.specs.declared.calls.Call.TheVariants.{MsgGet, MsgSnd, MsgRcv, SemGet, SemOp, SemTimedOp, GetVal, GetPid, GetNcnt, GetZcnt, GetAll, SetVal, SetAll, ShmGet, ShmAt, ShmDt, ShmRead, ShmWrite, Exit, IpcStat, IpcSet, IpcRmid, Listing, Interrupt, SetCreds}
 use Rattle.ipc_call.specs.declared.calls.Kind.{Kind}
+use Rattle.ipc_call.specs.declared.calls.SemOper.{SemOper}
 use Rattle.ipc_call.specs.declared.calls.Kind.TheVariants as kinds
 use Rattle.ipc_call.specs.declared.settings.Settings.{Settings}
 use Rattle.ipc_call.specs.declared.replies.Answer.{Answer}
@@ -13,13 +14,13 @@ use Rattle.ipc_call.specs.declared.replies.Answer.TheVariants.{Done, Id, Rows, S
 use Rattle.ipc_call.specs.declared.replies.Waiting.{Waiting}
 use Rattle.ipc_call.specs.declared.rules.Rule.TheVariants.{BadId, BadType, Ended, NoOperations, NoProcess, NoSlot, NotAttached, SemOutOfSet, TextTooLong, TooManyAttached, TooManyOperations}
 use Rattle.ipc_creds.specs.Credentials.{Credentials}
-use Rattle.ipc_perm.specs.Access.{Permission, Resource, to_read}
+use Rattle.ipc_perm.specs.Access.{Permission, Resource, SetGroups, to_read}
 use Rattle.ipc_ids.specs.Table.{Table, next_id, with_object, without_object}
 use Rattle.ipc_objects.specs.declared.object.Object.{Object}
 use Rattle.msg_queue.specs.declared.messages.Message.{Message}
 use Rattle.ipc_model.specs.State.{Caller, Queue, Queues, Segment, SemSet, Sems, Shared, State, caller, creds_at, has_ended}
 use Rattle.ipc_model.specs.Decision.{proceeds}
-use Rattle.ipc_model.specs.Plan.{Needs, Passes, Plan, decision, found, in_order, on_part, ◌⨾◌}
+use Rattle.ipc_model.specs.Plan.{Needs, Passes, Plan, decision, in_order, on_part, ◌⨾◌}
 use Rattle.ipc_model.specs.Plan as plans
 use Rattle.ipc_model.specs.Gets.{Getting, get, get_found, get_queue, get_segment, get_set, getting_queue, getting_segment, getting_set, new_object, object_of_key}
 use Rattle.ipc_model.specs.Messages.{chosen, queue_at, receive_message, send_found, send_message, take_chosen, receive_found}
@@ -29,13 +30,15 @@ use Rattle.shm_seg.specs.Attachments.{attachment_at, free_number, shmseg}
 use Rattle.sem_set.specs.Trials.{are_in}
 use Rattle.sem_undo.specs.Entries.{adj_of}
 use Rattle.ipc_objects.specs.Objects.{changed}
-use Rattle.ipc_model.specs.Processes.{process}
+use Rattle.std.proofs.lemmas.List.{length-set}
+use Rattle.ipc_creds.specs.Credentials.{became}
+use Rattle.ipc_model.specs.Processes.{process, with_creds}
 use Rattle.ipc_model.specs.Controls.{is_within, perm_of, removed, status_of, with_new_owner, with_set, with_settings, without_segment, without_set}
 use Rattle.ipc_model.specs.Listings.{rows_to}
 use Rattle.ipc_model.specs.Decide.{OnQueues, OnSems, OnShared, can_wait, get_waiting, is_negative, is_zero, decide, decide_alive, part_plan, plan, plan_alive, whole}
 use Rattle.ipc_model.specs.Step.{at_time}
 use Rattle.ipc_model.proofs.Alike.{blank, blank-found, blank-on, blank-order, proceeds-alike}
-use Rattle.ipc_model.proofs.Growing.{Follows-queues, Follows-sems, Follows-shared, Grows, Grows-changed, Grows-gone, Grows-mapped, Grows-new, Grows-same, Keeps, Leads, Leads-same, Succeeds, Succeeds-same}
+use Rattle.ipc_model.proofs.Growing.{Follows-queues, Follows-same, Follows-sems, Follows-shared, Grows, Grows-changed, Grows-gone, Grows-mapped, Grows-new, Grows-same, Keeps, Leads, Leads-same, Succeeds, Succeeds-same}
 use Rattle.ipc_model.proofs.Leading.{Leads-attached, Leads-changed, Leads-detached, Leads-each, Leads-new, Leads-removed, Leads-written}
 use Rattle.ipc_model.proofs.Plans.{never-found, never-on, never_waits, proceeds-never, Ends, Ends-decision, Ends-found, Ends-on, Ends-order}
 use Rattle.std.specs.FinMap as finite
@@ -73,6 +76,14 @@ module _ (s : State) (parked : List Waiting) (clock : ℕ) where
   sems-alike : (p q : Plan Sems) → blank p ≡ blank q → blank (whole later (OnSems p)) ≡ blank (whole s (OnSems q))
   sems-alike p q same = blank-on (λ sems. record later { sems = sems }) p ∙ same ∙ sym (blank-on (λ sems. record s { sems = sems }) q)
 
+  operate-alike : (client id : ℕ) (ops : List SemOper) → blank (whole later (OnSems (operate s.limits s.sems (caller later client) id ops))) ≡ blank (whole s (OnSems (operate s.limits s.sems (caller s client) id ops)))
+  operate-alike client id ops =
+      sems-alike (operate s.limits s.sems (caller later client) id ops) (operate s.limits s.sems (caller s client) id ops)
+      (ap (λ p. Passes (nat_lt 0 (length ops)) NoOperations tt ⨾ Passes (nat_le (length ops) s.limits.sem_opm) TooManyOperations tt ⨾ p)
+      (blank-found (set_at s.sems id) BadId tt _ _ (λ (set : Object SemSet).
+      ap (λ p. Needs (Permission set.perm (wanted_by ops)) ⨾ Passes (are_in set.contents.semaphores ops) SemOutOfSet tt ⨾ p)
+      (blank-order (trial_checks set.contents.semaphores (adj_of s.sems.undo client id) [] ops) _ _ refl))))
+
   -- of a call that may wait
   alive-alike : (client : ℕ) (call : Call) → can_wait call ≡ true → blank (plan_alive later client call) ≡ blank (plan_alive s client call)
   unfolding part_plan
@@ -86,12 +97,8 @@ module _ (s : State) (parked : List Waiting) (clock : ℕ) where
       (blank-found (queue_at s.queues id) BadId tt _ _ (λ (queue : Object Queue).
       ap (λ p. Needs (Permission queue.perm to_read) ⨾ p)
       (take-alike s.queues (caller later client) (caller s client) id size flags queue.contents (chosen queue.contents.messages msgtyp (has_flag flags msg_except)))))
-  alive-alike client (SemOp id ops) can =
-      sems-alike (operate s.limits s.sems (caller later client) id ops) (operate s.limits s.sems (caller s client) id ops)
-      (ap (λ p. Passes (nat_lt 0 (length ops)) NoOperations tt ⨾ Passes (nat_le (length ops) s.limits.sem_opm) TooManyOperations tt ⨾ p)
-      (blank-found (set_at s.sems id) BadId tt _ _ (λ (set : Object SemSet).
-      ap (λ p. Needs (Permission set.perm (wanted_by ops)) ⨾ Passes (are_in set.contents.semaphores ops) SemOutOfSet tt ⨾ p)
-      (blank-order (trial_checks set.contents.semaphores (adj_of s.sems.undo client id) [] ops) _ _ refl))))
+  alive-alike client (SemOp id ops) can = operate-alike client id ops
+  alive-alike client (SemTimedOp id ops timeout) can = operate-alike client id ops
   alive-alike client call can = absurd (true≢false (sym can))
 
   pub plan-alike : (client : ℕ) (call : Call) → can_wait call ≡ true → blank (plan later client call) ≡ blank (plan s client call)
@@ -103,6 +110,10 @@ never-sems s p never = never-on (λ sems. record s { sems = sems }) p never
 
 never-shared : (s : State) (p : Plan Shared) → never_waits p ≡ true → never_waits (whole s (OnShared p)) ≡ true
 never-shared s p never = never-on (λ shared. record s { shared = shared }) p never
+
+never-groups : (groups : Option (List ℕ)) (new : State) → never_waits (in_order (if is_some groups then Needs SetGroups ∷ [] else []) (plans.Grant Done new)) ≡ true
+never-groups None new = refl
+never-groups (Some gs) new = refl
 
 never-plan : (s : State) (client : ℕ) (call : Call) → can_wait call ≡ false → never_waits (plan s client call) ≡ true
 unfolding part_plan
@@ -119,6 +130,7 @@ never-plan s client (SemGet key nsems flags) never =
     (never-on (λ sets. record s.sems { sets = sets }) (get sets who key flags (getting_set nsems))
     (never-get sets (getting_set nsems) (λ p waits. waits) (λ x p waits. waits) who key flags (object_of_key sets key)))
 never-plan s client (SemOp id ops) never = absurd (true≢false never)
+never-plan s client (SemTimedOp id ops timeout) never = absurd (true≢false never)
 never-plan s client (GetNcnt id num) never = never-sems s (get_waiting s id num (is_negative num)) (never-found (set_at s.sems id) BadId tt _ (λ set. refl))
 never-plan s client (GetZcnt id num) never = never-sems s (get_waiting s id num (is_zero num)) (never-found (set_at s.sems id) BadId tt _ (λ set. refl))
 never-plan s client Exit never = refl
@@ -145,6 +157,7 @@ never-plan s client (IpcSet kind id uid gid mode qbytes) never =
     never-found (perm_of s kind id) BadId tt _ (λ perm. never-set (with_set s kind id set) (is_within s qbytes))
 never-plan s client (IpcRmid kind id) never = never-found (perm_of s kind id) BadId tt _ (λ perm. refl)
 never-plan s client (Listing kind) never = refl
+never-plan s client (SetCreds euid egid groups) never = never-groups groups _
 never-plan s client (Interrupt pid) never = never-found (process s pid) NoProcess tt _ (λ target. refl)
 
 can-wait : (b : Bool) (call : Call) (c : Credentials) (p : Plan State) → (can_wait call ≡ false → never_waits p ≡ true) → can_wait call ≡ b → proceeds (decision c p) ≡ false → b ≡ true
@@ -253,6 +266,12 @@ behind-there a client number of segment is = by (attachment_at a.attached client
     by None is = absurd (none-some (of, segment) is)
     by (Some x) is = there x (segment_at a x.segment) refl is
 
+Ends-operate : (s : State) (client id : ℕ) (ops : List SemOper) → Ends (Succeeds s) (whole s (OnSems (operate s.limits s.sems (caller s client) id ops)))
+Ends-operate s client id ops =
+    let who = caller s client in
+    Ends-sems s (operate s.limits s.sems who id ops) (Ends-found _ (set_at s.sems id) BadId tt _ (λ set is.
+    Ends-order (λ answer u. Grows s.sems.sets u.sets) (trial_checks set.contents.semaphores (adj_of s.sems.undo client id) [] ops) (plans.Grant Done (operated s.sems who id ops set.contents)) (Grows-changed s.sems.sets id _)))
+
 -- each call
 Ends-plan : (s : State) (client : ℕ) (call : Call) → Ends (Succeeds s) (plan s client call)
 unfolding part_plan
@@ -268,10 +287,8 @@ Ends-plan s client (SemGet key nsems flags) =
     let P : Answer → Sems → Type 0 = λ answer u. Grows s.sems.sets u.sets in
     Ends-sems s (get_set s.limits s.sems who key nsems flags)
     (Ends-on (λ sets. record s.sems { sets = sets }) P (get s.sems.sets who key flags (getting_set nsems)) (Ends-get s.sems.sets who key flags (getting_set nsems) (object_of_key s.sems.sets key)))
-Ends-plan s client (SemOp id ops) =
-    let who = caller s client in
-    Ends-sems s (operate s.limits s.sems who id ops) (Ends-found _ (set_at s.sems id) BadId tt _ (λ set is.
-    Ends-order (λ answer u. Grows s.sems.sets u.sets) (trial_checks set.contents.semaphores (adj_of s.sems.undo client id) [] ops) (plans.Grant Done (operated s.sems who id ops set.contents)) (Grows-changed s.sems.sets id _)))
+Ends-plan s client (SemOp id ops) = Ends-operate s client id ops
+Ends-plan s client (SemTimedOp id ops timeout) = Ends-operate s client id ops
 Ends-plan s client (GetNcnt id num) = Ends-sems s (get_waiting s id num (is_negative num)) (Ends-found _ (set_at s.sems id) BadId tt _ (λ set is. Grows-same s.sems.sets))
 Ends-plan s client (GetZcnt id num) = Ends-sems s (get_waiting s id num (is_zero num)) (Ends-found _ (set_at s.sems id) BadId tt _ (λ set is. Grows-same s.sems.sets))
 Ends-plan s client Exit = (refl, record { queues = Grows-same s.queues; sets = Grows-mapped (exited s.sems (caller s client)) s.sems.sets; shared = Leads-each shmseg 0 (caller s client) s.shared; clients = refl; limits = refl })
@@ -303,6 +320,10 @@ Ends-plan s client (IpcSet kind id uid gid mode qbytes) =
     Ends-found (Succeeds s) (perm_of s kind id) BadId tt _ (λ perm is. Ends-set s kind id new (is_within s qbytes))
 Ends-plan s client (IpcRmid kind id) = Ends-found (Succeeds s) (perm_of s kind id) BadId tt _ (λ perm is. Ends-removed s kind id perm is)
 Ends-plan s client (Listing kind) = Succeeds-same s (Rows (rows_to s (creds_at s client) kind))
+Ends-plan s client (SetCreds euid egid groups) =
+    let new = with_creds s client (became euid egid groups (creds_at s client)) in
+    Ends-order (Succeeds s) (if is_some groups then Needs SetGroups ∷ [] else []) (plans.Grant Done new)
+    (refl, Follows-same s new refl refl refl (length-set s.clients client (became euid egid groups (creds_at s client))) refl)
 Ends-plan s client (Interrupt pid) = Ends-found (Succeeds s) (process s pid) NoProcess tt _ (λ target is. Succeeds-same s Done)
 
 pub Keeps-decide : (s : State) (client : ℕ) (call : Call) → Keeps s (decide s client call)

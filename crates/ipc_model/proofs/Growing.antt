@@ -3,7 +3,7 @@
 use Rattle.std.proofs.Common.{◌≡◌, ℕ, ◌<◌, ◌/◌, ◌%◌, ⊎_elim, inl, inr, ap, true, refl, sym, ◌∙◌, subst, Option, Some, None}
 use Rattle.std.specs.FinMap as finite
 use Rattle.ipc_call.specs.declared.replies.Answer.{Answer}
-use Rattle.std.specs.Prelude.{is_some, option_map}
+use Rattle.std.specs.Prelude.{is_some, length, option_map}
 use Rattle.std.proofs.lemmas.Option.{none-some}
 use Rattle.ipc_ids.specs.Images.{map_entries}
 use Rattle.ipc_ids.proofs.Images.{get-entries}
@@ -96,10 +96,10 @@ pub record Follows (s t : State) : Type 0 where
   pub queues : Grows s.queues t.queues
   pub sets : Grows s.sems.sets t.sems.sets
   pub shared : Leads s.shared t.shared
-  pub clients : t.clients ≡ s.clients
+  pub clients : length t.clients ≡ length s.clients
   pub limits : t.limits ≡ s.limits
 
-pub Follows-same : (s t : State) → t.queues ≡ s.queues → t.sems ≡ s.sems → t.shared ≡ s.shared → t.clients ≡ s.clients → t.limits ≡ s.limits → Follows s t
+pub Follows-same : (s t : State) → t.queues ≡ s.queues → t.sems ≡ s.sems → t.shared ≡ s.shared → length t.clients ≡ length s.clients → t.limits ≡ s.limits → Follows s t
 Follows-same s t queues sems shared clients limits = record {
   queues = subst (λ (q : Queues). Grows s.queues q) (sym queues) (Grows-same s.queues);
   sets = subst (λ (u : Sems). Grows s.sems.sets u.sets) (sym sems) (Grows-same s.sems.sets);

@@ -1,23 +1,24 @@
 -- The decision on each call, and what it needs of its caller.
-use Rattle.std.specs.Prelude.{ℕ, ◌==◌, pos, int_lt, Bool, false, not, ◌&&◌, List, Option, Some, None, is_some}
+use Rattle.std.specs.Prelude.{ℕ, ◌+◌, ◌==◌, min, nat_le, pos, int_lt, Bool, true, false, not, ◌&&◌, List, Option, Some, None, is_some}
 use Rattle.std.specs.List.{count_by}
 use Rattle.std.specs.Ordering.{int_eq}
 use Rattle.ipc_call.specs.declared.calls.Call.{Call}
-use Rattle.ipc_call.specs.declared.calls.Call.TheVariants.{MsgGet, MsgSnd, MsgRcv, SemGet, SemOp, GetVal, GetPid, GetNcnt, GetZcnt, GetAll}
-use Rattle.ipc_call.specs.declared.calls.Call.TheVariants.{SetVal, SetAll, ShmGet, ShmAt, ShmDt, ShmRead, ShmWrite, IpcStat, IpcSet, IpcRmid, Listing, Interrupt, Exit}
+use Rattle.ipc_call.specs.declared.calls.Call.TheVariants.{MsgGet, MsgSnd, MsgRcv, SemGet, SemOp, SemTimedOp, GetVal, GetPid, GetNcnt, GetZcnt, GetAll}
+use Rattle.ipc_call.specs.declared.calls.Call.TheVariants.{SetVal, SetAll, ShmGet, ShmAt, ShmDt, ShmRead, ShmWrite, IpcStat, IpcSet, IpcRmid, Listing, Interrupt, SetCreds, Exit}
 use Rattle.ipc_call.specs.declared.calls.SemOper.{SemOper}
-use Rattle.ipc_call.specs.declared.rules.Rule.TheVariants.{Ended}
+use Rattle.ipc_call.specs.declared.rules.Rule.TheVariants.{Ended, TimedOut}
 use Rattle.ipc_call.specs.declared.calls.Kind.{Kind}
 use Rattle.ipc_call.specs.declared.calls.Kind.TheVariants as kinds
 use Rattle.ipc_perm.specs.Access.{Need}
 use Rattle.ipc_model.specs.State.{Caller, Queues, Sems, Shared, State, caller, creds_at, has_ended}
 use Rattle.ipc_model.specs.Decision.{Decision}
+use Rattle.ipc_model.specs.Decision as decisions
 use Rattle.ipc_model.specs.Plan.{Passes, Plan, decision, needs_in, on_part, ◌⨾◌}
 use Rattle.ipc_model.specs.Gets.{get_queue, get_segment, get_set}
 use Rattle.ipc_model.specs.Messages.{receive_message, send_message}
 use Rattle.ipc_model.specs.Semaphores.{get_all, get_pid, get_value, look, operate, set_all, set_value, stopping}
 use Rattle.ipc_model.specs.Segments.{attach, detach, read_bytes, write_bytes}
-use Rattle.ipc_model.specs.Processes.{exit, interrupt}
+use Rattle.ipc_model.specs.Processes.{exit, interrupt, set_creds}
 use Rattle.ipc_model.specs.Controls.{remove_object, set_object, stat_object}
 use Rattle.ipc_model.specs.Listings.{list_objects}
 
@@ -64,6 +65,7 @@ part_plan s who (MsgSnd id mtype text flags) =
 part_plan s who (MsgRcv id size msgtyp flags) = OnQueues (receive_message s.queues who id size msgtyp flags)
 part_plan s who (SemGet key nsems flags) = OnSems (get_set s.limits s.sems who key nsems flags)
 part_plan s who (SemOp id ops) = OnSems (operate s.limits s.sems who id ops)
+part_plan s who (SemTimedOp id ops timeout) = OnSems (operate s.limits s.sems who id ops)
 part_plan s who (GetVal id num) = OnSems (get_value s.sems id num)
 part_plan s who (GetPid id num) = OnSems (get_pid s.sems id num)
 part_plan s who (GetNcnt id num) = OnSems (get_waiting s id num (is_negative num))
@@ -82,6 +84,7 @@ part_plan s who (IpcSet kind id uid gid mode qbytes) =
 part_plan s who (IpcRmid kind id) = OnState (remove_object s kind id)
 part_plan s who (Listing kind) = OnState (list_objects s who kind)
 part_plan s who (Interrupt pid) = OnState (interrupt s pid)
+part_plan s who (SetCreds euid egid groups) = OnState (set_creds s who euid egid groups)
 part_plan s who Exit = OnState (exit s who)
 
 -- of a client that hasn't ended
@@ -108,8 +111,48 @@ abbrev pub waits_at : Call → Option (Kind × ℕ)
 waits_at (MsgSnd id mtype text flags) = Some (kinds.Queue, id)
 waits_at (MsgRcv id size msgtyp flags) = Some (kinds.Queue, id)
 waits_at (SemOp id ops) = Some (kinds.Sems, id)
+waits_at (SemTimedOp id ops timeout) = Some (kinds.Sems, id)
 waits_at call = None
 
 -- a call that may wait
 abbrev pub can_wait : Call → Bool
 can_wait call = is_some (waits_at call)
+
+-- a call that stands among those that wait
+abbrev pub stands : Call → Bool
+stands (MsgSnd id mtype text flags) = true
+stands (MsgRcv id size msgtyp flags) = true
+stands (SemOp id ops) = true
+stands call = false
+
+-- as what a call waits: semtimedop as the semop that it is but for its deadline
+abbrev pub waits_as : Call → Call
+waits_as (SemTimedOp id ops timeout) = SemOp id ops
+waits_as call = call
+
+-- the second of the clock at which a call that would wait now ends, where it waits no longer: of semtimedop so many
+-- seconds from now, or the last that a clock can show (the project's own)
+abbrev pub deadline_of : ℕ → Call → Option ℕ
+deadline_of now (SemTimedOp id ops timeout) = Some (min (now + timeout) 18446744073709551615)
+deadline_of now call = None
+
+abbrev pub is_reached : ℕ → Option ℕ → Bool
+is_reached clock None = false
+is_reached clock (Some deadline) = nat_le deadline clock
+
+-- a call that would have to wait, and whose deadline isn't above the clock, is refused (EAGAIN of semop(2))
+abbrev pub at_once : {X : Type 0} → Decision X → Decision X
+at_once (decisions.Refuse rule) = decisions.Refuse rule
+at_once decisions.Wait = decisions.Refuse TimedOut
+at_once (decisions.Grant answer new) = decisions.Grant answer new
+
+abbrev pub unless_late : {X : Type 0} → Bool → Decision X → Decision X
+unless_late true d = at_once d
+unless_late false d = d
+
+abbrev pub is_late : State → Call → Bool
+is_late s call = is_reached s.clock (deadline_of s.clock call)
+
+-- what is decided on a call that a client makes
+abbrev pub decide_call : State → ℕ → Call → Decision State
+decide_call s client call = unless_late (is_late s call) (decide s client call)

@@ -3,7 +3,7 @@
 use Rattle.std.specs.Prelude.{ℕ, ⊤, Result, Bool, true, false, not, T, List, [], ◌∷◌, Option, Some, None, is_none, if◌then◌else◌}
 use Rattle.ipc_call.specs.Flags.{has_flag, ipc_nowait}
 use Rattle.ipc_call.specs.declared.rules.Rule.{Rule}
-use Rattle.ipc_call.specs.declared.rules.Rule.TheVariants.{NotOwner, NeedsResource, NotSameUser, ReadOnly, OwnerBits, GroupBits, OtherBits}
+use Rattle.ipc_call.specs.declared.rules.Rule.TheVariants.{NotOwner, NeedsResource, NotSameUser, NotOwnUser, NotOwnGroup, NeedsSetgid, ReadOnly, OwnerBits, GroupBits, OtherBits}
 use Rattle.ipc_call.specs.declared.replies.Answer.{Answer}
 use Rattle.ipc_call.specs.declared.replies.Answer.TheVariants.{Done}
 use Rattle.ipc_creds.specs.Credentials.{Credentials}
@@ -16,6 +16,9 @@ abbrev pub is_denial : Rule → Bool
 is_denial NotOwner = true
 is_denial NeedsResource = true
 is_denial NotSameUser = true
+is_denial NotOwnUser = true
+is_denial NotOwnGroup = true
+is_denial NeedsSetgid = true
 is_denial OwnerBits = true
 is_denial GroupBits = true
 is_denial OtherBits = true

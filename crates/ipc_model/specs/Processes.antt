@@ -1,14 +1,14 @@
 -- The calls on processes: interrupts, the end of a waiting call as a caught signal brings it (EINTR of msgop(2); the
 -- call is the project's own), and exit (_exit(2); semop(2), SEM_UNDO; shmop(2)).
-use Rattle.std.specs.Prelude.{ℕ, ◌-◌, ◌==◌, [], ◌∷◌, ◌++◌, Option, None, if◌then◌else◌, slice_get}
-use Rattle.ipc_call.specs.declared.rules.Rule.TheVariants.{NoProcess}
+use Rattle.std.specs.Prelude.{ℕ, ◌-◌, ◌==◌, nat_le, List, [], ◌∷◌, ◌++◌, length, Option, None, is_some, unwrap_or, if◌then◌else◌, slice_get, slice_set}
+use Rattle.ipc_call.specs.declared.rules.Rule.TheVariants.{NoProcess, TooManyGroups}
 use Rattle.ipc_call.specs.declared.replies.Answer.TheVariants.{Done}
-use Rattle.ipc_creds.specs.Credentials.{Credentials}
-use Rattle.ipc_perm.specs.Access.{SameUser}
+use Rattle.ipc_creds.specs.Credentials.{Credentials, became, groups_max}
+use Rattle.ipc_perm.specs.Access.{BecomeGroup, BecomeUser, SameUser, SetGroups}
 use Rattle.ipc_model.specs.State.{Caller, State, has_ended}
 use Rattle.ipc_model.specs.Semaphores.{after_exit}
 use Rattle.ipc_model.specs.Segments.{after_detaches}
-use Rattle.ipc_model.specs.Plan.{Needs, Plan, Grant, found, ◌⨾◌}
+use Rattle.ipc_model.specs.Plan.{Needs, Passes, Plan, Grant, found, in_order, ◌⨾◌}
 
 -- the credentials of the client of a process, which is its number plus 1; one that ended has none
 abbrev pub process : State → ℕ → Option Credentials
@@ -26,3 +26,17 @@ exit s who = Grant Done (record s {
   sems = after_exit s.sems who;
   shared = after_detaches s.shared who;
 })
+
+-- a client with other credentials
+abbrev pub with_creds : State → ℕ → Credentials → State
+with_creds s client c = record s { clients = slice_set s.clients client c }
+
+-- setcreds: not too many groups are given; the caller may become the user, and the group, and set groups where some are
+-- given. No object changes, nor what is attached
+abbrev pub set_creds : State → Caller → ℕ → ℕ → Option (List ℕ) → Plan State
+set_creds s who euid egid groups =
+    Passes (nat_le (length (unwrap_or groups [])) groups_max) TooManyGroups _
+    ⨾ Needs (BecomeUser euid)
+    ⨾ Needs (BecomeGroup egid)
+    ⨾ in_order (if is_some groups then Needs SetGroups ∷ [] else [])
+    (Grant Done (with_creds s who.client (became euid egid groups who.creds)))

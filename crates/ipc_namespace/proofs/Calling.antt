@@ -218,10 +218,10 @@ pub alive-decides : (s : State) (client : ℕ) (call : Call) → has_ended s cli
 alive-decides s client call alive = ap (λ b. if not b then decide s client call else Refuse rules.Ended) alive
 
 -- a waiting call that ends
-pub ends-so : (s new : State) (client : ℕ) (call : Call) (outcome : Outcome) → has_ended s client ≡ false → outcome_of (decide (without s client) client call) ≡ Some outcome
+pub ends-so : (s new : State) (client : ℕ) (call : Call) (until : Option ℕ) (outcome : Outcome) → has_ended s client ≡ false → outcome_of (decide (without s client) client call) ≡ Some outcome
     → new ≡ left_by (without s client) (decide (without s client) client call)
-    → end_waiting s (record { client = client; call = call }) ≡ record { state = new; ended = record { client = client; outcome = outcome } ∷ [] }
-ends-so s new client call outcome alive told left =
+    → end_waiting s (record { client = client; call = call; deadline = until }) ≡ record { state = new; ended = record { client = client; outcome = outcome } ∷ [] }
+ends-so s new client call until outcome alive told left =
     ap (λ d. ended_by (without s client) client d) (alive-decides (without s client) client call alive)
     ∙ ended-as (without s client) client (decide (without s client) client call) outcome told ∙ (λ i. record { state = sym left i; ended = record { client = client; outcome = outcome } ∷ [] })
 

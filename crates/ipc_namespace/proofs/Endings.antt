@@ -5,7 +5,7 @@ use Rattle.std.specs.List.{find, AllByRecursion}
 use Rattle.std.proofs.lemmas.Bool.{cases_Bool, false≢true, true≢false}
 use Rattle.ipc_call.specs.Flags.{has_flag, msg_except}
 use Rattle.ipc_call.specs.declared.calls.Call.{Call}
-use Rattle.ipc_call.specs.declared.calls.Call.TheVariants.{MsgSnd, MsgRcv, SemOp}
+use Rattle.ipc_call.specs.declared.calls.Call.TheVariants.{MsgSnd, MsgRcv, SemOp, SemTimedOp}
 use Rattle.ipc_call.specs.declared.calls.SemOper.{SemOper}
 use Rattle.ipc_call.specs.declared.replies.Answer.TheVariants.{Done}
 use Rattle.sem_set.specs.declared.sets.Semaphore.{Semaphore}
@@ -101,6 +101,12 @@ module _ (s : State) (parked : List Waiting) where
   pub same_rule : (cancelling : Cancelling) → cancelled_as other cancelling ≡ cancelled_as s cancelling
   same_rule cancelling = λ i w. cancelled_as-alike cancelling w i
 
+-- no deadline makes a difference
+pub without-until : (s : State) (cancelling : Cancelling) (w : Waiting) → cancelled_as s cancelling (record { client = w.client; call = w.call; deadline = None }) ≡ cancelled_as s cancelling w
+without-until s (cancellings.Denied kind id) w = refl
+without-until s (cancellings.Removed kind id) w = refl
+without-until s (cancellings.Interrupted pid) w = refl
+
 -- what a call on messages needs, whatever it finds
 module _ (queues : Queues) (who : Caller) (id : ℕ) where
   taken-needs : (size flags : ℕ) (queue : Queue) (taken : Option (ℕ × Message)) → needs_in (take_chosen queues who id size flags queue taken) ≡ []
@@ -140,6 +146,11 @@ operated-needs sems who id ops None = refl
 operated-needs sems who id ops (Some set) =
     ap (λ ns. Permission set.perm (wanted_by ops) ∷ ns) (tried-needs set.contents.semaphores (adj_of sems.undo who.client id) [] ops (Grant Done (operated sems who id ops set.contents)))
 
+pub timed-needs : (s : State) (client id : ℕ) (ops : List SemOper) (timeout : ℕ) → needs s client (SemTimedOp id ops timeout) ≡ needs_for (wanted_by ops) (perm_in s.sems.sets id)
+unfolding part_plan
+timed-needs s client id ops timeout =
+    needs-on (λ sems. record s { sems = sems }) (operate s.limits s.sems (caller s client) id ops) ∙ operated-needs s.sems (caller s client) id ops (set_at s.sems id)
+
 pub operator-needs : (s : State) (client id : ℕ) (ops : List SemOper) → needs s client (SemOp id ops) ≡ needs_for (wanted_by ops) (perm_in s.sems.sets id)
 unfolding part_plan
 operator-needs s client id ops =
@@ -147,6 +158,20 @@ operator-needs s client id ops =
 
 IfSome-at : {A : Type 0} (o : Option A) (x : A) (P : A → Type 0) → o ≡ Some x → IfSome o P → P x
 IfSome-at o x P is p = subst (λ v. IfSome v P) is p
+
+-- one turn of those that end by a rule: the first leaves, and what is left to end is the rest
+module _ (initial s : State) (f0 : Waiting → Option Rule) (rest : s ≡ record initial { parked = s.parked }) where
+  pub leave-turn : (new : State) (client : ℕ) (rule : Rule) (e : Ended) (w : Waiting) → AreApart s.parked → waiting_of s client ≡ Some w → w.client ≡ client
+      → f0 w ≡ Some rule → At (λ v. is_some (f0 v)) s.parked w → new ≡ without s client → e ≡ record { client = client; outcome = Err rule }
+      → (new ≡ record initial { parked = new.parked }) × (kept_by f0 s.parked ≡ kept_by f0 new.parked) × (ended_as f0 s.parked ≡ e ∷ ended_as f0 new.parked) × (length new.parked + 1 ≡ length s.parked)
+  leave-turn new client rule e w apart own same ends at left told =
+      let parked : new.parked ≡ others w.client s.parked = ap (λ (t : State). t.parked) left ∙ ap (λ k. others k s.parked) (sym same) in (
+        left ∙ ap (λ (t : State). record t { parked = others client s.parked }) rest ∙ ap (λ ws. record initial { parked = ws }) (sym (ap (λ (t : State). t.parked) left)),
+        left-first f0 s.parked w rule ends at ∙ ap (kept_by f0) (sym parked),
+        ended-first f0 s.parked w rule ends at ∙ ap (λ (x : Ended). x ∷ ended_as f0 (others w.client s.parked)) (λ i. record { client = same i; outcome = Err rule })
+            ∙ ap (λ (x : Ended). x ∷ ended_as f0 (others w.client s.parked)) (sym told) ∙ ap (λ ws. e ∷ ended_as f0 ws) (sym parked),
+        ap (λ (t : State). length t.parked + 1) left ∙ length-others s.parked client w apart own same,
+      )
 
 -- one turn: the first call that ends leaves, and what is left to end is the rest
 module _ (initial s : State) (cancelling : Cancelling) (rest : s ≡ record initial { parked = s.parked }) where

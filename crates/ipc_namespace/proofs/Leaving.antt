@@ -1,11 +1,11 @@
 -- A waiting call that leaves the list: what it was, and what is true of the others.
-use Rattle.std.proofs.Common.{◌≡◌, ℕ, ◌+◌, ◌<◌, true, List, length, refl, sym, ap, subst, ◌∙◌, Some}
+use Rattle.std.proofs.Common.{◌≡◌, ℕ, ◌+◌, ◌<◌, true, List, length, refl, sym, ap, subst, ◌∙◌, Option, Some}
 use Rattle.std.specs.Prelude.{◌==◌, not, option_map}
 use Rattle.std.specs.List.{find}
 use Rattle.ipc_call.specs.declared.calls.Call.{Call}
 use Rattle.ipc_call.specs.declared.replies.Waiting.{Waiting}
 use Rattle.queue_calls.specs.Held.{one_if}
-use Rattle.ipc_model.specs.Decide.{can_wait}
+use Rattle.ipc_model.specs.Decide.{stands}
 use Rattle.ipc_parked.specs.declared.parked.Arrival.{Arrival}
 use Rattle.ipc_parked.specs.Parked.{arrival_of, waiting}
 use Rattle.ipc_parked.specs.Parked as parked
@@ -17,9 +17,10 @@ use Rattle.ipc_namespace.proofs.Reserved.{room-left, sent-roomy}
 
 -- the client's call leaves the list before, and the list after is left, of so many clients
 pub record Leaves (clients client : ℕ) (call : Call) (before after : List Waiting) : Type 0 where
-  pub own : find (λ w. w.client == client) before ≡ Some (record { client = client; call = call })
+  pub until : Option ℕ
+  pub own : find (λ w. w.client == client) before ≡ Some (record { client = client; call = call; deadline = until })
   pub known : client < clients
-  pub may_wait : can_wait call ≡ true
+  pub may_wait : stands call ≡ true
   pub rest : after ≡ others client before
   pub parked : AreParked clients after
   pub shorter : length after + 1 ≡ length before
@@ -29,12 +30,14 @@ pub record Leaves (clients client : ℕ) (call : Call) (before after : List Wait
 pub leaves : (clients client : ℕ) (call : Call) (es left : List (ℕ × Arrival)) → AreParked clients (waiting es)
     → option_map (λ a. a.call) (arrival_of client es) ≡ Some call → left ≡ parked.others client es → Leaves clients client call (waiting es) (waiting left)
 leaves clients client call es left are is less =
-    let w : Waiting = record { client = client; call = call } in
-    let own = waiting_at client call es is in
+    let there = waiting_at client call es is in
+    let w : Waiting = record { client = client; call = call; deadline = there.0 } in
+    let own = there.1 in
     let found = parked_found clients (λ v. v.client == client) (waiting es) w are own in
     let apart = apart-parked clients (waiting es) are in
     let rest = ap waiting less ∙ waiting-others client es in
     record {
+      until = there.0;
       own = own;
       known = found.0;
       may_wait = found.1;

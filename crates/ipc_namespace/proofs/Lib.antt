@@ -1,5 +1,6 @@
 pub mod Calling
 pub mod Endings
+pub mod Expiring
 pub mod Held
 pub mod Leaving
 pub mod Moving

@@ -1,10 +1,8 @@
 -- What a decided call leaves, with the waiting calls that it cancels.
-use Rattle.std.proofs.Common.{◌≡◌, ℕ, ◌<◌, List, [], ◌∷◌, get_or, length, true, refl, sym, ap, subst, ◌∙◌, Some, None, Err}
+use Rattle.std.proofs.Common.{◌≡◌, ℕ, ◌<◌, List, [], ◌∷◌, get_or, length, refl, sym, ap, subst, ◌∙◌, Some, None, Ok, Err}
 use Rattle.std.specs.List.{AllByRecursion}
-use Rattle.std.proofs.lemmas.Bool.{false≢true}
 use Rattle.std.proofs.lemmas.List.{get_or_default}
 use Rattle.ipc_call.specs.declared.calls.Call.{Call}
-use Rattle.ipc_call.specs.declared.calls.Call.TheVariants.{SemGet, GetVal, GetPid, GetAll, SetVal, SetAll, ShmGet, ShmAt, ShmDt, ShmRead, ShmWrite}
 use Rattle.ipc_call.specs.declared.replies.Waiting.{Waiting}
 use Rattle.ipc_call.specs.declared.rules.Rule.{Rule}
 use Rattle.ipc_creds.specs.Credentials.{Credentials}
@@ -14,10 +12,11 @@ use Rattle.ipc_model.specs.Decide.{decide_alive as decide}
 use Rattle.ipc_model.specs.Cancelled.{cancelled}
 use Rattle.ipc_model.specs.Step.{Moved, cancel, cancelled_by}
 use Rattle.ipc_model.specs.Decision.{without_answer}
-use Rattle.ipc_namespace.specs.Namespace.{is_on_segments, is_on_sets, left_alive as moved_by}
+use Rattle.ipc_model.proofs.Plans.{IfGranted}
+use Rattle.ipc_namespace.specs.Namespace.{left_alive as moved_by}
 use Rattle.ipc_namespace.proofs.Endings.{ended-none, left-none}
 
-refused-as : (d : Decision State) (rule : Rule) → without_answer d ≡ Some (Err rule) → d ≡ Refuse rule
+pub refused-as : (d : Decision State) (rule : Rule) → without_answer d ≡ Some (Err rule) → d ≡ Refuse rule
 refused-as (Refuse other) rule is = let same : other ≡ rule = cc in ap (λ r. Refuse r) same
 refused-as Wait rule is = cc
 refused-as (Grant answer new) rule is = cc
@@ -27,29 +26,11 @@ every P [] all = tt
 every P (w ∷ ws) all = (all w, every P ws all)
 
 -- a call that cancels none
-uncancelled : (new : State) (call : Call) → ((w : Waiting) → cancelled new call w ≡ None) → cancel new call ≡ record { state = new; ended = [] }
+pub uncancelled : (new : State) (call : Call) → ((w : Waiting) → cancelled new call w ≡ None) → cancel new call ≡ record { state = new; ended = [] }
 uncancelled new call none = λ i. record {
   state = record new { parked = left-none (cancelled new call) new.parked (every (λ w. cancelled new call w ≡ None) new.parked none) i };
   ended = ended-none (cancelled new call) new.parked (every (λ w. cancelled new call w ≡ None) new.parked none) i;
 }
-
--- no call on sets or segments alone cancels another
-pub sets-cancel-none : (new : State) (call : Call) (w : Waiting) → is_on_sets call ≡ true → cancelled new call w ≡ None
-sets-cancel-none new (SemGet key nsems flags) w sets = refl
-sets-cancel-none new (GetVal id num) w sets = refl
-sets-cancel-none new (GetPid id num) w sets = refl
-sets-cancel-none new (GetAll id) w sets = refl
-sets-cancel-none new (SetVal id num value) w sets = refl
-sets-cancel-none new (SetAll id values) w sets = refl
-sets-cancel-none new call w sets = absurd (false≢true sets)
-
-pub segments-cancel-none : (new : State) (call : Call) (w : Waiting) → is_on_segments call ≡ true → cancelled new call w ≡ None
-segments-cancel-none new (ShmGet key size flags) w segments = refl
-segments-cancel-none new (ShmAt id flags) w segments = refl
-segments-cancel-none new (ShmDt att) w segments = refl
-segments-cancel-none new (ShmRead att offset len) w segments = refl
-segments-cancel-none new (ShmWrite att offset bytes) w segments = refl
-segments-cancel-none new call w segments = absurd (false≢true segments)
 
 moved-state : (s : State) (call : Call) (d : Decision State) → ((new : State) (w : Waiting) → cancelled new call w ≡ None)
     → cancelled_by (left_by s d) call d ≡ record { state = left_by s d; ended = [] }
@@ -62,13 +43,9 @@ moved-alone : (s : State) (client : ℕ) (call same : Call) → call ≡ same �
     → moved_by s client call ≡ record { state = left_by s (decide s client same); ended = [] }
 moved-alone s client call same is none = ap (λ (c : Call). moved_by s client c) is ∙ moved-state s same (decide s client same) none
 
--- so what its function leaves is where it moves, and no other call ends; a number of the call may have been read back
-module _ (s : State) (client : ℕ) (call same : Call) (is : call ≡ same) (none : (new : State) (w : Waiting) → cancelled new same w ≡ None) where
-  pub moved-to : (new : State) (read : Call) → read ≡ same → new ≡ left_by s (decide s client read) → new ≡ (moved_by s client call).state
-  moved-to new read back left = left ∙ ap (λ (c : Call). left_by s (decide s client c)) back ∙ sym (ap (λ (m : Moved). m.state) (moved-alone s client call same is none))
-
-  pub none-ended : [] ≡ (moved_by s client call).ended
-  none-ended = sym (ap (λ (m : Moved). m.ended) (moved-alone s client call same is none))
+-- so it ends no other
+pub none-ended : (s : State) (client : ℕ) (call same : Call) → call ≡ same → ((new : State) (w : Waiting) → cancelled new same w ≡ None) → [] ≡ (moved_by s client call).ended
+none-ended s client call same is none = sym (ap (λ (m : Moved). m.ended) (moved-alone s client call same is none))
 
 -- a call that changes nothing moves nothing
 pub moved-nothing : (s : State) (client : ℕ) (call same : Call) → call ≡ same → ((new : State) (w : Waiting) → cancelled new same w ≡ None)
@@ -83,6 +60,16 @@ moved-refused s client call rule is = ap (λ d. cancelled_by (left_by s d) call 
 pub creds-read : (v s : State) (client : ℕ) (c : Credentials) → v ≡ s → client < length s.clients → c ≡ get_or v.clients client c → c ≡ creds_at s client
 creds-read v s client c is known read =
     read ∙ get_or_default v.clients client c nobody (subst (λ (t : State). client < length t.clients) (sym is) known) ∙ ap (λ (t : State). creds_at t client) is
+
+-- a call that is granted moves to what it leaves, but for the calls that it cancels
+pub granted-state : (s new : State) (client : ℕ) (call : Call) → without_answer (decide s client call) ≡ Some (Ok tt) → IfGranted (λ answer t. t ≡ new) (decide s client call)
+    → (cancel new call).state ≡ (moved_by s client call).state
+granted-state s new client call is = by (decide s client call) is
+  where
+    by : (d : Decision State) → without_answer d ≡ Some (Ok tt) → IfGranted (λ answer t. t ≡ new) d → (cancel new call).state ≡ (cancelled_by (left_by s d) call d).state
+    by (Refuse rule) is leaves = cc
+    by Wait is leaves = cc
+    by (Grant answer t) is leaves = ap (λ (t : State). (cancel t call).state) (sym leaves)
 
 -- a call that is refused moves nothing
 module _ (s : State) (client : ℕ) (call : Call) (rule : Rule) (is : without_answer (decide s client call) ≡ Some (Err rule)) where

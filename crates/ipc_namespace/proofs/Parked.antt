@@ -6,7 +6,7 @@ use Rattle.std.proofs.lemmas.Bool.{cases_Bool, or_parts, or_from, or_cases, eqb-
 use Rattle.std.proofs.lemmas.Option.{none-some, same_Some}
 use Rattle.std.proofs.lemmas.Map.Steps.{length-le_from_distinct_below}
 use Rattle.ipc_call.specs.declared.replies.Waiting.{Waiting}
-use Rattle.ipc_model.specs.Decide.{can_wait}
+use Rattle.ipc_model.specs.Decide.{stands}
 use Rattle.ipc_parked.specs.Parked.{AreApart}
 use Rattle.ipc_namespace.specs.Namespace.{AreParked}
 
@@ -39,7 +39,7 @@ module _ (P : Waiting → Type 0) where
   all-push (v ∷ ws) w all p = (all.0, all-push ws w all.1 p)
 
 -- each is of a client that there is, and may wait
-pub each-parked : (n : ℕ) (ws : List Waiting) → AreParked n ws → AllByRecursion (λ w. (w.client < n) × (can_wait w.call ≡ true)) ws
+pub each-parked : (n : ℕ) (ws : List Waiting) → AreParked n ws → AllByRecursion (λ w. (w.client < n) × (stands w.call ≡ true)) ws
 unfolding AreParked
 each-parked n ws are = are.0
 
@@ -49,10 +49,10 @@ unfolding AreParked
 apart-parked n ws are = are.1
 
 -- a call that waits may wait, and its client is known
-pub parked_found : (n : ℕ) (test : Waiting → Bool) (ws : List Waiting) (w : Waiting) → AreParked n ws → find test ws ≡ Some w → (w.client < n) × (can_wait w.call ≡ true)
-parked_found n test ws w are found = all-found (λ v. (v.client < n) × (can_wait v.call ≡ true)) test ws w (each-parked n ws are) found
+pub parked_found : (n : ℕ) (test : Waiting → Bool) (ws : List Waiting) (w : Waiting) → AreParked n ws → find test ws ≡ Some w → (w.client < n) × (stands w.call ≡ true)
+parked_found n test ws w are found = all-found (λ v. (v.client < n) × (stands v.call ≡ true)) test ws w (each-parked n ws are) found
 
-list_any-filter : (any test : Waiting → Bool) (ws : List Waiting) → list_any any ws ≡ false → list_any any (filter test ws) ≡ false
+pub list_any-filter : (any test : Waiting → Bool) (ws : List Waiting) → list_any any ws ≡ false → list_any any (filter test ws) ≡ false
 list_any-filter any test [] none = refl
 list_any-filter any test (w ∷ ws) none =
     let parts = or_parts (any w) (list_any any ws) none in
@@ -72,7 +72,7 @@ apart-filter test (w ∷ ws) apart =
 
 pub AreParked-filter : (n : ℕ) (test : Waiting → Bool) (ws : List Waiting) → AreParked n ws → AreParked n (filter test ws)
 unfolding AreParked
-AreParked-filter n test ws are = (all-filter (λ w. (w.client < n) × (can_wait w.call ≡ true)) test ws are.0, apart-filter test ws are.1)
+AreParked-filter n test ws are = (all-filter (λ w. (w.client < n) × (stands w.call ≡ true)) test ws are.0, apart-filter test ws are.1)
 
 list_any-push : (test : Waiting → Bool) (ws : List Waiting) (w : Waiting) → list_any test ws ≡ false → test w ≡ false → list_any test (ws ++ w ∷ []) ≡ false
 list_any-push test [] w none here = or_from (test w) false here refl
@@ -90,9 +90,9 @@ apart-push (v ∷ ws) w apart free =
     (list_any-push (λ u. u.client == v.client) ws w apart.0 (turned v.client w.client parts.0), apart-push ws w apart.1 parts.1)
 
 -- one more call, of a client with no call that waits
-pub AreParked-push : (n : ℕ) (ws : List Waiting) (w : Waiting) → AreParked n ws → w.client < n → can_wait w.call ≡ true → list_any (λ v. v.client == w.client) ws ≡ false → AreParked n (ws ++ w ∷ [])
+pub AreParked-push : (n : ℕ) (ws : List Waiting) (w : Waiting) → AreParked n ws → w.client < n → stands w.call ≡ true → list_any (λ v. v.client == w.client) ws ≡ false → AreParked n (ws ++ w ∷ [])
 unfolding AreParked
-AreParked-push n ws w are known can free = (all-push (λ v. (v.client < n) × (can_wait v.call ≡ true)) ws w are.0 (known, can), apart-push ws w are.1 free)
+AreParked-push n ws w are known can free = (all-push (λ v. (v.client < n) × (stands v.call ≡ true)) ws w are.0 (known, can), apart-push ws w are.1 free)
 
 apart_from : (x : ℕ) (ws : List Waiting) → list_any (λ v. v.client == x) ws ≡ false → AllByRecursion (λ y. eqb x y ≡ false) (map (λ v. v.client) ws)
 apart_from x [] none = tt
@@ -104,7 +104,7 @@ unfolding IsDistinct AreApart
 distinct [] apart = tt
 distinct (w ∷ ws) apart = (apart_from w.client ws apart.0, distinct ws apart.1)
 
-below : (n : ℕ) (ws : List Waiting) → AllByRecursion (λ w. (w.client < n) × (can_wait w.call ≡ true)) ws → (q : ℕ) → list_any (eqb q) (map (λ w. w.client) ws) ≡ true → q < n
+below : (n : ℕ) (ws : List Waiting) → AllByRecursion (λ w. (w.client < n) × (stands w.call ≡ true)) ws → (q : ℕ) → list_any (eqb q) (map (λ w. w.client) ws) ≡ true → q < n
 below n [] all q is = absurd (false≢true is)
 below n (w ∷ ws) all q is =
     ⊎_elim (λ (e : eqb q w.client ≡ true). subst (λ k. k < n) (sym (eqb-true q w.client e)) all.0.0) (λ (e : list_any (eqb q) (map (λ v. v.client) ws) ≡ true). below n ws all.1 q e)

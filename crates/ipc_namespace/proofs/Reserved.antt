@@ -9,7 +9,7 @@ use Rattle.ipc_call.specs.declared.calls.SemOper.{SemOper}
 use Rattle.ipc_call.specs.declared.replies.Waiting.{Waiting}
 use Rattle.ipc_call.specs.declared.rules.Rule.TheVariants.{Removed}
 use Rattle.queue_calls.specs.Held.{one_if}
-use Rattle.ipc_model.specs.Decide.{can_wait}
+use Rattle.ipc_model.specs.Decide.{stands}
 use Rattle.ipc_call.specs.declared.calls.Kind.TheVariants as kinds
 use Rattle.ipc_model.specs.Cancelled.{waits_on}
 use Rattle.ipc_parked.specs.Parked.{AreApart}
@@ -68,7 +68,7 @@ only_send (MsgSnd id mtype text flags) some sends = sends id mtype text flags re
 only_send call some sends = absurd (false≢true some)
 
 -- a call that may wait sends, receives or operates
-pub no_other : (call : Call) → can_wait call ≡ true → ((id : ℕ) (mtype : ℤ) (text : List ℕ) (flags : ℕ) → call ≡ MsgSnd id mtype text flags → ⊥) → ((id size : ℕ) (msgtyp : ℤ) (flags : ℕ) → call ≡ MsgRcv id size msgtyp flags → ⊥)
+pub no_other : (call : Call) → stands call ≡ true → ((id : ℕ) (mtype : ℤ) (text : List ℕ) (flags : ℕ) → call ≡ MsgSnd id mtype text flags → ⊥) → ((id size : ℕ) (msgtyp : ℤ) (flags : ℕ) → call ≡ MsgRcv id size msgtyp flags → ⊥)
     → ((id : ℕ) (ops : List SemOper) → call ≡ SemOp id ops → ⊥) → ⊥
 no_other (MsgSnd id mtype text flags) can sends receives operates = sends id mtype text flags refl
 no_other (MsgRcv id size msgtyp flags) can sends receives operates = receives id size msgtyp flags refl

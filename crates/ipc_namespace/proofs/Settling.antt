@@ -1,6 +1,6 @@
 -- The waiting calls that can proceed: the code ends the first until none is left, the definition counts its turns down.
 use Rattle.std.proofs.Common.{◌≡◌, ℕ, zero, suc, ◌+◌, ◌<◌, ◌≤◌, Bool, true, false, List, [], ◌∷◌, ◌++◌, length, refl, sym, ap, ◌∙◌, arith, ⊎_elim, Option, Some, None, Err}
-use Rattle.std.specs.Prelude.{IfSome, drop, option_map, slice_get}
+use Rattle.std.specs.Prelude.{IfSome, drop, filter, is_none, option_map, slice_get}
 use Rattle.std.specs.List.{find, AllByRecursion}
 use Rattle.std.proofs.lemmas.Bool.{cases_Bool, true≢false}
 use Rattle.std.proofs.lemmas.List.{at_drop_all}
@@ -9,12 +9,17 @@ use Rattle.ipc_call.specs.declared.calls.Call.{Call}
 use Rattle.ipc_call.specs.declared.replies.Ended.{Ended}
 use Rattle.ipc_call.specs.declared.replies.Waiting.{Waiting}
 use Rattle.ipc_model.specs.State.{State}
-use Rattle.ipc_model.specs.Decide.{decide}
+use Rattle.ipc_model.specs.Decide.{decide, decide_call, is_late}
 use Rattle.ipc_model.specs.Decision.{Decision, Grant, Refuse, Wait, proceeds}
 use Rattle.ipc_namespace.specs.Namespace.{is_grant}
-use Rattle.ipc_model.specs.Step.{Moved, and_then, at_time, cancelled_by, end_waiting, enter, entered, first_ready, is_ready, moved_by, settle, settle_from, settled, state_by, stepped}
+use Rattle.ipc_namespace.proofs.Own.{found-none}
+use Rattle.ipc_namespace.proofs.Parked.{all-filter}
+use Rattle.ipc_model.specs.Step.{Moved, and_then, at_time, cancelled_by, end_waiting, enter, entered, expire, expired, first_ready, is_ready, moved_by, settle, settle_from, settled, state_by, stepped, waiting_as}
 use Rattle.ipc_model.specs.Decision.{Outcome, outcome_of}
 use Rattle.ipc_model.proofs.Calls.{clock_alike, parked_alike}
+use Rattle.ipc_model.proofs.Late.{late-waits, plan-as}
+use Rattle.ipc_model.specs.State.{creds_at}
+use Rattle.ipc_model.specs.Plan.{decision}
 
 settle-none : (n : ℕ) (s : State) → first_ready s ≡ None → settle n s ≡ record { state = s; ended = [] }
 settle-none zero s none = refl
@@ -72,11 +77,11 @@ found-last test (v ∷ ws) w none fails =
     (cases_Bool (test v))
 
 -- a call that has to wait makes no other ready
-pub still_quiet : (s : State) (client : ℕ) (call : Call) → first_ready s ≡ None → proceeds (decide s client call) ≡ false → first_ready (record s { parked = s.parked ++ record { client = client; call = call } ∷ [] }) ≡ None
+pub still_quiet : (s : State) (client : ℕ) (call : Call) → first_ready s ≡ None → proceeds (decide s client call) ≡ false → first_ready (record s { parked = s.parked ++ waiting_as s client call ∷ [] }) ≡ None
 still_quiet s client call quiet waits =
-    let w : Waiting = record { client = client; call = call } in
+    let w : Waiting = waiting_as s client call in
     let longer = s.parked ++ w ∷ [] in
-    ap (λ test. find test longer) (λ i (v : Waiting). parked_alike s longer v.client v.call i) ∙ found-last (is_ready s) s.parked w quiet waits
+    ap (λ test. find test longer) (λ i (v : Waiting). parked_alike s longer v.client v.call i) ∙ found-last (is_ready s) s.parked w quiet (ap (λ p. proceeds (decision (creds_at s client) p)) (plan-as s client call) ∙ waits)
 
 -- nor does the clock
 pub quiet-at_time : (s : State) (now : ℕ) → first_ready s ≡ None → first_ready (at_time s now) ≡ None
@@ -86,23 +91,32 @@ pub found-nothing : (test : Waiting → Bool) (ws : List Waiting) → AllByRecur
 found-nothing test [] fails = refl
 found-nothing test (w ∷ ws) fails = let no = fails.0 in rw no (found-nothing test ws fails.1)
 
+-- nor do calls that end
+find-filtered : (test keeps : Waiting → Bool) (ws : List Waiting) → find test ws ≡ None → find test (filter keeps ws) ≡ None
+find-filtered test keeps ws none = found-nothing test (filter keeps ws) (all-filter (λ w. test w ≡ false) keeps ws (found-none test ws none))
+
+pub quiet-expire : (s : State) → first_ready s ≡ None → first_ready (expire s).state ≡ None
+quiet-expire s quiet =
+    let stays : Waiting → Bool = λ w. is_none (expired s w) in
+    ap (λ test. find test (filter stays s.parked)) (λ i (w : Waiting). parked_alike s (filter stays s.parked) w.client w.call i) ∙ find-filtered (is_ready s) stays s.parked quiet
+
 -- a call that isn't granted ends none where none is ready
-entered-by : (s : State) (client : ℕ) (call : Call) (d : Decision State) → first_ready s ≡ None → decide s client call ≡ d → is_grant (outcome_of d) ≡ false
+entered-by : (s : State) (client : ℕ) (call : Call) (d : Decision State) → first_ready s ≡ None → decide_call s client call ≡ d → is_grant (outcome_of d) ≡ false
     → enter s client call ≡ record { state = (cancelled_by (state_by s client call d) call d).state; own = outcome_of d; ended = (cancelled_by (state_by s client call d) call d).ended }
 entered-by s client call (Refuse rule) quiet is still = ap (entered s client call) is ∙ ap (λ (m : Moved). stepped (Some (Err rule)) m) (settled-none s quiet)
 entered-by s client call Wait quiet is still =
     ap (entered s client call) is
-    ∙ ap (λ (m : Moved). stepped None m) (settled-none (record s { parked = s.parked ++ record { client = client; call = call } ∷ [] }) (still_quiet s client call quiet (ap proceeds is)))
+    ∙ ap (λ (m : Moved). stepped None m) (settled-none (record s { parked = s.parked ++ waiting_as s client call ∷ [] }) (still_quiet s client call quiet (late-waits (is_late s call) (decide s client call) (ap proceeds is))))
 entered-by s client call (Grant answer new) quiet is still = absurd (true≢false still)
 
-pub entered-still : (s new : State) (client : ℕ) (call : Call) (own : Option Outcome) (ended : List Ended) → first_ready s ≡ None → is_grant own ≡ false → own ≡ outcome_of (decide s client call)
+pub entered-still : (s new : State) (client : ℕ) (call : Call) (own : Option Outcome) (ended : List Ended) → first_ready s ≡ None → is_grant own ≡ false → own ≡ outcome_of (decide_call s client call)
     → new ≡ (moved_by s client call).state → ended ≡ (moved_by s client call).ended → enter s client call ≡ record { state = new; own = own; ended = ended }
 entered-still s new client call own ended quiet still is moved cancels =
-    entered-by s client call (decide s client call) quiet refl (ap is_grant (sym is) ∙ still)
+    entered-by s client call (decide_call s client call) quiet refl (ap is_grant (sym is) ∙ still)
     ∙ (λ i. record { state = sym moved i; own = sym is i; ended = sym cancels i })
 
 pub entered-granted : (s t new : State) (client : ℕ) (call : Call) (own : Option Outcome) (first ended : List Ended) → t ≡ (moved_by s client call).state → first ≡ (moved_by s client call).ended
-    → outcome_of (decide s client call) ≡ own → new ≡ (settled t).state → ended ≡ first ++ (settled t).ended → enter s client call ≡ record { state = new; own = own; ended = ended }
+    → outcome_of (decide_call s client call) ≡ own → new ≡ (settled t).state → ended ≡ first ++ (settled t).ended → enter s client call ≡ record { state = new; own = own; ended = ended }
 entered-granted s t new client call own first ended moved cancels is settles ends = λ i. record {
   state = (ap (λ (u : State). (settled u).state) (sym moved) ∙ sym settles) i;
   own = is i;

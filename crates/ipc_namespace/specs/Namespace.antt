@@ -3,7 +3,7 @@ use Rattle.std.specs.Prelude.{◌≡◌, ⊤, Ok, Err, Result, ℕ, ◌+◌, ◌
 use Rattle.std.specs.List.{AllByRecursion, list_any}
 use Rattle.ipc_call.specs.declared.replies.Waiting.{Waiting}
 use Rattle.ipc_call.specs.declared.calls.Call.{Call}
-use Rattle.ipc_call.specs.declared.calls.Call.TheVariants.{MsgSnd, SemOp, SemGet, GetVal, GetPid, GetAll, SetVal, SetAll, ShmGet, ShmAt, ShmDt, ShmRead, ShmWrite}
+use Rattle.ipc_call.specs.declared.calls.Call.TheVariants.{MsgSnd, SemOp, SemGet, GetNcnt, GetZcnt, GetVal, GetPid, GetAll, SetVal, SetAll, ShmGet, ShmAt, ShmDt, ShmRead, ShmWrite, IpcSet, IpcRmid, Interrupt}
 use Rattle.ipc_call.specs.declared.replies.Ended.{Ended}
 use Rattle.ipc_call.specs.declared.rules.Rule.{Rule}
 use Rattle.ipc_call.specs.declared.rules.Rule.TheVariants.{Removed, Interrupted}
@@ -19,10 +19,10 @@ use Rattle.ipc_call.specs.declared.perms.Perm.{Perm}
 use Rattle.ipc_model.specs.State.{Sems, State, creds_at, pid_of}
 use Rattle.ipc_model.specs.Semaphores.{set_at}
 use Rattle.sem_set.specs.Trials.{are_in}
-use Rattle.ipc_model.specs.Decide.{can_wait, decide_alive, is_negative, is_zero, needs}
+use Rattle.ipc_model.specs.Decide.{decide_alive, is_late, is_negative, is_zero, needs, stands, unless_late}
 use Rattle.ipc_model.specs.Cancelled.{first_denial, waits_on}
-use Rattle.ipc_model.specs.Decision.{Outcome, left_by}
-use Rattle.ipc_model.specs.Step.{Moved, cancelled_by, moved_as, told_cancelled}
+use Rattle.ipc_model.specs.Decision.{Decision, Outcome, left_by}
+use Rattle.ipc_model.specs.Step.{Moved, cancelled_by, state_by, told_cancelled}
 use Rattle.ipc_parked.specs.Parked.{AreApart}
 use Rattle.ipc_call.specs.declared.calls.SemOper.{SemOper}
 use Rattle.ipc_namespace.specs.declared.semaphore_calls.Awaited.{Awaited}
@@ -32,7 +32,7 @@ use Rattle.ipc_namespace.specs.declared.cancelling.Cancelling.TheVariants as can
 
 -- each is of a client that there is, of so many, and may wait; no two are of one client
 unfoldable pub AreParked : ℕ → List Waiting → Type 0
-AreParked clients ws = AllByRecursion (λ w. (w.client < clients) × (can_wait w.call ≡ true)) ws × AreApart ws
+AreParked clients ws = AllByRecursion (λ w. (w.client < clients) × (stands w.call ≡ true)) ws × AreApart ws
 
 -- a call on semaphore sets that doesn't wait, and isn't one of objects of any kind
 abbrev pub is_on_sets : Call → Bool
@@ -52,6 +52,15 @@ is_on_segments (ShmDt att) = true
 is_on_segments (ShmRead att offset len) = true
 is_on_segments (ShmWrite att offset bytes) = true
 is_on_segments call = false
+
+-- a call that counts waiting calls, or may end them: it takes no memory
+abbrev pub is_on_waiting : Call → Bool
+is_on_waiting (GetNcnt id num) = true
+is_on_waiting (GetZcnt id num) = true
+is_on_waiting (IpcSet kind id uid gid mode qbytes) = true
+is_on_waiting (IpcRmid kind id) = true
+is_on_waiting (Interrupt pid) = true
+is_on_waiting call = false
 
 -- the operation waits for it at the semaphore of this number
 abbrev pub is_awaited : Awaited → ℕ → SemOper → Bool
@@ -78,9 +87,12 @@ AreHeld sets ended ws =
 abbrev pub left_alive : State → ℕ → Call → Moved
 left_alive s client call = cancelled_by (left_by s (decide_alive s client call)) call (decide_alive s client call)
 
--- the same with the call among those that wait, where it waits
-abbrev pub moved_alive : State → ℕ → Call → Moved
-moved_alive s client call = moved_as s client call (decide_alive s client call)
+-- what is decided on a call that a client makes that hasn't ended, and what that leaves, where it ends no other
+abbrev pub decide_made : State → ℕ → Call → Decision State
+decide_made s client call = unless_late (is_late s call) (decide_alive s client call)
+
+abbrev pub left_made : State → ℕ → Call → State
+left_made s client call = state_by s client call (decide_made s client call)
 
 -- the queue that the call sends to
 abbrev pub sent_to : Call → Option ℕ

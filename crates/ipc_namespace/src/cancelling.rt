@@ -20,7 +20,7 @@ ghost use Rattle.std.specs.Prelude.{
 };
 ghost use Rattle.std.specs.List.{find};
 ghost use Rattle.ipc_model.specs.State.{creds_at, is_waiting as waits, waiting_of};
-ghost use Rattle.ipc_model.specs.Decide.{needs, can_wait as may_wait};
+ghost use Rattle.ipc_model.specs.Decide.{needs, stands};
 ghost use Rattle.ipc_model.specs.Cancelled.{first_denial, waits_on as call_waits_on};
 ghost use Rattle.ipc_namespace.specs.Namespace.{ended_as, cancelled_as, kept_by, needs_for};
 ghost use Rattle.ipc_parked.specs.Parked.{AreApart};
@@ -89,8 +89,8 @@ impl Namespace {
     /// The rule by which a waiting call ends.
     fn cancelled(&self, cancelling: Cancelling, client: u32, call: &Call) -> Option<Rule>
         requires client { client < length self.now.clients }
-        requires waits { may_wait call.now ≡ true }
-        ensures { result ≡ cancelled_as self.now cancelling (record { client = client; call = call.now }) }
+        requires waits { stands call.now ≡ true }
+        ensures { result ≡ cancelled_as self.now cancelling (record { client = client; call = call.now; deadline = None }) }
     {
         match cancelling {
             Cancelling::Denied(kind, id) if waits_on(kind, id, call) => self.denial(client, call),
@@ -106,7 +106,7 @@ impl Namespace {
     #[tactic(auto, unfolding(ipc_model::specs::Decide::part_plan))]
     fn denial(&self, client: u32, call: &Call) -> Option<Rule>
         requires client { client < length self.now.clients }
-        requires waits { may_wait call.now ≡ true }
+        requires waits { stands call.now ≡ true }
         ensures { result ≡ first_denial (creds_at self.now client) (needs self.now client call.now) }
     {
         match call {

@@ -1,6 +1,6 @@
 // The controls of objects of any kind, IPC_STAT, IPC_SET and IPC_RMID (msgctl(2), semctl(2), shmctl(2)).
 
-ghost use Rattle.std.specs.Prelude.{◌≡◌, ℕ, ◌+◌, ◌<◌, ◌≤◌, [], ⊤, length, vec_len, vec_capacity, IfOk, Some, IsSome};
+ghost use Rattle.std.specs.Prelude.{◌≡◌, ℕ, ◌+◌, ◌<◌, ◌≤◌, ◌++◌, [], ⊤, length, vec_len, vec_capacity, IfOk, Some, IsSome};
 ghost use Rattle.ipc_model.specs.State.{creds_at};
 ghost use Rattle.ipc_model.specs.Decision.{left_by, outcome_of};
 ghost use Rattle.ipc_model.specs.Plan.{decision};
@@ -77,12 +77,11 @@ impl Namespace {
         ended: &mut Vec<Ended>,
     ) -> Outcome
         requires known { client < length self.old.clients }
-        requires empty { ended.old.items ≡ [] }
-        requires space { length self.old.parked ≤ vec_capacity ended.old }
+        requires space { vec_len ended.old + length self.old.parked ≤ vec_capacity ended.old }
         ensures outcome { outcome_of (decision_on self.old client (Call.IpcSet kind id new.uid new.gid new.mode new.qbytes)) ≡ Some result }
         ensures state { self.new ≡ (moved_by self.old client (Call.IpcSet kind id new.uid new.gid new.mode new.qbytes)).state }
-        ensures ended { ended.new.items ≡ (moved_by self.old client (Call.IpcSet kind id new.uid new.gid new.mode new.qbytes)).ended }
-        ensures few { vec_len ended.new + length self.new.parked ≡ length self.old.parked }
+        ensures ended { ended.new.items ≡ ended.old.items ++ (moved_by self.old client (Call.IpcSet kind id new.uid new.gid new.mode new.qbytes)).ended }
+        ensures few { vec_len ended.new + length self.new.parked ≡ vec_len ended.old + length self.old.parked }
         ensures space { vec_capacity ended.old ≤ vec_capacity ended.new }
     {
         self.may_set(&self.clients[client as usize], kind, id, new)?;
@@ -142,12 +141,11 @@ impl Namespace {
         ended: &mut Vec<Ended>,
     ) -> Outcome
         requires known { client < length self.old.clients }
-        requires empty { ended.old.items ≡ [] }
-        requires space { length self.old.parked ≤ vec_capacity ended.old }
+        requires space { vec_len ended.old + length self.old.parked ≤ vec_capacity ended.old }
         ensures outcome { outcome_of (decision_on self.old client (Call.IpcRmid kind id)) ≡ Some result }
         ensures state { self.new ≡ (moved_by self.old client (Call.IpcRmid kind id)).state }
-        ensures ended { ended.new.items ≡ (moved_by self.old client (Call.IpcRmid kind id)).ended }
-        ensures few { vec_len ended.new + length self.new.parked ≡ length self.old.parked }
+        ensures ended { ended.new.items ≡ ended.old.items ++ (moved_by self.old client (Call.IpcRmid kind id)).ended }
+        ensures few { vec_len ended.new + length self.new.parked ≡ vec_len ended.old + length self.old.parked }
         ensures space { vec_capacity ended.old ≤ vec_capacity ended.new }
     {
         self.may_remove(&self.clients[client as usize], kind, id)?;

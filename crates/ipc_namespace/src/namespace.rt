@@ -29,11 +29,15 @@ ghost use Rattle.std.specs.Prelude.{
 };
 ghost use Rattle.ipc_call.specs.Limits.{are_in_range};
 ghost use Rattle.ipc_model.specs.State.{opening, has_ended as ended_before, is_waiting as waits, waiting_of};
-ghost use Rattle.ipc_model.specs.Decision.{outcome_of};
-ghost use Rattle.ipc_model.specs.Decide.{decide as decision_on, decide_alive as decision_alive};
+ghost use Rattle.ipc_model.specs.Decision.{left_by, outcome_of};
+ghost use Rattle.ipc_model.specs.Decide.{decide_alive as decision_alive, decide_call as decision_made, deadline_of, is_reached, stands, waits_as};
+ghost use Rattle.std.specs.List.{find};
+ghost use Rattle.ipc_parked.specs.Parked.{AreApart};
 ghost use Rattle.ipc_model.specs.Waits.{AreNotReady};
 ghost use Rattle.ipc_model.specs.Step.{
   Moved as MovedTo,
+  after,
+  expire,
   is_ready,
   first_ready as first_that_is_ready,
   end_waiting,
@@ -43,7 +47,7 @@ ghost use Rattle.ipc_model.specs.Step.{
   step,
   without,
 };
-ghost use Rattle.ipc_namespace.specs.Namespace.{is_grant, left_alive, moved_alive, sent_to as call_sent_to};
+ghost use Rattle.ipc_namespace.specs.Namespace.{decide_made, is_grant, is_on_waiting as is_on_waiting_by, left_alive, left_made, sent_to as call_sent_to};
 ghost use Rattle.ipc_model.specs.Decision.{without_answer};
 
 use crate::callers::caller_of;
@@ -157,11 +161,12 @@ impl Namespace {
         self.parked.len()
     }
 
-    /// One event: the clock moves on, the call is refused, granted or made to wait, and the waiting
-    /// calls that can proceed end. The client has no call that waits, and no waiting call is ready: so only a
-    /// call that is granted ends others. The answer is the outcome of the event's own call, None where that waits;
-    /// the waiting calls that ended stand in their order in `ended`, an empty list with room for each that waits. The
-    /// error comes only where an allocation fails, and then nothing has changed.
+    /// One event: the clock moves on, the waiting calls end whose deadline it reaches, the call is refused, granted or
+    /// made to wait, and the waiting calls that can proceed end. The client has no call that waits, and no waiting call is
+    /// ready: so only a call that is granted ends others than by their deadline. The answer is the outcome of the event's
+    /// own call, None where that waits; the waiting calls that ended stand in their order in `ended`, an empty list with
+    /// room for each that waits and for the event's own. The error comes only where an allocation fails, and then nothing
+    /// has changed.
     pub fn serve(
         &mut self,
         client: u32,
@@ -174,12 +179,12 @@ impl Namespace {
         requires free { waits self.old client ≡ false }
         requires quiet { AreNotReady self.old }
         requires empty { ended.old.items ≡ [] }
-        requires space { length self.old.parked ≤ vec_capacity ended.old }
+        requires space { length self.old.parked < vec_capacity ended.old }
         ensures ok { IfOk result (λ own. step self.old (record { client = client; now = now; call = call.now })
             ≡ record { state = self.new; own = own; ended = ended.new.items }) }
         ensures few { OnOk result (vec_len ended.new ≤ length self.old.parked) }
         ensures limits { self.new.limits ≡ self.old.limits }
-        ensures clients { self.new.clients ≡ self.old.clients }
+        ensures clients { length self.new.clients ≡ length self.old.clients }
         ensures err { OnErr result (self.new ≡ self.old) }
         ensures none { OnErr result (ended.new.items ≡ []) }
     {
@@ -192,8 +197,8 @@ impl Namespace {
         served
     }
 
-    /// Refuses or grants the call, or makes it wait. Where it is granted, the waiting calls end that it cancels,
-    /// and then those that can proceed.
+    /// The waiting calls end whose deadline is reached; then the call is refused or granted, or made to wait. Where it is
+    /// granted, the waiting calls end that it cancels, and then those that can proceed.
     fn enter(
         &mut self,
         client: u32,
@@ -205,8 +210,8 @@ impl Namespace {
         requires free { waits self.old client ≡ false }
         requires quiet { first_that_is_ready self.old ≡ None }
         requires empty { ended.old.items ≡ [] }
-        requires space { length self.old.parked ≤ vec_capacity ended.old }
-        ensures ok { IfOk result (λ own. enters self.old client call.now ≡ record { state = self.new; own = own; ended = ended.new.items }) }
+        requires space { length self.old.parked < vec_capacity ended.old }
+        ensures ok { IfOk result (λ own. after (expire self.old).ended (enters (expire self.old).state client call.now) ≡ record { state = self.new; own = own; ended = ended.new.items }) }
         ensures few { OnOk result (vec_len ended.new ≤ length self.old.parked) }
         ensures err { OnErr result (self.new ≡ self.old) }
         ensures none { OnErr result (ended.new.items ≡ []) }
@@ -218,9 +223,9 @@ impl Namespace {
         Ok(own)
     }
 
-    /// Refuses or grants the call, or makes it wait. Where it is granted, the waiting calls end that it cancels; there is
-    /// room for each in the list of those that ended. The error comes only where an allocation fails, and then nothing
-    /// has changed.
+    /// The same but for the waiting calls that can proceed. The error comes only where an allocation fails, and then
+    /// nothing has changed: so calls that take memory are served before those end whose deadline is reached, which
+    /// doesn't matter to them.
     fn act(
         &mut self,
         client: u32,
@@ -231,70 +236,110 @@ impl Namespace {
         requires known { client < length self.old.clients }
         requires free { waits self.old client ≡ false }
         requires empty { ended.old.items ≡ [] }
-        requires space { length self.old.parked ≤ vec_capacity ended.old }
-        ensures own { IfOk result (λ own. own ≡ outcome_of (decision_on self.old client call.now)) }
-        ensures state { OnOk result (self.new ≡ (moved_by self.old client call.now).state) }
-        ensures ended { OnOk result (ended.new.items ≡ (moved_by self.old client call.now).ended) }
+        requires space { length self.old.parked < vec_capacity ended.old }
+        ensures own { IfOk result (λ own. own ≡ outcome_of (decision_made (expire self.old).state client call.now)) }
+        ensures state { OnOk result (self.new ≡ (moved_by (expire self.old).state client call.now).state) }
+        ensures ended { OnOk result (ended.new.items ≡ (expire self.old).ended ++ (moved_by (expire self.old).state client call.now).ended) }
         ensures few { IfOk result (λ own. IfSome own (λ _. vec_len ended.new + length self.new.parked ≡ length self.old.parked)) }
+        ensures less { OnOk result (vec_len ended.new ≤ length self.old.parked) }
         ensures space { OnOk result (vec_capacity ended.old ≤ vec_capacity ended.new) }
         ensures err { OnErr result (self.new ≡ self.old) }
         ensures none { OnErr result (ended.new.items ≡ []) }
     {
         if self.has_ended(client) {
+            self.expire(ended);
             return Ok(Some(Err(Rule::Ended)));
         }
-        self.act_alive(client, place, call, ended)
+        if is_on_waiting(call) {
+            self.expire(ended);
+            return Ok(Some(self.serve_on_waiting(client, call, ended)));
+        }
+        let own = self.act_alone(client, place, call)?;
+        self.expire(ended);
+        Ok(own)
     }
 
-    /// The same of a call whose client hasn't ended.
-    fn act_alive(
-        &mut self,
-        client: u32,
-        place: u64,
-        call: &Call,
-        ended: &mut Vec<Ended>,
-    ) -> Result<Option<Outcome>, Memory>
+    /// Serves a call that ends no waiting call and doesn't look at them, of a client that hasn't ended.
+    fn act_alone(&mut self, client: u32, place: u64, call: &Call) -> Result<Option<Outcome>, Memory>
         requires known { client < length self.old.clients }
         requires free { waits self.old client ≡ false }
         requires alive { ended_before self.old client ≡ false }
-        requires empty { ended.old.items ≡ [] }
-        requires space { length self.old.parked ≤ vec_capacity ended.old }
-        ensures own { IfOk result (λ own. own ≡ outcome_of (decision_alive self.old client call.now)) }
-        ensures state { OnOk result (self.new ≡ (moved_alive self.old client call.now).state) }
-        ensures ended { OnOk result (ended.new.items ≡ (moved_alive self.old client call.now).ended) }
-        ensures few { IfOk result (λ own. IfSome own (λ _. vec_len ended.new + length self.new.parked ≡ length self.old.parked)) }
-        ensures space { OnOk result (vec_capacity ended.old ≤ vec_capacity ended.new) }
+        requires alone { is_on_waiting_by call.now ≡ false }
+        ensures own { IfOk result (λ own. own ≡ outcome_of (decide_made self.old client call.now)) }
+        ensures state { OnOk result (self.new ≡ left_made self.old client call.now) }
         ensures err { OnErr result (self.new ≡ self.old) }
-        ensures none { OnErr result (ended.new.items ≡ []) }
     {
-        match self.answer(client, call, ended)? {
+        match self.answer(client, call)? {
             Some(outcome) => Ok(Some(outcome)),
-            None => {
-                self.park(client, place, call.copy()?)?;
-                Ok(None)
-            }
+            None => self.wait(client, place, call),
         }
     }
 
-    /// Refuses or grants the call of a client that hasn't ended. None where it is to wait, and then nothing has changed.
-    fn answer(
-        &mut self,
-        client: u32,
-        call: &Call,
-        ended: &mut Vec<Ended>,
-    ) -> Result<Option<Outcome>, Memory>
+    /// Makes the call wait, on which that was decided, or refuses it where its deadline isn't above the clock.
+    fn wait(&mut self, client: u32, place: u64, call: &Call) -> Result<Option<Outcome>, Memory>
         requires known { client < length self.old.clients }
         requires free { waits self.old client ≡ false }
         requires alive { ended_before self.old client ≡ false }
-        requires empty { ended.old.items ≡ [] }
-        requires space { length self.old.parked ≤ vec_capacity ended.old }
-        ensures own { IfOk result (λ own. own ≡ outcome_of (decision_alive self.old client call.now)) }
-        ensures state { OnOk result (self.new ≡ (left_alive self.old client call.now).state) }
-        ensures ended { OnOk result (ended.new.items ≡ (left_alive self.old client call.now).ended) }
-        ensures few { OnOk result (vec_len ended.new + length self.new.parked ≡ length self.old.parked) }
-        ensures space { OnOk result (vec_capacity ended.old ≤ vec_capacity ended.new) }
+        requires waits { outcome_of (decision_alive self.old client call.now) ≡ None }
+        ensures own { IfOk result (λ own. own ≡ outcome_of (decide_made self.old client call.now)) }
+        ensures state { OnOk result (self.new ≡ left_made self.old client call.now) }
         ensures err { OnErr result (self.new ≡ self.old) }
-        ensures none { OnErr result (ended.new.items ≡ []) }
+    {
+        let deadline = deadline_after(self.clock, call);
+        if deadline.is_some_and(|deadline| deadline <= self.clock) {
+            return Ok(Some(Err(Rule::TimedOut)));
+        }
+        self.park(client, place, as_it_waits(call)?, deadline)?;
+        Ok(None)
+    }
+
+    /// Serves a call that counts waiting calls or may end them, of a client that hasn't ended. It takes no memory. There
+    /// is room for each that waits in the list of those that ended.
+    fn serve_on_waiting(&mut self, client: u32, call: &Call, ended: &mut Vec<Ended>) -> Outcome
+        requires known { client < length self.old.clients }
+        requires on_waiting { is_on_waiting_by call.now ≡ true }
+        requires space { vec_len ended.old + length self.old.parked ≤ vec_capacity ended.old }
+        ensures own { outcome_of (decision_alive self.old client call.now) ≡ Some result }
+        ensures state { self.new ≡ (left_alive self.old client call.now).state }
+        ensures ended { ended.new.items ≡ ended.old.items ++ (left_alive self.old client call.now).ended }
+        ensures few { vec_len ended.new + length self.new.parked ≡ vec_len ended.old + length self.old.parked }
+        ensures space { vec_capacity ended.old ≤ vec_capacity ended.new }
+    {
+        match call {
+            Call::GetNcnt { id, num } => self.count(client, *id, *num, Awaited::Rise),
+            Call::GetZcnt { id, num } => self.count(client, *id, *num, Awaited::Zero),
+            Call::IpcSet {
+                kind,
+                id,
+                uid,
+                gid,
+                mode,
+                qbytes,
+            } => {
+                let new = Settings {
+                    uid: *uid,
+                    gid: *gid,
+                    mode: *mode,
+                    qbytes: *qbytes,
+                };
+                self.set(client, *kind, *id, new, ended)
+            }
+            Call::IpcRmid { kind, id } => self.remove(client, *kind, *id, ended),
+            Call::Interrupt { pid } => self.interrupt(client, *pid, ended),
+            _ => unreachable!(),
+        }
+    }
+
+    /// Refuses or grants a call that ends no waiting call and doesn't look at them. None where it is to wait, and then
+    /// nothing has changed.
+    fn answer(&mut self, client: u32, call: &Call) -> Result<Option<Outcome>, Memory>
+        requires known { client < length self.old.clients }
+        requires free { waits self.old client ≡ false }
+        requires alive { ended_before self.old client ≡ false }
+        requires alone { is_on_waiting_by call.now ≡ false }
+        ensures own { IfOk result (λ own. own ≡ outcome_of (decision_alive self.old client call.now)) }
+        ensures state { OnOk result (self.new ≡ left_by self.old (decision_alive self.old client call.now)) }
+        ensures err { OnErr result (self.new ≡ self.old) }
     {
         match call {
             Call::MsgGet { key, flags } => Ok(Some(self.msgget(client, *key, *flags)?)),
@@ -311,8 +356,7 @@ impl Namespace {
                 flags,
             } => Ok(self.msgrcv(client, *id, *size, *msgtyp, *flags)),
             Call::SemOp { id, ops } => self.semop(client, *id, ops),
-            Call::GetNcnt { id, num } => Ok(Some(self.count(client, *id, *num, Awaited::Rise))),
-            Call::GetZcnt { id, num } => Ok(Some(self.count(client, *id, *num, Awaited::Zero))),
+            Call::SemTimedOp { id, ops, .. } => self.semop(client, *id, ops),
             Call::SemGet { .. }
             | Call::GetVal { .. }
             | Call::GetPid { .. }
@@ -325,43 +369,60 @@ impl Namespace {
             | Call::ShmRead { .. }
             | Call::ShmWrite { .. } => Ok(Some(self.on_segments(client, call)?)),
             Call::IpcStat { kind, id } => Ok(Some(self.stat(client, *kind, *id)?)),
-            Call::IpcSet {
-                kind,
-                id,
-                uid,
-                gid,
-                mode,
-                qbytes,
-            } => {
-                let new = Settings {
-                    uid: *uid,
-                    gid: *gid,
-                    mode: *mode,
-                    qbytes: *qbytes,
-                };
-                Ok(Some(self.set(client, *kind, *id, new, ended)))
-            }
-            Call::IpcRmid { kind, id } => Ok(Some(self.remove(client, *kind, *id, ended))),
             Call::Listing { kind } => Ok(Some(self.list(client, *kind)?)),
-            Call::Interrupt { pid } => Ok(Some(self.interrupt(client, *pid, ended))),
+            Call::SetCreds { euid, egid, groups } => Ok(Some(self.set_creds(
+                client, *euid, *egid, groups,
+            )?)),
             Call::Exit => Ok(Some(self.exit(client)?)),
+            _ => unreachable!(),
         }
+    }
+
+    /// Ends the waiting calls whose deadline is reached, the earliest first. There is room for each in the list of those
+    /// that ended.
+    fn expire(&mut self, ended: &mut Vec<Ended>)
+        requires { vec_len ended.old + length self.old.parked ≤ vec_capacity ended.old }
+        ensures state { self.new ≡ (expire self.old).state }
+        ensures ended { ended.new.items ≡ ended.old.items ++ (expire self.old).ended }
+        ensures few { vec_len ended.new + length self.new.parked ≡ vec_len ended.old + length self.old.parked }
+        ensures room { vec_capacity ended.old ≤ vec_capacity ended.new }
+    {
+        while let Some(client) = self.first_due() {
+            let ending = self.end_as(client, Err(Rule::TimedOut));
+            ended.push(ending).unwrap();
+        }
+    }
+
+    /// The client of the earliest waiting call whose deadline is reached.
+    fn first_due(&self) -> Option<u32>
+        ensures first { result ≡ option_map (λ w. w.client) (find (λ w. is_reached self.now.clock w.deadline) self.now.parked) }
+        ensures waits { IfSome result (λ client. waits self.now client ≡ true) }
+        ensures apart { IfSome result (λ _. AreApart self.now.parked) }
+    {
+        self.parked.due(self.clock)
     }
 
     /// Makes the call wait, as the last, on which that was decided. What its completion needs is made here. Memory
     /// comes where a growth was refused, and then nothing has changed.
-    pub(super) fn park(&mut self, client: u32, place: u64, call: Call) -> Result<(), Memory>
+    pub(super) fn park(
+        &mut self,
+        client: u32,
+        place: u64,
+        call: Call,
+        deadline: Option<u64>,
+    ) -> Result<(), Memory>
         requires known { client < length self.old.clients }
         requires free { waits self.old client ≡ false }
         requires alive { ended_before self.old client ≡ false }
         requires waits { outcome_of (decision_alive self.old client call) ≡ None }
-        ensures ok { OnOk result (self.new ≡ record self.old { parked = self.old.parked ++ record { client = client; call = call } ∷ [] }) }
+        requires as_semop { stands call ≡ true }
+        ensures ok { OnOk result (self.new ≡ record self.old { parked = self.old.parked ++ record { client = client; call = call; deadline = deadline } ∷ [] }) }
         ensures err { OnErr result (self.new ≡ self.old) }
     {
         reserve_row(&mut self.sets, client, &call)?;
         let queue = sent_to(&call);
         reserve_in(&mut self.queues, queue)?;
-        let parked = self.parked.park(client, place, call);
+        let parked = self.parked.park(client, place, call, deadline);
         if parked.is_err() {
             release_in(&mut self.queues, queue);
         }
@@ -404,9 +465,9 @@ impl Namespace {
         ensures none { IfNone result (self.new ≡ self.old) }
         ensures shorter { IfSome result (λ _. length self.new.parked + 1 ≡ length self.old.parked) }
     {
-        let (client, call) = self.parked.nth(index)?;
+        let (client, arrival) = self.parked.nth(index)?;
         let who = caller_of(&self.clients, client, self.clock);
-        match call {
+        match &arrival.call {
             Call::MsgSnd {
                 id,
                 mtype,
@@ -478,6 +539,43 @@ impl Namespace {
         let call = self.parked.finish(client);
         release_in(&mut self.queues, sent_to(&call));
         Ended { client, outcome }
+    }
+}
+
+/// Whether the call counts waiting calls or may end them.
+fn is_on_waiting(call: &Call) -> bool
+    ensures { result ≡ is_on_waiting_by call.now }
+{
+    matches!(
+        call,
+        Call::GetNcnt { .. }
+            | Call::GetZcnt { .. }
+            | Call::IpcSet { .. }
+            | Call::IpcRmid { .. }
+            | Call::Interrupt { .. }
+    )
+}
+
+/// As what a call waits.
+fn as_it_waits(call: &Call) -> Result<Call, Memory>
+    ensures { IfOk result (λ waiting. waiting ≡ waits_as call.now) }
+{
+    match call {
+        Call::SemTimedOp { id, ops, .. } => Ok(Call::SemOp {
+            id: *id,
+            ops: ops.copy()?,
+        }),
+        _ => call.copy(),
+    }
+}
+
+/// The second of the clock at which a call that is made to wait now ends.
+fn deadline_after(now: u64, call: &Call) -> Option<u64>
+    ensures { result ≡ deadline_of now call.now }
+{
+    match call {
+        Call::SemTimedOp { timeout, .. } => Some(now.saturating_add(*timeout)),
+        _ => None,
     }
 }
 

@@ -1,20 +1,21 @@
 // The calls on processes: the interrupt of a waiting call, and exit (_exit(2)).
 
-ghost use Rattle.std.specs.Prelude.{◌≡◌, ◌+◌, ◌<◌, ◌≤◌, [], ⊤, false, length, vec_len, vec_capacity, Some, Ok, IfOk, OnOk, OnErr, option_copied};
+ghost use Rattle.std.specs.Prelude.{◌≡◌, ◌+◌, ◌<◌, ◌≤◌, ◌++◌, [], ⊤, false, length, vec_len, vec_capacity, Some, Ok, IfOk, OnOk, OnErr, option_copied, option_map, unwrap_or};
 ghost use Rattle.ipc_model.specs.State.{is_waiting as waits};
 ghost use Rattle.ipc_model.specs.Decision.{left_by, outcome_of, without_answer};
 ghost use Rattle.ipc_model.specs.Plan.{decision};
 ghost use Rattle.ipc_model.specs.Decide.{decide_alive as decision_on};
-ghost use Rattle.ipc_model.specs.Processes.{interrupt as interrupt_by, process as process_of};
+ghost use Rattle.ipc_model.specs.Processes.{interrupt as interrupt_by, process as process_of, set_creds as creds_set};
+ghost use Rattle.ipc_model.specs.State.{caller, creds_at};
 ghost use Rattle.ipc_namespace.specs.Namespace.{left_alive as moved_by};
 
 use crate::callers::caller_of;
 use crate::cancelling::Cancelling;
 use crate::control_calls::allowed;
 use crate::namespace::Namespace;
-use ipc_call::{Answer, Call, Ended, Memory, Outcome, Rule};
-use ipc_creds::Creds;
-use ipc_perm::may_interrupt;
+use ipc_call::{Answer, Call, Ended, Items, Memory, Outcome, Rule};
+use ipc_creds::{Creds, GROUPS_MAX};
+use ipc_perm::{may_become, may_interrupt};
 
 impl Namespace {
     /// An interrupt of the client of a process: its waiting call ends; there is room for it in the list of those that
@@ -22,12 +23,11 @@ impl Namespace {
     #[tactic(auto, unfolding(ipc_model::specs::Decide::part_plan))]
     pub(super) fn interrupt(&mut self, client: u32, pid: u32, ended: &mut Vec<Ended>) -> Outcome
         requires known { client < length self.old.clients }
-        requires empty { ended.old.items ≡ [] }
-        requires space { length self.old.parked ≤ vec_capacity ended.old }
+        requires space { vec_len ended.old + length self.old.parked ≤ vec_capacity ended.old }
         ensures outcome { outcome_of (decision_on self.old client (Call.Interrupt pid)) ≡ Some result }
         ensures state { self.new ≡ (moved_by self.old client (Call.Interrupt pid)).state }
-        ensures ended { ended.new.items ≡ (moved_by self.old client (Call.Interrupt pid)).ended }
-        ensures few { vec_len ended.new + length self.new.parked ≡ length self.old.parked }
+        ensures ended { ended.new.items ≡ ended.old.items ++ (moved_by self.old client (Call.Interrupt pid)).ended }
+        ensures few { vec_len ended.new + length self.new.parked ≡ vec_len ended.old + length self.old.parked }
         ensures space { vec_capacity ended.old ≤ vec_capacity ended.new }
     {
         self.may_end_wait(&self.clients[client as usize], pid)?;
@@ -55,6 +55,47 @@ impl Namespace {
         self.clients.get(pid as usize - 1)
     }
 
+    /// setcreds: the client takes on another effective user and group, and other supplementary groups where some are given.
+    /// The error comes only where an allocation fails, and then nothing has changed.
+    #[tactic(auto, unfolding(ipc_model::specs::Decide::part_plan))]
+    pub(super) fn set_creds(
+        &mut self,
+        client: u32,
+        euid: u32,
+        egid: u32,
+        groups: &Option<Items<u32>>,
+    ) -> Result<Outcome, Memory>
+        requires known { client < length self.old.clients }
+        ensures outcome { IfOk result (λ outcome. outcome_of (decision_on self.old client (Call.SetCreds euid egid groups.now)) ≡ Some outcome) }
+        ensures state { OnOk result (self.new ≡ left_by self.old (decision_on self.old client (Call.SetCreds euid egid groups.now))) }
+        ensures parked { self.new.parked ≡ self.old.parked }
+        ensures err { OnErr result (self.new ≡ self.old) }
+    {
+        if let Err(rule) = self.may_set_creds(client, euid, egid, groups) {
+            return Ok(Err(rule));
+        }
+        let groups = as_vec(groups)?;
+        self.clients[client as usize].take_on(euid, egid, groups);
+        Ok(Ok(Answer::Done))
+    }
+
+    /// Whether setcreds is granted.
+    fn may_set_creds(
+        &self,
+        client: u32,
+        euid: u32,
+        egid: u32,
+        groups: &Option<Items<u32>>,
+    ) -> Result<(), Rule>
+        requires known { client < length self.now.clients }
+        ensures { without_answer (decision (creds_at self.now client) (creds_set self.now (caller self.now client) euid egid groups.now)) ≡ Some result }
+    {
+        if given(groups) > GROUPS_MAX {
+            return Err(Rule::TooManyGroups);
+        }
+        may_become(&self.clients[client as usize], euid, egid, groups.is_some())
+    }
+
     /// exit: what the client's semops did with SEM_UNDO is undone, what it has attached is detached, and it has ended. The
     /// error comes only where an allocation fails, and then nothing has changed.
     #[tactic(auto, unfolding(ipc_model::specs::Decide::part_plan))]
@@ -72,5 +113,25 @@ impl Namespace {
         self.segments.exit(&who);
         self.ended.push(client).unwrap();
         Ok(Ok(Answer::Done))
+    }
+}
+
+/// How many groups are given.
+fn given(groups: &Option<Items<u32>>) -> usize
+    ensures { result ≡ length (unwrap_or groups.now []) }
+{
+    match groups {
+        None => 0,
+        Some(groups) => groups.len(),
+    }
+}
+
+/// The groups in a vector.
+fn as_vec(groups: &Option<Items<u32>>) -> Result<Option<Vec<u32>>, Memory>
+    ensures { IfOk result (λ copied. option_map (λ groups. groups.items) copied ≡ groups.now) }
+{
+    match groups {
+        None => Ok(None),
+        Some(groups) => Ok(Some(groups.copy()?.into_vec())),
     }
 }

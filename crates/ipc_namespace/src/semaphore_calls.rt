@@ -85,7 +85,10 @@ impl Namespace {
         ensures awaits { IfSome (slice_get self.old.parked index) (λ w. result ≡ waits_for self.old.sems id (is_awaited awaited num) w.client w.call) }
         ensures same { self.new ≡ self.old }
     {
-        let Some((client, Call::SemOp { id: set, ops })) = self.parked.nth(index) else {
+        let Some((client, arrival)) = self.parked.nth(index) else {
+            return false;
+        };
+        let Call::SemOp { id: set, ops } = &arrival.call else {
             return false;
         };
         if *set != id {

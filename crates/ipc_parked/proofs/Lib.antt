@@ -1,3 +1,4 @@
 pub mod Clients
 pub mod Listed
 pub mod Picking
+pub mod Sooner

@@ -7,11 +7,11 @@ use Rattle.std.proofs.lemmas.Option.{none-some, same_Some}
 use Rattle.ipc_call.specs.declared.calls.Call.{Call}
 use Rattle.ipc_call.specs.declared.replies.Waiting.{Waiting}
 use Rattle.ipc_parked.specs.declared.parked.Arrival.{Arrival}
-use Rattle.ipc_parked.specs.Parked.{waiting, is_there, arrival_of, others}
+use Rattle.ipc_parked.specs.Parked.{waiting, entry_of, is_there, arrival_of, others}
 
-pub waiting-push : (es : List (ℕ × Arrival)) (e : ℕ × Arrival) → waiting (es ++ e ∷ []) ≡ waiting es ++ record { client = e.0; call = e.1.call } ∷ []
+pub waiting-push : (es : List (ℕ × Arrival)) (e : ℕ × Arrival) → waiting (es ++ e ∷ []) ≡ waiting es ++ entry_of e ∷ []
 waiting-push [] e = refl
-waiting-push (d ∷ es) e = ap (λ (ws : List Waiting). record { client = d.0; call = d.1.call } ∷ ws) (waiting-push es e)
+waiting-push (d ∷ es) e = ap (λ (ws : List Waiting). entry_of d ∷ ws) (waiting-push es e)
 
 pub length-waiting : (es : List (ℕ × Arrival)) → length (waiting es) ≡ length es
 length-waiting [] = refl
@@ -27,21 +27,24 @@ waiting-others c [] = refl
 waiting-others c (e ∷ es) =
     ⊎_elim
     (λ (own : (e.0 == c) ≡ true). rw own (waiting-others c es))
-    (λ (other : (e.0 == c) ≡ false). rw other (ap (λ (ws : List Waiting). record { client = e.0; call = e.1.call } ∷ ws) (waiting-others c es)))
+    (λ (other : (e.0 == c) ≡ false). rw other (ap (λ (ws : List Waiting). entry_of e ∷ ws) (waiting-others c es)))
     (cases_Bool (e.0 == c))
 
 -- the client's own
-pub waiting-own : (c : ℕ) (es : List (ℕ × Arrival)) → find (λ w. w.client == c) (waiting es) ≡ option_map (λ a. record { client = c; call = a.call }) (arrival_of c es)
+pub waiting-own : (c : ℕ) (es : List (ℕ × Arrival)) → find (λ w. w.client == c) (waiting es) ≡ option_map (λ a. entry_of (c, a)) (arrival_of c es)
 waiting-own c [] = refl
 waiting-own c (e ∷ es) =
     ⊎_elim
-    (λ (own : (e.0 == c) ≡ true). rw own (ap (λ k. Some (record { client = k; call = e.1.call })) (eqb-true e.0 c own)))
+    (λ (own : (e.0 == c) ≡ true). rw own (ap (λ k. Some (entry_of (k, e.1))) (eqb-true e.0 c own)))
     (λ (other : (e.0 == c) ≡ false). rw other (waiting-own c es))
     (cases_Bool (e.0 == c))
 
-called : (c : ℕ) (call : Call) (o : Option Arrival) → option_map (λ a. a.call) o ≡ Some call → option_map {U = Waiting} (λ a. record { client = c; call = a.call }) o ≡ Some (record { client = c; call = call })
+called : (c : ℕ) (call : Call) (o : Option Arrival) → option_map (λ a. a.call) o ≡ Some call
+    → (until : Option ℕ) × (option_map {U = Waiting} (λ a. entry_of (c, a)) o ≡ Some (record { client = c; call = call; deadline = until }))
 called c call None is = absurd (none-some call is)
-called c call (Some a) is = ap (λ k. Some (record { client = c; call = k })) (same_Some a.call call is)
+called c call (Some a) is = (a.deadline, ap (λ k. Some (record { client = c; call = k; deadline = a.deadline })) (same_Some a.call call is))
 
-pub waiting_at : (c : ℕ) (call : Call) (es : List (ℕ × Arrival)) → option_map (λ a. a.call) (arrival_of c es) ≡ Some call → find (λ w. w.client == c) (waiting es) ≡ Some (record { client = c; call = call })
-waiting_at c call es is = waiting-own c es ∙ called c call (arrival_of c es) is
+-- with some deadline, or none
+pub waiting_at : (c : ℕ) (call : Call) (es : List (ℕ × Arrival)) → option_map (λ a. a.call) (arrival_of c es) ≡ Some call
+    → (until : Option ℕ) × (find (λ w. w.client == c) (waiting es) ≡ Some (record { client = c; call = call; deadline = until }))
+waiting_at c call es is = let there = called c call (arrival_of c es) is in (there.0, waiting-own c es ∙ there.1)

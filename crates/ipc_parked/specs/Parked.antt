@@ -1,5 +1,5 @@
 -- The calls that wait, as one list of clients with their calls, in order of arrival. The list is the project's own.
-use Rattle.std.specs.Prelude.{◌≡◌, ℕ, ◌==◌, ◌⊎◌, Bool, true, false, not, List, [], ◌∷◌, map, filter, Option, Some, None}
+use Rattle.std.specs.Prelude.{◌≡◌, ℕ, ◌==◌, ◌⊎◌, Bool, true, false, not, nat_lt, List, [], ◌∷◌, map, filter, Option, Some, None}
 use Rattle.std.specs.List.{find, list_any, AllByRecursion}
 use Rattle.std.specs.Option.{option_map}
 use Rattle.std.specs.Borrow.{Bor}
@@ -9,9 +9,12 @@ use Rattle.ipc_call.specs.declared.replies.Waiting.{Waiting}
 use Rattle.ipc_model.specs.Cancelled.{waits_on}
 use Rattle.ipc_parked.specs.declared.parked.Arrival.{Arrival}
 
--- each client with its call
+-- a client with its call and its deadline
+abbrev pub entry_of : ℕ × Arrival → Waiting
+entry_of e = record { client = e.0; call = e.1.call; deadline = e.1.deadline }
+
 abbrev pub waiting : List (ℕ × Arrival) → List Waiting
-waiting es = map (λ e. record { client = e.0; call = e.1.call }) es
+waiting es = map entry_of es
 
 -- a call of the client waits
 abbrev pub is_there : ℕ → List (ℕ × Arrival) → Bool
@@ -20,6 +23,16 @@ is_there client es = list_any (λ e. e.0 == client) es
 -- the call of the client, with its place
 abbrev pub arrival_of : ℕ → List (ℕ × Arrival) → Option Arrival
 arrival_of client es = option_map (λ e. e.1) (find (λ e. e.0 == client) es)
+
+-- a deadline is before another; None is after all
+abbrev pub is_before : Option ℕ → Option ℕ → Bool
+is_before None bound = false
+is_before (Some deadline) None = true
+is_before (Some deadline) (Some bound) = nat_lt deadline bound
+
+-- no deadline is before the bound
+abbrev pub NoneBefore : Option ℕ → List (ℕ × Arrival) → Type 0
+NoneBefore bound es = AllByRecursion (λ e. is_before e.1.deadline bound ≡ false) es
 
 -- those of other clients
 abbrev pub others : ℕ → List (ℕ × Arrival) → List (ℕ × Arrival)

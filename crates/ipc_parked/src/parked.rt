@@ -4,16 +4,20 @@ ghost use Rattle.std.specs.Prelude.{◌≡◌, true, false, [], ◌∷◌, ◌++
 ghost use Rattle.std.specs.Option.{option_map};
 ghost use Rattle.ipc_call.specs.declared.replies.Waiting.{Waiting as WaitingCall};
 ghost use Rattle.ipc_model.specs.Cancelled.{waits_on as call_waits_on};
-ghost use Rattle.ipc_model.specs.Decide.{waits_at as call_waits_at};
+ghost use Rattle.ipc_model.specs.Decide.{is_reached, waits_at as call_waits_at};
+ghost use Rattle.std.specs.List.{find};
 ghost use Rattle.ipc_parked.specs.Parked.{
   is_there,
   arrival_of,
   others,
   waiting,
+  entry_of,
   on_object as those_on_object,
   MayAsk,
   Answers,
   Picks,
+  NoneBefore,
+  is_before,
 };
 
 use indexmap::IndexMap;
@@ -29,6 +33,8 @@ pub struct Arrival {
     pub place: u64,
     /// The call, which its client waits for (msgop(2)).
     pub call: Call,
+    /// The second of the clock at which it ends, where it is one that waits no longer (semtimedop of semop(2)).
+    pub deadline: Option<u64>,
 }
 
 /// The calls that wait, at most one of each client, in order of arrival. Holding them by client is the
@@ -36,18 +42,20 @@ pub struct Arrival {
 #[derive(Debug, Drop)]
 pub struct Parked {
     arrivals: IndexMap<u32, Arrival>,
+    /// No deadline is before this one. None where no call has a deadline.
+    soonest: Option<u64>,
 }
 
 impl Model for Parked {
     ghost use Rattle.std.specs.Prelude.{ℕ, List};
     ghost use Rattle.ipc_parked.specs.declared.parked.Arrival.{Arrival};
-    ghost use Rattle.ipc_parked.specs.Parked.{AreDistinct};
+    ghost use Rattle.ipc_parked.specs.Parked.{AreDistinct, NoneBefore};
 
     ghost Value = { List (ℕ × Arrival) };
 
     ghost view = { λ p. p.arrivals.entries };
 
-    ghost invariant = { λ p. AreDistinct p.arrivals.entries };
+    ghost invariant = { λ p. AreDistinct p.arrivals.entries × NoneBefore p.soonest p.arrivals.entries };
 }
 
 impl Parked {
@@ -57,17 +65,32 @@ impl Parked {
     {
         Parked {
             arrivals: IndexMap::new(alloc),
+            soonest: None,
         }
     }
 
     /// The call of a client waits from now on, after those that are there, none of which is the client's. The
     /// error comes only where an allocation fails.
-    pub fn park(&mut self, client: u32, place: u64, call: Call) -> Result<(), Memory>
+    pub fn park(
+        &mut self,
+        client: u32,
+        place: u64,
+        call: Call,
+        deadline: Option<u64>,
+    ) -> Result<(), Memory>
         requires free { is_there client self.old ≡ false }
-        ensures ok { OnOk result (self.new ≡ self.old ++ (client, record { place = place; call = call }) ∷ []) }
+        ensures ok { OnOk result (self.new ≡ self.old ++ (client, record { place = place; call = call; deadline = deadline }) ∷ []) }
         ensures err { OnErr result (self.new ≡ self.old) }
     {
-        self.arrivals.insert(client, Arrival { place, call })?;
+        self.arrivals.insert(
+            client,
+            Arrival {
+                place,
+                call,
+                deadline,
+            },
+        )?;
+        self.soonest = sooner(self.soonest, deadline);
         Ok(())
     }
 
@@ -102,11 +125,27 @@ impl Parked {
     }
 
     /// The call at an index in order of arrival, from 0, with its client. Takes no memory.
-    pub fn nth(&self, index: usize) -> Option<(u32, &Call)>
-        ensures { option_map {U = WaitingCall} (λ found. record { client = found.0; call = found.1.now }) result ≡ slice_get (waiting self.now) index }
+    pub fn nth(&self, index: usize) -> Option<(u32, &Arrival)>
+        ensures { option_map {U = WaitingCall} (λ found. entry_of (found.0, found.1.now)) result ≡ slice_get (waiting self.now) index }
     {
         let (client, arrival) = self.arrivals.get_index(index)?;
-        Some((*client, &arrival.call))
+        Some((*client, arrival))
+    }
+
+    /// The client of the earliest waiting call whose deadline is reached at a second of the clock. Where none is, this is
+    /// known without a walk. Takes no memory.
+    pub fn due(&self, clock: u64) -> Option<u32>
+        ensures { result ≡ option_map (λ e. e.0) (find (λ e. is_reached clock e.1.deadline) self.now) }
+    {
+        if !is_due(self.soonest, clock) {
+            return None;
+        }
+        for (client, arrival) in self.arrivals.iter() {
+            if is_due(arrival.deadline, clock) {
+                return Some(*client);
+            }
+        }
+        None
     }
 
     /// The client of the earliest waiting call that passes the test, which is asked of those that wait and no
@@ -144,18 +183,55 @@ impl Parked {
         ensures call { option_map (λ a. a.call) (arrival_of client self.old) ≡ Some result }
         ensures rest { self.new ≡ others client self.old }
     {
-        self.arrivals.shift_remove(&client).unwrap().call
+        let arrival = self.arrivals.shift_remove(&client).unwrap();
+        if arrival.deadline.is_some() {
+            self.soonest = soonest_of(&self.arrivals);
+        }
+        arrival.call
     }
 }
 
-/// The kind and identifier of the object at which the call may wait: msgsnd and msgrcv at their queue (msgop(2)).
+/// The soonest of the deadlines.
+fn soonest_of(arrivals: &IndexMap<u32, Arrival>) -> Option<u64>
+    ensures { NoneBefore result arrivals.now.entries }
+{
+    let mut soonest = None;
+    for (_, arrival) in arrivals.iter() {
+        soonest = sooner(soonest, arrival.deadline);
+    }
+    soonest
+}
+
+/// The sooner of two deadlines, where None is after all.
+fn sooner(a: Option<u64>, b: Option<u64>) -> Option<u64>
+    ensures first { is_before a result ≡ false }
+    ensures second { is_before b result ≡ false }
+{
+    match (a, b) {
+        (Some(a), Some(b)) => Some(a.min(b)),
+        (Some(a), None) => Some(a),
+        (None, b) => b,
+    }
+}
+
+/// The kind and identifier of the object at which the call may wait: msgsnd and msgrcv at their queue (msgop(2)), semop
+/// and semtimedop at their set (semop(2)).
 pub fn waits_at(call: &Call) -> Option<(Kind, u32)>
     ensures { result ≡ call_waits_at call.now }
 {
     match call {
         Call::MsgSnd { id, .. } | Call::MsgRcv { id, .. } => Some((Kind::Queue, *id)),
-        Call::SemOp { id, .. } => Some((Kind::Sems, *id)),
+        Call::SemOp { id, .. } | Call::SemTimedOp { id, .. } => Some((Kind::Sems, *id)),
         _ => None,
+    }
+}
+
+fn is_due(deadline: Option<u64>, clock: u64) -> bool
+    ensures { result ≡ is_reached clock deadline }
+{
+    match deadline {
+        None => false,
+        Some(deadline) => deadline <= clock,
     }
 }
 

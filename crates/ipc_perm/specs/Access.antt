@@ -1,12 +1,13 @@
 -- Who may do what to an object (POSIX.1-2017 XSH 2.7.1; capabilities(7)).
 use Rattle.std.specs.Prelude.{ℕ, Bool, true, false, not, ◌&&◌, ◌||◌, ◌==◌, ◌/◌, ◌%◌, [], ◌∷◌}
 use Rattle.std.specs.Prelude.{Option, Some, None, if◌then◌else◌}
+use Rattle.std.specs.Option.{option_or}
 use Rattle.std.specs.List.{list_any}
 use Rattle.ipc_call.specs.declared.rules.Rule.{Rule}
 use Rattle.ipc_call.specs.declared.rules.Rule.TheVariants.{OwnerBits, GroupBits, OtherBits}
-use Rattle.ipc_call.specs.declared.rules.Rule.TheVariants.{NotOwner, NeedsResource, NotSameUser, ReadOnly}
+use Rattle.ipc_call.specs.declared.rules.Rule.TheVariants.{NotOwner, NeedsResource, NotSameUser, ReadOnly, NotOwnUser, NotOwnGroup, NeedsSetgid}
 use Rattle.ipc_call.specs.Flags.{has_flag}
-use Rattle.ipc_creds.specs.Credentials.{Credentials, is_in_group, has_capability}
+use Rattle.ipc_creds.specs.Credentials.{Credentials, is_in_group, has_capability, own_groups, own_users, cap_setgid, cap_setuid}
 use Rattle.ipc_creds.specs.Credentials.{cap_ipc_owner, cap_sys_admin, cap_sys_resource}
 use Rattle.ipc_call.specs.declared.perms.Perm.{Perm}
 use Rattle.ipc_perm.specs.declared.access.Class.{Class}
@@ -65,6 +66,13 @@ controls c p = is_owner c p || has_capability c cap_sys_admin
 abbrev pub has_same_user : Credentials → ℕ → Bool
 has_same_user c euid = c.euid == euid || has_capability c cap_sys_admin
 
+-- the caller may become a user (seteuid(2)) or a group (setegid(2)): one of its own, or any with the capability
+abbrev pub may_be_user : Credentials → ℕ → Bool
+may_be_user c uid = list_any (λ own. own == uid) (own_users c) || has_capability c cap_setuid
+
+abbrev pub may_be_group : Credentials → ℕ → Bool
+may_be_group c gid = list_any (λ own. own == gid) (own_groups c) || has_capability c cap_setgid
+
 -- the read bits of owner, group and others: 0444
 abbrev pub read_bits : ℕ
 read_bits = 292
@@ -94,6 +102,9 @@ pub data Need : Type 0 where
   Resource : Need
   SameUser : (euid : ℕ) → Need
   Writable : (is_read_only : Bool) → Need
+  BecomeUser : (uid : ℕ) → Need
+  BecomeGroup : (gid : ℕ) → Need
+  SetGroups : Need
 
 -- the rule of a need that fails, and None where it is met
 abbrev pub denial : Credentials → Need → Option Rule
@@ -101,6 +112,9 @@ denial c (Permission p want) = if permits c p want then None else Some (rule_of 
 denial c (Control p) = if controls c p then None else Some NotOwner
 denial c (SameUser euid) = if has_same_user c euid then None else Some NotSameUser
 denial c (Writable is_read_only) = if is_read_only then Some ReadOnly else None
+denial c (BecomeUser uid) = if may_be_user c uid then None else Some NotOwnUser
+denial c (BecomeGroup gid) = if may_be_group c gid then None else Some NotOwnGroup
+denial c SetGroups = if has_capability c cap_setgid then None else Some NeedsSetgid
 denial c Resource = if has_capability c cap_sys_resource then None else Some NeedsResource
 
 -- the verdict with its ground: a capability only where the class or the ownership fails
@@ -129,3 +143,9 @@ is_allowed (Denied _) = false
 abbrev pub denied_rule : Verdict → Option Rule
 denied_rule (Allowed _) = None
 denied_rule (Denied rule) = Some rule
+
+-- what setcreds needs, in order (seteuid(2), setegid(2), setgroups(2)): the rule of the first need that fails
+abbrev pub becoming : Credentials → ℕ → ℕ → Bool → Option Rule
+becoming c euid egid groups_given =
+    option_or (denial c (BecomeUser euid))
+    (option_or (denial c (BecomeGroup egid)) (if groups_given then denial c SetGroups else None))

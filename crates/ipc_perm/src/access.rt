@@ -22,7 +22,9 @@ ghost use Rattle.ipc_perm.specs.Access.{
   denied_rule,
   interrupt_verdict_on,
   SameUser,
+  becoming,
 };
+ghost use Rattle.std.specs.Result.{result_err};
 
 use bitflags::Flags;
 use ipc_call::{Perm, Rule};
@@ -137,6 +139,23 @@ pub fn may_interrupt(creds: &Creds, euid: u32) -> Verdict
         return Verdict::Denied(Rule::NotSameUser);
     }
     Verdict::Allowed(Ground::SysAdmin)
+}
+
+/// Whether a caller may take on this effective user and group, and supplementary groups where they are given
+/// (seteuid(2), setegid(2), setgroups(2): EPERM). Takes no memory.
+pub fn may_become(creds: &Creds, euid: u32, egid: u32, groups_given: bool) -> Result<(), Rule>
+    ensures { result_err result ≡ becoming creds.now euid egid groups_given }
+{
+    if !creds.is_own_user(euid) && !creds.caps().contains(Caps::SETUID) {
+        return Err(Rule::NotOwnUser);
+    }
+    if !creds.is_own_group(egid) && !creds.caps().contains(Caps::SETGID) {
+        return Err(Rule::NotOwnGroup);
+    }
+    if groups_given && !creds.caps().contains(Caps::SETGID) {
+        return Err(Rule::NeedsSetgid);
+    }
+    Ok(())
 }
 
 /// What the flags of a get ask of an existing object (msgget(2)): any of the read bits asks to read, any of

@@ -5,7 +5,7 @@
 mod access;
 
 pub use access::{
-    Class, Ground, TO_ALTER, TO_READ, Verdict, Want, asked_of_flags, decide, may_control,
-    may_interrupt,
+    Class, Ground, TO_ALTER, TO_READ, Verdict, Want, asked_of_flags, decide, may_become,
+    may_control, may_interrupt,
 };
 pub use ipc_call::{Mode, Perm};

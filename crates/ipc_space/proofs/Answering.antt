@@ -1,14 +1,14 @@
 -- Each call ends with an answer of its own, and only one that may wait is made to wait.
-use Rattle.std.proofs.Common.{◌≡◌, ℕ, zero, suc, ◌+◌, Bool, true, false, cond, List, [], ◌∷◌, ◌++◌, length, refl, sym, ap, ◌∙◌, subst, Option, Some, None, Ok, Err, ⊎_elim, All, ℤ}
-use Rattle.std.specs.Prelude.{if◌then◌else◌, ◌==◌, ◌&&◌, ◌||◌, not, nat_le, filter, flat_map, is_none, option_map}
-use Rattle.std.specs.List.{find, list_any, AllByRecursion}
+use Rattle.std.proofs.Common.{◌≡◌, ℕ, zero, suc, ◌+◌, Bool, true, false, List, [], ◌∷◌, ◌++◌, length, refl, sym, ap, ◌∙◌, subst, Option, Some, None, Ok, Err, ⊎_elim, All, ℤ}
+use Rattle.std.specs.Prelude.{if◌then◌else◌, ◌==◌, ◌&&◌, ◌||◌, not, filter, flat_map, is_none, is_some, option_map}
+use Rattle.std.specs.List.{list_any, AllByRecursion}
 use Rattle.std.specs.FinMap as finite
 use Rattle.std.proofs.lemmas.Bool.{cases_Bool, eq-eqb, or_parts, true≢false}
 use Rattle.std.proofs.lemmas.List.Elements.{All-nil, All-cons}
 use Rattle.std.proofs.lemmas.Option.{none-some, same_Some}
 use Rattle.ipc_call.specs.Flags.{has_flag, msg_except}
 use Rattle.ipc_call.specs.declared.calls.Call.{Call}
-use Rattle.ipc_call.specs.declared.calls.Call.TheVariants.{MsgGet, MsgSnd, MsgRcv, SemGet, SemOp, GetVal, GetPid, GetNcnt, GetZcnt, GetAll, SetVal, SetAll, ShmGet, ShmAt, ShmDt, ShmRead, ShmWrite, Exit, IpcStat, IpcSet, IpcRmid, Listing, Interrupt}
+use Rattle.ipc_call.specs.declared.calls.Call.TheVariants.{MsgGet, MsgSnd, MsgRcv, SemGet, SemOp, SemTimedOp, GetVal, GetPid, GetNcnt, GetZcnt, GetAll, SetVal, SetAll, ShmGet, ShmAt, ShmDt, ShmRead, ShmWrite, Exit, IpcStat, IpcSet, IpcRmid, Listing, Interrupt, SetCreds}
 use Rattle.ipc_call.specs.declared.calls.Kind.{Kind}
 use Rattle.ipc_call.specs.declared.calls.Kind.TheVariants as kinds
 use Rattle.ipc_call.specs.declared.replies.Answer.{Answer}
@@ -17,7 +17,7 @@ use Rattle.ipc_call.specs.declared.replies.Ended.{Ended}
 use Rattle.ipc_call.specs.declared.replies.Status.{Status}
 use Rattle.ipc_call.specs.declared.replies.Waiting.{Waiting}
 use Rattle.ipc_call.specs.declared.rules.Rule.{Rule}
-use Rattle.ipc_call.specs.declared.rules.Rule.TheVariants.{BadId, NoKey, NoProcess, NoSlot, NotAttached, TooManyAttached}
+use Rattle.ipc_call.specs.declared.rules.Rule.TheVariants.{BadId, NoProcess, NoSlot, NotAttached, TooManyAttached}
 use Rattle.ipc_call.specs.declared.perms.Perm.{Perm}
 use Rattle.ipc_ids.specs.Table.{Table, next_id}
 use Rattle.ipc_objects.specs.declared.object.Object.{Object}
@@ -26,26 +26,26 @@ use Rattle.shm_seg.specs.Attachments.{attachment_at, free_number}
 use Rattle.sem_undo.specs.Entries.{adj_of}
 use Rattle.ipc_model.specs.State.{Caller, Queue, Queues, SemSet, Sems, Segment, Shared, State, caller, creds_at}
 use Rattle.ipc_model.specs.Decision.{Decision, Outcome, Refuse, Wait, Grant, outcome_of, proceeds}
-use Rattle.ipc_model.specs.Plan.{Needs, Plan, in_order, on_part}
+use Rattle.ipc_model.specs.Plan.{Needs, Plan}
 use Rattle.ipc_model.specs.Plan as plans
-use Rattle.ipc_perm.specs.Access.{Need, Resource}
+use Rattle.ipc_perm.specs.Access.{Resource, SetGroups}
 use Rattle.ipc_model.specs.Gets.{Getting, get, get_found, get_queue, get_segment, get_set, getting_queue, getting_segment, getting_set, object_of_key}
-use Rattle.ipc_model.specs.Messages.{chosen, queue_at, receive_found, receive_message, send_found, send_message, take_chosen}
+use Rattle.ipc_model.specs.Messages.{chosen, queue_at, receive_message, send_message, take_chosen}
 use Rattle.ipc_model.specs.Semaphores.{get_all, get_pid, get_value, operate, operated, set_all, set_at, set_value, trial_checks}
 use Rattle.ipc_model.specs.Segments.{attach, behind, detach, read_bytes, segment_at, write_bytes}
 use Rattle.ipc_model.specs.Processes.{process}
 use Rattle.ipc_model.specs.Controls.{is_within, perm_of, status_of, with_set}
-use Rattle.ipc_model.specs.Decide.{OnQueues, OnSems, OnShared, can_wait, decide, get_waiting, is_negative, is_zero, part_plan, plan, whole}
+use Rattle.ipc_model.specs.Decide.{OnQueues, OnSems, OnShared, can_wait, decide, decide_call, is_late, get_waiting, is_negative, is_zero, part_plan, plan, whole}
 use Rattle.ipc_model.specs.Cancelled.{cancelled}
-use Rattle.ipc_model.specs.Step.{Event, at_time, cancel, end_waiting, ended_by, entered, first_ready, is_ready, settle, settle_from, settled, told_cancelled, without}
+use Rattle.ipc_model.specs.Step.{Event, at_time, begun, expire, expired, cancel, end_waiting, ended_by, entered, first_ready, is_ready, settle, settle_from, settled, told_cancelled, without}
 use Rattle.ipc_history.specs.History.{History, next_step, run}
-use Rattle.ipc_model.proofs.Calls.{Keeps-decide, only_parkable}
+use Rattle.ipc_model.proofs.Calls.{Keeps-decide}
 use Rattle.ipc_model.proofs.Growing.{Keeps}
 use Rattle.ipc_model.proofs.Plans.{Ends, Ends-decision, Ends-found, Ends-on, Ends-order, IfGranted}
 use Rattle.ipc_namespace.proofs.Own.{none-found}
-use Rattle.ipc_namespace.proofs.Settling.{quiet-at_time}
+use Rattle.ipc_model.proofs.Late.{Keeps-call, late-granted, only_parkable_call}
 use Rattle.ipc_space.proofs.Alone.{ends_none}
-use Rattle.ipc_space.proofs.Quiet.{IsQuiet, quiet-run}
+use Rattle.ipc_space.proofs.Quiet.{IsQuiet, quiet-begun}
 use Rattle.ipc_space.specs.Answers.{can_end, can_give, is_end_of, is_status_of}
 
 -- what is granted is an answer of the call, whatever is left
@@ -67,10 +67,6 @@ status-kind : (s : State) (kind : Kind) (id : ℕ) (t : Perm × Status) → stat
 status-kind s kinds.Queue id t is = status-told kinds.Queue _ (λ queue. refl) (finite.get s.queues.objects id) t is
 status-kind s kinds.Sems id t is = status-told kinds.Sems _ (λ set. refl) (finite.get s.sems.sets.objects id) t is
 status-kind s kinds.Segment id t is = status-told kinds.Segment _ (λ segment. refl) (segment_at s.shared id) t is
-
-gives-set : (s new : State) (call : Call) (within : Bool) → can_give call Done ≡ true → Ends (Gives call) (in_order (if within then [] else plans.Needs Resource ∷ []) (plans.Grant Done new))
-gives-set s new call true gives = gives
-gives-set s new call false gives = gives
 
 module _ (s : State) (call : Call) where
   on-queues : (p : Plan Queues) → Ends (Gives call) p → Ends (Gives call) (whole s (OnQueues p))
@@ -109,6 +105,10 @@ gives-plan s client (SemOp id ops) =
     let call = SemOp id ops in
     on-sems s call (operate s.limits s.sems (caller s client) id ops) (Ends-found (Gives call) (set_at s.sems id) BadId tt _ (λ (set : Object SemSet) is.
     Ends-order (Gives call) (trial_checks set.contents.semaphores (adj_of s.sems.undo client id) [] ops) (plans.Grant Done (operated s.sems (caller s client) id ops set.contents)) refl))
+gives-plan s client (SemTimedOp id ops timeout) =
+    let call = SemTimedOp id ops timeout in
+    on-sems s call (operate s.limits s.sems (caller s client) id ops) (Ends-found (Gives call) (set_at s.sems id) BadId tt _ (λ (set : Object SemSet) is.
+    Ends-order (Gives call) (trial_checks set.contents.semaphores (adj_of s.sems.undo client id) [] ops) (plans.Grant Done (operated s.sems (caller s client) id ops set.contents)) refl))
 gives-plan s client (GetVal id num) = on-sems s (GetVal id num) (get_value s.sems id num) (Ends-found (Gives (GetVal id num)) (set_at s.sems id) BadId tt _ (λ set is. refl))
 gives-plan s client (GetPid id num) = on-sems s (GetPid id num) (get_pid s.sems id num) (Ends-found (Gives (GetPid id num)) (set_at s.sems id) BadId tt _ (λ set is. refl))
 gives-plan s client (GetNcnt id num) = on-sems s (GetNcnt id num) (get_waiting s id num (is_negative num)) (Ends-found (Gives (GetNcnt id num)) (set_at s.sems id) BadId tt _ (λ set is. refl))
@@ -135,10 +135,12 @@ gives-plan s client (IpcStat kind id) = Ends-found (Gives (IpcStat kind id)) (st
 gives-plan s client (IpcSet kind id uid gid mode qbytes) =
     let call = IpcSet kind id uid gid mode qbytes in
     let new = with_set s kind id (record { uid = uid; gid = gid; mode = mode; qbytes = qbytes }) in
-    Ends-found (Gives call) (perm_of s kind id) BadId tt _ (λ perm is. gives-set s new call (is_within s qbytes) refl)
+    Ends-found (Gives call) (perm_of s kind id) BadId tt _ (λ perm is. Ends-order (Gives call) (if is_within s qbytes then [] else plans.Needs Resource ∷ []) (plans.Grant Done new) refl)
 gives-plan s client (IpcRmid kind id) = Ends-found (Gives (IpcRmid kind id)) (perm_of s kind id) BadId tt _ (λ perm is. refl)
 gives-plan s client (Listing kind) = refl
 gives-plan s client (Interrupt pid) = Ends-found (Gives (Interrupt pid)) (process s pid) NoProcess tt _ (λ target is. refl)
+gives-plan s client (SetCreds euid egid groups) =
+    Ends-order (Gives (SetCreds euid egid groups)) (if is_some groups then plans.Needs SetGroups ∷ [] else []) _ refl
 gives-plan s client Exit = refl
 
 gives-decide : (s : State) (client : ℕ) (call : Call) → IfGranted (Gives call) (decide s client call)
@@ -154,7 +156,7 @@ own-decided call (Grant other new) answer gives own =
 
 pub own_answer : (h : History) (e : Event) (answer : Answer) → (next_step h e).own ≡ Some (Ok answer) → can_give e.call answer ≡ true
 own_answer h e answer own =
-    let s = at_time (run h) e.now in own-decided e.call (decide s e.client e.call) answer (gives-decide s e.client e.call) own
+    let s = begun (run h) e.now in own-decided e.call (decide_call s e.client e.call) answer (late-granted (Gives e.call) (is_late s e.call) (decide s e.client e.call) (gives-decide s e.client e.call)) own
 
 waits-decided : (d : Decision State) → outcome_of d ≡ None → proceeds d ≡ false
 waits-decided (Refuse rule) none = absurd (none-some _ (sym none))
@@ -163,7 +165,7 @@ waits-decided (Grant answer new) none = absurd (none-some _ (sym none))
 
 pub who_waits : (h : History) (e : Event) → (next_step h e).own ≡ None → can_wait e.call ≡ true
 who_waits h e none =
-    let s = at_time (run h) e.now in only_parkable s e.client e.call (waits-decided (decide s e.client e.call) none)
+    let s = begun (run h) e.now in only_parkable_call s e.client e.call (waits-decided (decide_call s e.client e.call) none)
 
 -- the waiting calls that end are among those that waited
 any-filter : (test keep : Waiting → Bool) (ws : List Waiting) → list_any test ws ≡ false → list_any test (filter keep ws) ≡ false
@@ -250,10 +252,21 @@ ends-granted s new call kept =
     ends-append s.parked m.ended (settled m.state).ended (ends-cancelled s.parked (cancelled new call) new.parked among)
     (ends-settle s.parked (length m.state.parked) m.state (among-filter s.parked (λ w. is_none (cancelled new call w)) new.parked among))
 
-ends-entered : (s : State) (client : ℕ) (call : Call) (d : Decision State) → d ≡ decide s client call → Keeps s d → IsQuiet s → AreEnds s.parked (entered s client call d).ended
+ends-entered : (s : State) (client : ℕ) (call : Call) (d : Decision State) → d ≡ decide_call s client call → Keeps s d → IsQuiet s → AreEnds s.parked (entered s client call d).ended
 ends-entered s client call (Refuse rule) is keeps quiet = ends-settle s.parked (length s.parked) s (λ test none. none)
 ends-entered s client call Wait is keeps quiet = subst (AreEnds s.parked) (sym (ends_none s client call Wait is quiet refl)) tt
 ends-entered s client call (Grant answer new) is keeps quiet = ends-granted s new call keeps.0
+
+-- an end among fewer is one among all
+ends-fewer : (ws vs : List Waiting) → AreAmong ws vs → (es : List Ended) → AreEnds vs es → AreEnds ws es
+ends-fewer ws vs among [] ends = tt
+ends-fewer ws vs among (e ∷ es) ends = (
+  ⊎_elim
+      (λ (yes : is_end_of ws e ≡ true). yes)
+      (λ (no : is_end_of ws e ≡ false). absurd (true≢false (sym ends.0 ∙ among (λ w. w.client == e.client && can_end w.call e.outcome) no)))
+      (cases_Bool (is_end_of ws e)),
+  ends-fewer ws vs among es ends.1,
+)
 
 -- as a property of each element
 all-ends : (ws : List Waiting) (es : List Ended) → AreEnds ws es → All (λ e. is_end_of ws e ≡ true) es
@@ -262,6 +275,13 @@ all-ends ws (e ∷ es) ends = All-cons (λ f. is_end_of ws f ≡ true) e es ends
 
 pub others_end : (h : History) (e : Event) → All (λ told. is_end_of (run h).parked told ≡ true) (next_step h e).ended
 others_end h e =
-    let s = at_time (run h) e.now in
-    all-ends (run h).parked (next_step h e).ended
-    (ends-entered s e.client e.call (decide s e.client e.call) refl (Keeps-decide s e.client e.call) (quiet-at_time (run h) e.now (quiet-run h)))
+    let was = run h in
+    let s = begun was e.now in
+    let rule = expired (at_time was e.now) in
+    let fewer : AreAmong was.parked s.parked = among-filter was.parked (λ w. is_none (rule w)) was.parked (λ test none. none) in
+    let d = decide_call s e.client e.call in
+    let first = (expire (at_time was e.now)).ended in
+    let rest = (entered s e.client e.call d).ended in
+    all-ends was.parked (first ++ rest)
+    (ends-append was.parked first rest (ends-cancelled was.parked rule was.parked (λ test none. none))
+    (ends-fewer was.parked s.parked fewer rest (ends-entered s e.client e.call d refl (Keeps-call s e.client e.call) (quiet-begun h e.now))))

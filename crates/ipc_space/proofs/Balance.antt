@@ -14,9 +14,9 @@ use Rattle.ipc_call.specs.declared.replies.Ended.{Ended}
 use Rattle.ipc_call.specs.declared.rules.Rule.{Rule}
 use Rattle.ipc_model.specs.State.{State, opening, is_waiting}
 use Rattle.ipc_model.specs.Decision.{Decision, Refuse, Wait, Grant, proceeds}
-use Rattle.ipc_model.specs.Decide.{decide}
+use Rattle.ipc_model.specs.Decide.{decide, decide_call}
 use Rattle.ipc_model.specs.Cancelled.{cancelled}
-use Rattle.ipc_model.specs.Step.{Event, Moved, Stepped, at_time, end_waiting, ended_by, first_ready, cancelled_by, is_ready, settle, settle_from, settled, state_by, step, told_cancelled, without}
+use Rattle.ipc_model.specs.Step.{Event, Moved, Stepped, at_time, begun, expire, expired, waiting_as, end_waiting, ended_by, first_ready, cancelled_by, is_ready, settle, settle_from, settled, state_by, step, told_cancelled, without}
 use Rattle.ipc_model.specs.Decision.{Outcome, outcome_of}
 use Rattle.ipc_history.specs.History.{AreLegalFrom, History, IsLegal, IsLegalAt, Told, answers_from, answers, next_step, own, replies, reply_of, run, run_from, told_by, told_ended, told_own, with_event}
 use Rattle.ipc_call.specs.declared.replies.Reply.{Reply}
@@ -24,9 +24,14 @@ use Rattle.ipc_space.specs.Telling.{told_to, told_of, replies_in}
 use Rattle.ipc_model.proofs.Calls.{Keeps-decide, parked_alike}
 use Rattle.ipc_model.proofs.Growing.{Keeps}
 use Rattle.ipc_model.proofs.Keeping.{Follows-step}
+use Rattle.ipc_space.proofs.Histories.{clients-run}
 use Rattle.ipc_parked.specs.Parked.{AreApart}
 use Rattle.ipc_namespace.proofs.Own.{At, found-at, others}
 use Rattle.ipc_space.proofs.Once.{apart-cancelled_by, apart-end_waiting, apart-state_by, apart-run, apart-step, none_apart}
+use Rattle.ipc_model.proofs.Late.{Keeps-call}
+use Rattle.ipc_namespace.proofs.Parked.{list_any-filter, apart-filter}
+use Rattle.ipc_space.proofs.Alone.{waits_alone}
+use Rattle.ipc_space.specs.Spaces.{other_replies}
 
 -- how many calls of the client wait
 abbrev pub waits_of : ℕ → List Waiting → ℕ
@@ -95,7 +100,7 @@ even-settle r (suc n) s apart = even-settle_from r n (even-settle r n) s (first_
 
 even-state_by : (r : ℕ) (s : State) (client : ℕ) (call : Call) (d : Decision State) → Keeps s d → waits_of r (state_by s client call d).parked + own_told r client (outcome_of d) ≡ waits_of r s.parked + cond (client == r) 1 0
 even-state_by r s client call (Refuse rule) keeps = refl
-even-state_by r s client call Wait keeps = let one = waits-append r s.parked (record { client = client; call = call } ∷ []) in omega (arith, one)
+even-state_by r s client call Wait keeps = let one = waits-append r s.parked (waiting_as s client call ∷ []) in omega (arith, one)
 even-state_by r s client call (Grant answer new) keeps = let same = ap (waits_of r) keeps.0 in omega (arith, same)
 
 even-cancelled_by : (r : ℕ) (s : State) (call : Call) (d : Decision State) → IsEven r s (cancelled_by s call d)
@@ -106,14 +111,18 @@ even-cancelled_by r s call (Grant answer new) = cancel-all r (cancelled s call) 
 -- an event: its own call is told or waits, and what leaves the list is told
 pub even-step : (r : ℕ) (s : State) (e : Event) → IsLegalAt s e → AreApart s.parked → waits_of r (step s e).state.parked + (own_told r e.client (step s e).own + ends_of r (step s e).ended) ≡ waits_of r s.parked + cond (e.client == r) 1 0
 even-step r s e legal apart =
-    let now = at_time s e.now in
-    let d = decide now e.client e.call in
+    let now = begun s e.now in
+    let early = (expire (at_time s e.now)).ended in
+    let stays : Waiting → Bool = λ w. is_none (expired (at_time s e.now) w) in
+    let expires = cancel-all r (expired (at_time s e.now)) s.parked in
+    let d = decide_call now e.client e.call in
     let by = state_by now e.client e.call d in
     let m = cancelled_by by e.call d in
-    let first = even-state_by r now e.client e.call d (Keeps-decide now e.client e.call) in
-    let left = apart-cancelled_by by e.call d (apart-state_by now e.client e.call d (Keeps-decide now e.client e.call) legal.free apart) in
+    let first = even-state_by r now e.client e.call d (Keeps-call now e.client e.call) in
+    let left = apart-cancelled_by by e.call d (apart-state_by now e.client e.call d (Keeps-call now e.client e.call) (list_any-filter (λ w. w.client == e.client) stays s.parked legal.free) (apart-filter stays s.parked apart)) in
     let rest = even-then r by m (settled m.state) (even-cancelled_by r by e.call d) (even-settle r (length m.state.parked) m.state left) in
-    omega (arith, first, rest)
+    let both = ends-append r early (m.ended ++ (settled m.state).ended) in
+    omega (arith, expires, first, rest, both)
 
 abbrev pub tolds_of : ℕ → List Told → ℕ
 tolds_of r ts = length (filter (λ (t : Told). t.client == r) ts)
@@ -235,6 +244,32 @@ told_once h e r legal =
     let step_few = few-step r (run h) e before.1 (apart-run h before.0) few in
     let count = told_count h e r in omega (arith, step_few, count)
 
+-- the event's own client is none of the others that it tells
+caller-ends : (h : History) (e : Event) (o : Option Outcome) → IsLegal (with_event h e) → (next_step h e).own ≡ o → ends_of e.client (next_step h e).ended ≡ 0
+caller-ends h e None legal is =
+    let none = none_waits e.client (run h).parked (legal_before h e legal).1.free in
+    let all = cancel-all e.client (expired (at_time (run h) e.now)) (run h).parked in
+    let same = ap (ends_of e.client) (waits_alone h e is) in
+    omega (arith, none, all, same)
+caller-ends h e (Some o) legal is =
+    let before = legal_before h e legal in
+    let none = none_waits e.client (run h).parked before.1.free in
+    let even = even-step e.client (run h) e before.1 (apart-run h before.0) in
+    let own = ap (own_told e.client e.client) is in
+    let one = ap {B = ℕ} (λ b. cond b 1 0) (eq-eqb e.client e.client refl) in
+    omega (arith, none, even, own, one)
+
+none_of : {X : Type 0} (l : List X) → length l ≡ 0 → l ≡ []
+none_of [] few = refl
+none_of (x ∷ l) few = absurd (omega (arith, few))
+
+pub caller-apart : (h : History) (e : Event) (place : ℕ) → IsLegal (with_event h e) → replies_in (other_replies place (next_step h e).ended) e.client ≡ []
+caller-apart h e place legal =
+    let ended = (next_step h e).ended in
+    let told = told_ended place 1 ended in
+    let few : tolds_of e.client told ≡ 0 = tolds-ended e.client place 1 ended ∙ caller-ends h e (next_step h e).own legal refl in
+    in-told e.client told ∙ ap (map reply_of) (none_of (filter (λ (t : Told). t.client == e.client) told) few)
+
 -- and none but clients of the namespace
 abbrev NoneWait : ℕ → State → Type 0
 NoneWait n s = (r : ℕ) → n ≤ r → waits_of r s.parked ≡ 0
@@ -245,17 +280,10 @@ none-step n s e known legal apart none r above =
     let other = ap {B = ℕ} (λ b. cond b 1 0) (ne_eqb e.client r (λ same. absurd (omega (arith, same, known, above)))) in
     let was = none r above in omega (arith, even, other, was)
 
-clients-step : (s : State) (e : Event) → (step s e).state.clients ≡ s.clients
-clients-step s e = (Follows-step s e).clients
-
-pub clients-run : (s : State) (es : List Event) → (run_from s es).clients ≡ s.clients
-clients-run s [] = refl
-clients-run s (e ∷ es) = clients-run (step s e).state es ∙ clients-step s e
-
 none-run : (s : State) (es : List Event) → AreLegalFrom s es → AreApart s.parked → NoneWait (length s.clients) s → NoneWait (length s.clients) (run_from s es)
 none-run s [] legal apart none = none
 none-run s (e ∷ es) legal apart none =
-    let same = ap length (clients-step s e) in
+    let same = (Follows-step s e).clients in
     let later : NoneWait (length (step s e).state.clients) (step s e).state = λ r above. (let now = none-step (length s.clients) s e legal.0.known legal.0 apart none r (omega (arith, same, above)) in omega (arith, now)) in
     λ r above. none-run (step s e).state es legal.1 (apart-step s e legal.0 apart) later r (omega (arith, same, above))
 
@@ -275,7 +303,7 @@ pub told_known : (h : History) (e : Event) → IsLegal (with_event h e) → All 
 told_known h e legal =
     let before = legal_before h e legal in
     let start = opening h.limits h.clients in
-    let same = ap length (clients-run start h.events) in
+    let same = clients-run start h.events in
     let known = before.1.known in
     all_known (length h.clients) (told_of h e) (λ r above. let now = none-step (length h.clients) (run h) e (omega (arith, same, known)) before.1 (apart-run h before.0) (none-run start h.events before.0 none_apart (λ q far. refl)) r above in let count = told_count h e r in omega (arith, now, count))
 

@@ -3,14 +3,24 @@ use Rattle.std.proofs.Common.{◌≡◌, ℕ, suc, ◌+◌, ◌≤◌, List, [],
 use Rattle.std.proofs.lemmas.List.{map-append}
 use Rattle.ipc_call.specs.declared.replies.JournalRow.{JournalRow}
 use Rattle.ipc_call.specs.declared.replies.JournalRow.TheVariants.{Called, Answered}
+use Rattle.ipc_creds.specs.Credentials.{Credentials}
 use Rattle.ipc_model.specs.State.{State, opening}
 use Rattle.ipc_model.specs.Step.{Event, Stepped, step}
+use Rattle.ipc_model.proofs.Keeping.{Follows-step}
 use Rattle.ipc_history.specs.History.{AreLegalFrom, History, IsLegal, IsLegalAt, Told, answered_row, rows_by, rows_from, rows_of, run, run_from, told_by, told_ended, told_own, with_event}
 use Rattle.ipc_space.specs.Spaces.{IsOfHistory, events_in, history_in}
 
 run_from-push : (s : State) (es : List Event) (e : Event) → run_from s (es ++ e ∷ []) ≡ (step (run_from s es) e).state
 run_from-push s [] e = refl
 run_from-push s (x ∷ es) e = run_from-push (step s x).state es e
+
+-- there are always as many clients
+pub clients-run : (s : State) (es : List Event) → length (run_from s es).clients ≡ length s.clients
+clients-run s [] = refl
+clients-run s (e ∷ es) = clients-run (step s e).state es ∙ (Follows-step s e).clients
+
+pub clients-reached : (s : State) (clients : List Credentials) (journal : List JournalRow) (count : ℕ) → IsOfHistory s clients journal count → length s.clients ≡ length clients
+clients-reached s clients journal count is = ap (λ (t : State). length t.clients) is.state ∙ clients-run (opening s.limits clients) (events_in journal)
 
 pub legal-push : (s : State) (es : List Event) (e : Event) → AreLegalFrom s es → IsLegalAt (run_from s es) e → AreLegalFrom s (es ++ e ∷ [])
 legal-push s [] e legal here = (here, tt)
@@ -55,15 +65,15 @@ rows_by-entered rows place e stepped =
     ∙ ap (λ answers. rows ++ (call ++ answers)) (sym (map-append answered_row own others))
 
 -- after one more event the state and the journal are those of the longer history
-pub IsOfHistory-push : (s : State) (journal longer : List JournalRow) (count : ℕ) (e : Event) (stepped : Stepped)
-    → IsOfHistory s journal count → IsLegalAt s e → step s e ≡ stepped → stepped.state.limits ≡ s.limits → stepped.state.clients ≡ s.clients → longer ≡ journal ++ rows_by (count + 1) e stepped
-    → IsOfHistory stepped.state longer (count + 1) × (history_in stepped.state longer ≡ with_event (history_in s journal) e)
-IsOfHistory-push s journal longer count e stepped is legal steps limits clients rows =
-    let h = history_in s journal in
+pub IsOfHistory-push : (s : State) (clients : List Credentials) (journal longer : List JournalRow) (count : ℕ) (e : Event) (stepped : Stepped)
+    → IsOfHistory s clients journal count → IsLegalAt s e → step s e ≡ stepped → stepped.state.limits ≡ s.limits → longer ≡ journal ++ rows_by (count + 1) e stepped
+    → IsOfHistory stepped.state clients longer (count + 1) × (history_in stepped.state.limits clients longer ≡ with_event (history_in s.limits clients journal) e)
+IsOfHistory-push s clients journal longer count e stepped is legal steps limits rows =
+    let h = history_in s.limits clients journal in
     let start = opening h.limits h.clients in
     let events : events_in longer ≡ h.events ++ e ∷ [] =
     ap events_in rows ∙ events_in-append journal (rows_by (count + 1) e stepped) ∙ ap (λ es. h.events ++ (e ∷ es)) (events_in-answered (told_by e.client (count + 1) stepped)) in
-    let longer_now : history_in stepped.state longer ≡ with_event h e = λ i. record { limits = limits i; clients = clients i; events = events i } in
+    let longer_now : history_in stepped.state.limits clients longer ≡ with_event h e = λ i. record { limits = limits i; clients = clients; events = events i } in
     let runs : step (run h) e ≡ stepped = ap (λ (x : State). step x e) (sym is.state) ∙ steps in
     let reached : stepped.state ≡ run (with_event h e) = sym (ap (λ (x : Stepped). x.state) runs) ∙ sym (run_from-push start h.events e) in
     let place : length h.events + 1 ≡ count + 1 = ap (λ n. n + 1) (sym is.counted) in

@@ -1,19 +1,20 @@
 -- No client waits twice, after any legal history.
-use Rattle.std.proofs.Common.{◌≡◌, ℕ, zero, suc, false, eqb, List, [], ◌∷◌, map, sym, subst, Option, Some, None}
+use Rattle.std.proofs.Common.{◌≡◌, ℕ, zero, suc, false, eqb, List, [], ◌∷◌, map, sym, subst, Option, Some, None, Bool}
 use Rattle.std.specs.Prelude.{◌==◌, not, is_none}
 use Rattle.std.specs.List.{IsDistinct}
 use Rattle.ipc_call.specs.declared.calls.Call.{Call}
 use Rattle.ipc_call.specs.declared.replies.Waiting.{Waiting}
 use Rattle.ipc_model.specs.State.{State, opening, is_waiting}
 use Rattle.ipc_model.specs.Decision.{Decision, Refuse, Wait, Grant}
-use Rattle.ipc_model.specs.Decide.{decide}
+use Rattle.ipc_model.specs.Decide.{decide, decide_call}
 use Rattle.ipc_model.specs.Cancelled.{cancelled}
 use Rattle.ipc_history.specs.History.{AreLegalFrom, History, IsLegal, IsLegalAt, run, run_from}
-use Rattle.ipc_model.specs.Step.{Event, at_time, end_waiting, ended_by, first_ready, cancelled_by, settle, settle_from, state_by, step, without}
+use Rattle.ipc_model.specs.Step.{Event, at_time, begun, expired, waiting_as, end_waiting, ended_by, first_ready, cancelled_by, settle, settle_from, state_by, step, without}
 use Rattle.ipc_parked.specs.Parked.{AreApart}
 use Rattle.ipc_model.proofs.Calls.{Keeps-decide}
 use Rattle.ipc_model.proofs.Growing.{Keeps}
-use Rattle.ipc_namespace.proofs.Parked.{apart-filter, apart-push, distinct}
+use Rattle.ipc_namespace.proofs.Parked.{apart-filter, apart-push, distinct, list_any-filter}
+use Rattle.ipc_model.proofs.Late.{Keeps-call}
 
 apart-ended_by : (s : State) (client : ℕ) (d : Decision State) → Keeps s d → AreApart s.parked → AreApart (ended_by s client d).state.parked
 apart-ended_by s client (Refuse rule) keeps apart = apart
@@ -35,7 +36,7 @@ apart-settle (suc n) s apart = apart-settle_from n (apart-settle n) s (first_rea
 
 pub apart-state_by : (s : State) (client : ℕ) (call : Call) (d : Decision State) → Keeps s d → is_waiting s client ≡ false → AreApart s.parked → AreApart (state_by s client call d).parked
 apart-state_by s client call (Refuse rule) keeps free apart = apart
-apart-state_by s client call Wait keeps free apart = apart-push s.parked (record { client = client; call = call }) apart free
+apart-state_by s client call Wait keeps free apart = apart-push s.parked (waiting_as s client call) apart free
 apart-state_by s client call (Grant answer new) keeps free apart = subst AreApart (sym keeps.0) apart
 
 pub apart-cancelled_by : (s : State) (call : Call) (d : Decision State) → AreApart s.parked → AreApart (cancelled_by s call d).state.parked
@@ -45,11 +46,12 @@ apart-cancelled_by s call (Grant answer new) apart = apart-filter (λ w. is_none
 
 pub apart-step : (s : State) (e : Event) → IsLegalAt s e → AreApart s.parked → AreApart (step s e).state.parked
 apart-step s e legal apart =
-    let now = at_time s e.now in
-    let d = decide now e.client e.call in
+    let now = begun s e.now in
+    let stays : Waiting → Bool = λ w. is_none (expired (at_time s e.now) w) in
+    let d = decide_call now e.client e.call in
     let entered = state_by now e.client e.call d in
     let moved = (cancelled_by entered e.call d).state in
-    apart-settle _ moved (apart-cancelled_by entered e.call d (apart-state_by now e.client e.call d (Keeps-decide now e.client e.call) legal.free apart))
+    apart-settle _ moved (apart-cancelled_by entered e.call d (apart-state_by now e.client e.call d (Keeps-call now e.client e.call) (list_any-filter (λ w. w.client == e.client) stays s.parked legal.free) (apart-filter stays s.parked apart)))
 
 apart-run_from : (s : State) (es : List Event) → AreLegalFrom s es → AreApart s.parked → AreApart (run_from s es).parked
 apart-run_from s [] legal apart = apart

@@ -4,7 +4,7 @@ use Rattle.std.specs.Prelude.{not, pos, int_le, nat_le, nat_lt, option_map}
 use Rattle.std.specs.List.{AllByRecursion}
 use Rattle.std.proofs.lemmas.Bool.{true≢false}
 use Rattle.ipc_call.specs.declared.calls.Call.{Call}
-use Rattle.ipc_call.specs.declared.calls.Call.TheVariants.{MsgSnd, MsgRcv, SemOp}
+use Rattle.ipc_call.specs.declared.calls.Call.TheVariants.{MsgSnd, MsgRcv, SemOp, SemTimedOp}
 use Rattle.ipc_call.specs.declared.calls.SemOper.{SemOper}
 use Rattle.ipc_call.specs.declared.replies.Waiting.{Waiting}
 use Rattle.ipc_call.specs.declared.rules.Rule.{Rule}
@@ -24,13 +24,14 @@ use Rattle.ipc_model.specs.Decide.{can_wait, decide, decide_alive, needs, part_p
 use Rattle.ipc_model.specs.Cancelled.{first_denial, or_later}
 use Rattle.ipc_history.specs.History.{History, run}
 use Rattle.ipc_model.specs.Step.{is_ready}
-use Rattle.ipc_model.specs.Waits.{AreNotReady, ArePermitted}
+use Rattle.ipc_model.specs.Waits.{AreNotReady, ArePermitted, AreInTime}
 use Rattle.ipc_model.specs.Attached.{AreAttached}
 use Rattle.ipc_model.proofs.Calls.{only_parkable}
 use Rattle.ipc_history.proofs.Runs.{attached-run}
-use Rattle.ipc_namespace.proofs.Endings.{operator-needs, receiver-needs, sender-needs}
+use Rattle.ipc_namespace.proofs.Endings.{operator-needs, receiver-needs, sender-needs, timed-needs}
 use Rattle.ipc_namespace.proofs.Own.{found-none}
 use Rattle.ipc_space.proofs.Quiet.{IsQuiet, quiet-run}
+use Rattle.ipc_laws.proofs.Deadlines.{in-time-run}
 
 passes-waits : {X : Type 0} (b : Bool) (rule : Rule) (d : Decision X) → proceeds (cond b d (Refuse rule)) ≡ false → proceeds d ≡ false
 passes-waits true rule d waits = waits
@@ -83,6 +84,16 @@ permitted-alive s client (SemOp id ops) can waits =
     ∙ operator-permitted s.sems who c id ops (set_at s.sems id)
     (passes-waits few TooManyOperations rest (passes-waits (nat_lt 0 (length ops)) NoOperations (cond few rest (Refuse TooManyOperations))
     (sym (proceeds-on c (λ sems. record s { sems = sems }) p) ∙ waits)))
+permitted-alive s client (SemTimedOp id ops timeout) can waits =
+    let c = creds_at s client in
+    let who = caller s client in
+    let p = operate s.limits s.sems who id ops in
+    let rest = decision c (operate_found s.sems who id ops (set_at s.sems id)) in
+    let few = nat_le (length ops) s.limits.sem_opm in
+    ap (λ ns. first_denial c ns) (timed-needs s client id ops timeout)
+    ∙ operator-permitted s.sems who c id ops (set_at s.sems id)
+    (passes-waits few TooManyOperations rest (passes-waits (nat_lt 0 (length ops)) NoOperations (cond few rest (Refuse TooManyOperations))
+    (sym (proceeds-on c (λ sems. record s { sems = sems }) p) ∙ waits)))
 permitted-alive s client call can waits = absurd (true≢false (sym can))
 
 permitted : (s : State) (client : ℕ) (call : Call) → can_wait call ≡ true → proceeds (decide s client call) ≡ false → first_denial (creds_at s client) (needs s client call) ≡ None
@@ -104,3 +115,7 @@ run_permitted h = all-permitted (run h) (run h).parked (run_not_ready h)
 
 pub run_attached : (h : History) → AreAttached (run h).shared
 run_attached h = attached-run h
+
+-- nobody waits past a deadline
+pub run_in_time : (h : History) → AreInTime (run h)
+run_in_time = in-time-run

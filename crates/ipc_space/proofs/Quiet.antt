@@ -1,5 +1,5 @@
 -- After an event no waiting call is ready, and then only a call that is served or waits changes more than the clock.
-use Rattle.std.proofs.Common.{◌≡◌, ℕ, zero, suc, ◌+◌, ◌≤◌, Bool, true, false, List, [], ◌∷◌, length, refl, sym, ap, ◌∙◌, arith, ⊎_elim, Option, Some, None, Err}
+use Rattle.std.proofs.Common.{◌≡◌, ℕ, zero, suc, ◌+◌, ◌≤◌, Bool, true, false, List, [], ◌∷◌, length, refl, sym, ap, ◌∙◌, arith, ⊎_elim, Option, Some, None, Err, append-nil}
 use Rattle.std.specs.Prelude.{◌==◌, not, filter}
 use Rattle.std.specs.List.{find}
 use Rattle.std.proofs.lemmas.Bool.{cases_Bool, eq-eqb, true≢false}
@@ -10,14 +10,15 @@ use Rattle.ipc_call.specs.declared.rules.Rule.{Rule}
 use Rattle.ipc_model.specs.State.{State, opening}
 use Rattle.ipc_model.specs.Decision.{Decision, Refuse, Wait, Grant}
 use Rattle.ipc_model.specs.Decide.{decide}
-use Rattle.ipc_model.specs.Step.{Event, at_time, end_waiting, ended_by, entered, first_ready, is_ready, settle, settle_from, settled, step, without}
+use Rattle.ipc_model.specs.Step.{Event, at_time, begun, expire, after, end_waiting, ended_by, entered, first_ready, is_ready, settle, settle_from, settled, step, without}
 use Rattle.ipc_model.specs.Decision.{outcome_of}
 use Rattle.ipc_history.specs.History.{History, run, run_from, next_step}
 use Rattle.ipc_model.specs.Step.{moved_by}
 use Rattle.ipc_model.proofs.Calls.{Keeps-decide}
 use Rattle.ipc_model.proofs.Growing.{Keeps}
 use Rattle.ipc_namespace.proofs.Own.{others}
-use Rattle.ipc_namespace.proofs.Settling.{quiet-at_time, settled-none}
+use Rattle.ipc_namespace.proofs.Settling.{quiet-at_time, quiet-expire, settled-none}
+use Rattle.ipc_model.specs.Decide.{decide_call}
 
 -- no waiting call is ready
 abbrev pub IsQuiet : State → Type 0
@@ -82,7 +83,7 @@ quiet-settled s = quiet-settle (length s.parked) s (omega arith)
 quiet-run_from : (s : State) (es : List Event) → IsQuiet s → IsQuiet (run_from s es)
 quiet-run_from s [] quiet = quiet
 quiet-run_from s (e ∷ es) quiet =
-    let now = at_time s e.now in quiet-run_from (step s e).state es (quiet-settled (moved_by now e.client e.call).state)
+    let now = begun s e.now in quiet-run_from (step s e).state es (quiet-settled (moved_by now e.client e.call).state)
 
 -- after every history no waiting call is ready
 pub quiet-run : (h : History) → IsQuiet (run h)
@@ -95,7 +96,14 @@ refused-entered s client call (Refuse other) rule quiet own = λ i. record { sta
 refused-entered s client call Wait rule quiet own = absurd (none-some _ own)
 refused-entered s client call (Grant answer new) rule quiet own = cc
 
--- an event whose call is refused moves the clock on, and does nothing else
-pub refused-step : (h : History) (e : Event) (rule : Rule) → (next_step h e).own ≡ Some (Err rule) → next_step h e ≡ record { state = at_time (run h) e.now; own = Some (Err rule); ended = [] }
+-- where an event begins, none is ready
+pub quiet-begun : (h : History) (now : ℕ) → IsQuiet (begun (run h) now)
+quiet-begun h now = quiet-expire (at_time (run h) now) (quiet-at_time (run h) now (quiet-run h))
+
+-- an event whose call is refused moves the clock on and ends the calls whose deadline is reached, and does nothing else
+pub refused-step : (h : History) (e : Event) (rule : Rule) → (next_step h e).own ≡ Some (Err rule) → next_step h e ≡ record { state = begun (run h) e.now; own = Some (Err rule); ended = (expire (at_time (run h) e.now)).ended }
 refused-step h e rule own =
-    let now = at_time (run h) e.now in refused-entered now e.client e.call (decide now e.client e.call) rule (quiet-at_time (run h) e.now (quiet-run h)) own
+    let now = begun (run h) e.now in
+    let first = (expire (at_time (run h) e.now)).ended in
+    ap (after first) (refused-entered now e.client e.call (decide_call now e.client e.call) rule (quiet-begun h e.now) own)
+    ∙ (λ i. record { state = now; own = Some (Err rule); ended = append-nil first i })

@@ -2,8 +2,8 @@
 use Rattle.std.specs.Prelude.{◌==◌, Bool, true, false, ◌&&◌, List, Ok, Err}
 use Rattle.std.specs.List.{list_any}
 use Rattle.ipc_call.specs.declared.calls.Call.{Call}
-use Rattle.ipc_call.specs.declared.calls.Call.TheVariants.{MsgGet, MsgSnd, MsgRcv, SemGet, SemOp, GetVal, GetPid, GetNcnt, GetZcnt, GetAll}
-use Rattle.ipc_call.specs.declared.calls.Call.TheVariants.{SetVal, SetAll, ShmGet, ShmAt, ShmDt, ShmRead, ShmWrite, IpcStat, IpcSet, IpcRmid, Listing, Interrupt, Exit}
+use Rattle.ipc_call.specs.declared.calls.Call.TheVariants.{MsgGet, MsgSnd, MsgRcv, SemGet, SemOp, SemTimedOp, GetVal, GetPid, GetNcnt, GetZcnt, GetAll}
+use Rattle.ipc_call.specs.declared.calls.Call.TheVariants.{SetVal, SetAll, ShmGet, ShmAt, ShmDt, ShmRead, ShmWrite, IpcStat, IpcSet, IpcRmid, Listing, Interrupt, SetCreds, Exit}
 use Rattle.ipc_call.specs.declared.calls.Kind.{Kind}
 use Rattle.ipc_call.specs.declared.calls.Kind.TheVariants as kinds
 use Rattle.ipc_call.specs.declared.replies.Answer.{Answer}
@@ -28,6 +28,7 @@ can_give (MsgSnd id mtype text flags) Done = true
 can_give (MsgRcv id size msgtyp flags) (Message mtype text) = true
 can_give (SemGet key nsems flags) (Id id) = true
 can_give (SemOp id ops) Done = true
+can_give (SemTimedOp id ops timeout) Done = true
 can_give (GetVal id num) (Value value) = true
 can_give (GetPid id num) (Value value) = true
 can_give (GetNcnt id num) (Value value) = true
@@ -45,6 +46,7 @@ can_give (IpcSet kind id uid gid mode qbytes) Done = true
 can_give (IpcRmid kind id) Done = true
 can_give (Listing kind) (Rows rows) = true
 can_give (Interrupt pid) Done = true
+can_give (SetCreds euid egid groups) Done = true
 can_give Exit Done = true
 can_give call answer = false
 

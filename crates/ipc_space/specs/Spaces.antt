@@ -1,10 +1,12 @@
 -- The history that a state and a journal mean, and the replies of one event.
 use Rattle.std.specs.Prelude.{◌≡◌, ℕ, List, [], ◌∷◌, length, map, Option, option_map}
+use Rattle.ipc_call.specs.declared.limits.Limits.{Limits}
 use Rattle.ipc_call.specs.declared.replies.Ended.{Ended}
 use Rattle.ipc_call.specs.declared.replies.JournalRow.{JournalRow}
 use Rattle.ipc_call.specs.declared.replies.JournalRow.TheVariants.{Called, Answered}
 use Rattle.ipc_call.specs.declared.replies.Reply.{Reply}
 use Rattle.ipc_call.specs.declared.replies.Reply.TheVariants.{Entered}
+use Rattle.ipc_creds.specs.Credentials.{Credentials}
 use Rattle.ipc_model.specs.State.{State}
 use Rattle.ipc_model.specs.Step.{Event}
 use Rattle.ipc_model.specs.Decision.{Outcome}
@@ -19,14 +21,15 @@ abbrev pub events_in : List JournalRow → List Event
 events_in [] = []
 events_in (row ∷ rows) = event_in row (events_in rows)
 
-abbrev pub history_in : State → List JournalRow → History
-history_in s rows = record { limits = s.limits; clients = s.clients; events = events_in rows }
+-- a journal's history, from these limits and credentials on
+abbrev pub history_in : Limits → List Credentials → List JournalRow → History
+history_in limits clients rows = record { limits = limits; clients = clients; events = events_in rows }
 
--- the state, the journal and the count of events are those of a legal history
-pub record IsOfHistory (s : State) (journal : List JournalRow) (events : ℕ) : Type 0 where
-  pub state : s ≡ run (history_in s journal)
-  pub rows : journal ≡ rows_of (history_in s journal)
-  pub legal : IsLegal (history_in s journal)
+-- the state, the journal and the count of events are those of a legal history that began with these credentials
+pub record IsOfHistory (s : State) (clients : List Credentials) (journal : List JournalRow) (events : ℕ) : Type 0 where
+  pub state : s ≡ run (history_in s.limits clients journal)
+  pub rows : journal ≡ rows_of (history_in s.limits clients journal)
+  pub legal : IsLegal (history_in s.limits clients journal)
   pub counted : events ≡ length (events_in journal)
 
 -- the reply to an event's own call, where it didn't wait

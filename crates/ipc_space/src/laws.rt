@@ -10,7 +10,7 @@ ghost use Rattle.ipc_call.specs.declared.replies.Answer.{Answer as AnswerOf};
 ghost use Rattle.ipc_history.specs.Access.{AreMet, IsDenied, caller_of, checks_of, needs_of};
 ghost use Rattle.ipc_model.specs.Decide.{can_wait};
 ghost use Rattle.ipc_model.specs.Plan.{is_denial};
-ghost use Rattle.ipc_model.specs.Step.{Event, Stepped, at_time};
+ghost use Rattle.ipc_model.specs.Step.{Event, Stepped, at_time, begun, expire};
 ghost use Rattle.ipc_model.specs.State.{is_waiting};
 ghost use Rattle.ipc_history.specs.History.{History, IsLegal, run, own, replies, with_event, next_step};
 ghost use Rattle.ipc_space.specs.Answers.{can_give, is_end_of};
@@ -19,7 +19,7 @@ ghost use Rattle.ipc_history.specs.Made.{made};
 ghost use Rattle.ipc_model.specs.Attached.{AreAttached};
 ghost use Rattle.ipc_model.specs.Waits.{AreNotReady, ArePermitted, WaitOnce};
 
-pub use ipc_laws::two_worlds;
+pub use ipc_laws::{settling_reads_deadlines, two_worlds, waiting_calls_are_in_time};
 
 /// No identifier is given to two objects of one kind: of the objects of a kind that the events of a history
 /// made, each has another identifier than all before it. A get that finds its key makes none. That an
@@ -28,10 +28,11 @@ pub fn ids_once()
     ensures { (kind : KindOf) (h : History) → are_in_range h.limits ≡ true → IsLegal h → IsDistinct (λ a b. a == b) (made kind h) }
 {}
 
-/// A call that is refused moves the clock on and changes nothing else: no object, and no call that waits.
+/// A call that is refused moves the clock on, which ends the calls whose deadline is reached, and changes nothing else: no
+/// object, and no other call that waits.
 pub fn refused_calls_change_nothing()
     ensures { (h : History) (e : Event) (rule : RuleOf) → IsLegal h → (next_step h e).own ≡ Some (Err rule)
-        → next_step h e ≡ record { state = at_time (run h) e.now; own = Some (Err rule); ended = [] } }
+        → next_step h e ≡ record { state = begun (run h) e.now; own = Some (Err rule); ended = (expire (at_time (run h) e.now)).ended } }
 {}
 
 /// No waiting call is ready or unpermitted after a call: after every history each call that waits would still
@@ -79,7 +80,7 @@ pub fn an_event_tells_each_client_once()
     ensures known { (h : History) (e : Event) → IsLegal (with_event h e) → All (λ told. told.0 < length h.clients) (told_of h e) }
 {}
 
-/// An event whose own call waits ends no call.
+/// An event whose own call waits ends no call but those whose deadline it reaches.
 pub fn a_call_that_waits_ends_no_other()
-    ensures { (h : History) (e : Event) → (next_step h e).own ≡ None → (next_step h e).ended ≡ [] }
+    ensures { (h : History) (e : Event) → (next_step h e).own ≡ None → (next_step h e).ended ≡ (expire (at_time (run h) e.now)).ended }
 {}

@@ -25,11 +25,12 @@ ghost use Rattle.ipc_model.specs.Step.{Stepped};
 ghost use Rattle.ipc_history.specs.History.{run, rows_of, rows_by, IsLegal, with_event, next_step, told_own, told_ended, answered_row, rule_in};
 ghost use Rattle.ipc_model.specs.Attached.{AreAttached};
 ghost use Rattle.ipc_model.specs.Listings.{lines_of};
-ghost use Rattle.ipc_model.specs.Waits.{AreNotReady, ArePermitted, WaitOnce};
+ghost use Rattle.ipc_model.specs.Waits.{AreInTime, AreNotReady, ArePermitted, WaitOnce};
 ghost use Rattle.ipc_space.specs.Spaces.{own_reply, other_replies};
+ghost use Rattle.ipc_space.specs.Telling.{replies_in};
 
 use ipc_call::{Call, Ended, JournalRow, Limits, Memory, Outcome, Reply, Row, Rule};
-use ipc_creds::Creds;
+use ipc_creds::{Creds, copies};
 use ipc_journal::Journal;
 use ipc_namespace::Namespace;
 use std::marker::Model;
@@ -50,6 +51,8 @@ pub struct Effects {
 /// has served since it was opened, from which all else follows.
 #[derive(Debug, Drop)]
 pub struct Space {
+    /// The credentials of the clients at the start. Those that they have now are the namespace's.
+    opening: Vec<Creds>,
     namespace: Namespace,
     journal: Journal,
     events: u64,
@@ -65,15 +68,16 @@ impl Model for Space {
 
     ghost Value = { History };
 
-    ghost view = { λ s. history_in s.namespace s.journal.rows };
+    ghost view = { λ s. history_in s.namespace.limits s.opening.items s.journal.rows };
 
-    ghost invariant = { λ s. IsOfHistory s.namespace s.journal.rows s.events × (s.ended.items ≡ []) × (s.others.items ≡ []) };
+    ghost invariant = { λ s. IsOfHistory s.namespace s.opening.items s.journal.rows s.events × (s.ended.items ≡ []) × (s.others.items ≡ []) };
 }
 
 impl Space {
     /// A namespace with these limits, each in its range, and 1 to 64 clients, numbered from 0 in the
     /// order of their credentials. It has no object, no waiting call and an empty journal, and its clock
-    /// is at 0. Memory (ENOMEM) is for an allocation that was refused; as yet none is made.
+    /// is at 0. Memory (ENOMEM) comes where an allocation fails: the credentials are kept twice, as they are at the start
+    /// and as calls change them.
     pub fn start(limits: Limits, clients: Vec<Creds>) -> Result<Space, Memory>
         requires limits { IsTrue (are_in_range limits) }
         requires some { 1 ≤ vec_len clients }
@@ -81,7 +85,9 @@ impl Space {
         ensures { IfOk result (λ space. space ≡ record { limits = limits; clients = clients.items; events = [] }) }
     {
         let alloc = *clients.allocator();
+        let opening = copies(alloc, clients.as_slice())?;
         Ok(Space {
+            opening,
             namespace: Namespace::new(limits, clients),
             journal: Journal::new(alloc),
             events: 0,
@@ -91,11 +97,11 @@ impl Space {
     }
 
     /// Serves a call of a client at a time in seconds, as the next event. The client is one of the
-    /// namespace, and has no call that waits. A call that waits ends no other. Afterwards no waiting call is
-    /// ready, each one's client has the rights that it needs, no client waits twice, and each segment that is marked for
-    /// removal has an attachment. Memory (ENOMEM) comes where a growth was refused, and then nothing has changed, the
+    /// namespace, and has no call that waits; it is none of the others that the event tells. Afterwards no waiting call is
+    /// ready, each one's client has the rights that it needs, its deadline is above the clock, no client waits twice, and
+    /// each segment that is marked for removal has an attachment. Memory (ENOMEM) comes where a growth was refused, and then nothing has changed, the
     /// clock and the journal included.
-    #[tactic(auto, using(crate::proofs::Permitted::run_not_ready, crate::proofs::Permitted::run_permitted, crate::proofs::Permitted::run_attached, crate::proofs::Once::waits_once))]
+    #[tactic(auto, using(crate::proofs::Permitted::run_not_ready, crate::proofs::Permitted::run_permitted, crate::proofs::Permitted::run_in_time, crate::proofs::Permitted::run_attached, crate::proofs::Once::waits_once))]
     pub fn apply(&mut self, client: u32, now: u64, call: Call) -> Result<Effects, Memory>
         requires known { client < length self.old.clients }
         requires free { waits (run self.old) client ≡ false }
@@ -105,17 +111,18 @@ impl Space {
             effects.own ≡ own_reply (length self.old.events + 1) (next_step self.old (record { client = client; now = now; call = call })).own) }
         ensures others { IfOk result (λ effects.
             effects.others.items ≡ other_replies (length self.old.events + 1) (next_step self.old (record { client = client; now = now; call = call })).ended) }
-        ensures alone { IfOk result (λ effects. effects.own ≡ None → effects.others.items ≡ []) }
+        ensures apart { IfOk result (λ effects. replies_in effects.others.items client ≡ []) }
         ensures legal { IsLegal self.new }
         ensures not_ready { AreNotReady (run self.new) }
         ensures permitted { ArePermitted (run self.new) }
+        ensures in_time { AreInTime (run self.new) }
         ensures once { WaitOnce (run self.new) }
         ensures attached { AreAttached (run self.new).shared }
         ensures err { OnErr result (self.new ≡ self.old) }
     {
         let most = self.namespace.most_ended();
         self.journal.reserve(most + 2)?;
-        self.ended.reserve(most)?;
+        self.ended.reserve(most + 1)?;
         self.others.reserve(most)?;
         let place = self.events + 1;
         let outcome = self
@@ -135,6 +142,14 @@ impl Space {
         ensures few { result ≤ 64 }
     {
         self.namespace.clients()
+    }
+
+    /// The credentials of the clients at the start, by which the journal is replayed. Calls that change credentials leave
+    /// them as they were.
+    pub fn opening(&self) -> &[Creds]
+        ensures { result.now ≡ self.now.clients }
+    {
+        self.opening.as_slice()
     }
 
     /// The number of events.

@@ -1,7 +1,7 @@
--- Lists of groups and of capabilities, field by field.
-use Rattle.std.proofs.Common.{◌≡◌, ℕ, List, [], ◌∷◌, ◌++◌, length, refl, suc, Bor}
-use Rattle.std.specs.Prelude.{Option, Some, None, MatchOption, option_map, option_and_then, bit_or}
-use Rattle.ipc_text.specs.Grammar.{at_most_32, capability_named, numbers_32, with_capabilities}
+-- Lists of numbers and of capabilities, field by field.
+use Rattle.std.proofs.Common.{◌≡◌, ℕ, List, [], ◌∷◌, length, refl, suc, Bor}
+use Rattle.std.specs.Prelude.{Option, Some, None, MatchOption, bit_or}
+use Rattle.ipc_text.specs.Grammar.{capability_named, with_capabilities}
 use Rattle.ipc_words.specs.Words.{fields_of}
 
 -- the fields of what is left of a list, and a number that falls from field to field
@@ -12,10 +12,6 @@ fields_left (Some text) = fields_of 44 text.now
 abbrev pub bytes_left : Option (Bor (List ℕ)) → ℕ
 bytes_left None = 0
 bytes_left (Some text) = suc (length text.now)
-
--- the groups so far with those of the fields
-abbrev pub with_groups : List ℕ → List (List ℕ) → Option (List ℕ)
-with_groups groups fields = option_and_then at_most_32 (option_map (λ ns. groups ++ ns) (numbers_32 fields))
 
 -- the first field of what is left, and the rest
 pub fields_left-cons : (text field : List ℕ) (others : Option (Bor (List ℕ))) → MatchOption others (fields_of 44 text ≡ field ∷ []) (λ rest. fields_of 44 text ≡ field ∷ fields_of 44 rest.now) → fields_of 44 text ≡ field ∷ fields_left others

@@ -2,10 +2,11 @@
 use Rattle.std.specs.Prelude.{ℕ, List, [], ◌∷◌, codes, bytes_eq, nat_eq, Option, Some, None, if◌then◌else◌, option_map}
 use Rattle.std.specs.List.{starts_with}
 use Rattle.ipc_call.specs.declared.calls.Call.{Call}
-use Rattle.ipc_call.specs.declared.calls.Call.TheVariants.{MsgGet, MsgSnd, MsgRcv, IpcStat, IpcSet, IpcRmid, Interrupt, Exit}
+use Rattle.ipc_call.specs.declared.calls.Call.TheVariants.{MsgGet, MsgSnd, MsgRcv, IpcStat, IpcSet, IpcRmid}
+use Rattle.ipc_call.specs.declared.calls.Call.TheVariants.{Interrupt, SetCreds, Exit}
 use Rattle.ipc_call.specs.declared.calls.Kind.{Kind}
 use Rattle.ipc_call.specs.declared.calls.Kind.TheVariants.{Queue, Sems, Segment}
-use Rattle.ipc_text.specs.Grammar.{of_four, of_one, of_two}
+use Rattle.ipc_text.specs.Grammar.{number_list, of_first_two, of_four, of_one, of_two, only, optional, two_numbers}
 use Rattle.ipc_words.specs.Numbers.{number_32, number_64, signed_64}
 use Rattle.ipc_words.specs.Steps.{◌>>=◌}
 use Rattle.ipc_text.specs.Segments.{segment_call_of}
@@ -91,6 +92,24 @@ set_of (kind ∷ id ∷ uid ∷ gid ∷ mode ∷ rest) = set_words kind id uid g
 abbrev pub interrupt_of : List (List ℕ) → Option Call
 interrupt_of words = option_map (λ p. Interrupt p) (of_one number_32 words)
 
+-- the groups in place of others: - for none, or a list of them
+abbrev pub new_groups : List ℕ → Option (List ℕ)
+new_groups text = if bytes_eq text (codes "-") then Some [] else number_list text
+
+-- [groups=G,G,..] or groups=-, and the words behind it; None where the groups are kept
+abbrev pub groups_option : List (List ℕ) → Option (Option (List ℕ) × List (List ℕ))
+groups_option words = optional (codes "groups=") (λ text. option_map (λ gs. Some gs) (new_groups text)) None words
+
+abbrev pub setcreds_words : List ℕ → List ℕ → List (List ℕ) → Option Call
+setcreds_words euid egid options = do
+  ids ← two_numbers euid egid
+  groups ← groups_option options
+  only (SetCreds ids.0 ids.1 groups.0) groups.1
+
+-- EUID EGID [groups=G,G,..]
+abbrev pub setcreds_of : List (List ℕ) → Option Call
+setcreds_of words = of_first_two setcreds_words words
+
 -- without arguments
 abbrev pub exit_of : List (List ℕ) → Option Call
 exit_of [] = Some Exit
@@ -105,7 +124,8 @@ object_call_of word words =
 abbrev pub process_of : List ℕ → List (List ℕ) → Option Call
 process_of word words =
     if bytes_eq word (codes "interrupt") then interrupt_of words
-    else (if bytes_eq word (codes "exit") then exit_of words else object_call_of word words)
+    else (if bytes_eq word (codes "setcreds") then setcreds_of words
+    else (if bytes_eq word (codes "exit") then exit_of words else object_call_of word words))
 
 -- the word of a control of an object of any kind or of another call that isn't on a queue alone, and its arguments
 unfoldable pub control_of : List ℕ → List (List ℕ) → Option Call

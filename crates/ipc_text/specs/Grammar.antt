@@ -1,6 +1,7 @@
 -- What the words behind a directive say; None where they aren't in the grammar.
 use Rattle.std.specs.Prelude.{ℕ, List, [], ◌∷◌, length, nat_le, codes, bytes_eq, bit_or, Option, Some, None, if◌then◌else◌, option_map}
-use Rattle.ipc_creds.specs.Credentials.{Credentials, cap_ipc_owner, cap_sys_admin, cap_sys_resource}
+use Rattle.ipc_creds.specs.Credentials.{Credentials, cap_ipc_owner}
+use Rattle.ipc_creds.specs.Credentials.{cap_setgid, cap_setuid, cap_sys_admin, cap_sys_resource}
 use Rattle.ipc_call.specs.declared.limits.Limit.{Limit}
 use Rattle.ipc_text.specs.Names.{name_of}
 use Rattle.ipc_words.specs.Numbers.{number_32, number_64}
@@ -27,6 +28,10 @@ abbrev pub of_first : {A : Type 0} → (List ℕ → List (List ℕ) → Option 
 of_first read [] = None
 of_first read (first ∷ others) = read first others
 
+-- what the first two words and those behind them write together; None where there are fewer
+abbrev pub of_first_two : {A : Type 0} → (List ℕ → List ℕ → List (List ℕ) → Option A) → List (List ℕ) → Option A
+of_first_two read words = of_first (λ first. of_first (read first)) words
+
 -- what so many words write together; None where they aren't so many
 abbrev pub of_two : {A : Type 0} → (List ℕ → List ℕ → Option A) → List (List ℕ) → Option A
 of_two read words = of_first (λ first. of_one (read first)) words
@@ -37,22 +42,35 @@ of_three read words = of_first (λ first. of_two (read first)) words
 abbrev pub of_four : {A : Type 0} → (List ℕ → List ℕ → List ℕ → List ℕ → Option A) → List (List ℕ) → Option A
 of_four read words = of_first (λ first. of_three (read first)) words
 
+-- each of two words is a number
+abbrev pub two_numbers : List ℕ → List ℕ → Option (ℕ × ℕ)
+two_numbers first second = do
+  n ← number_32 first
+  m ← number_32 second
+  Some (n, m)
+
 -- each of the words is a number
 abbrev pub numbers_32 : List (List ℕ) → Option (List ℕ)
 numbers_32 words = each_of number_32 words
 
+-- numbers, one at least, which commas (byte 44) separate
+unfoldable pub number_list : List ℕ → Option (List ℕ)
+number_list text = numbers_32 (fields_of 44 text)
+
 abbrev pub at_most_32 : List ℕ → Option (List ℕ)
 at_most_32 groups = if nat_le (length groups) 32 then Some groups else None
 
--- 1 to 32 groups, which commas (byte 44) separate
-unfoldable pub group_list : List ℕ → Option (List ℕ)
-group_list text = numbers_32 (fields_of 44 text) >>= at_most_32
+-- 1 to 32 groups
+abbrev pub group_list : List ℕ → Option (List ℕ)
+group_list text = number_list text >>= at_most_32
 
 unfoldable pub capability_named : List ℕ → Option ℕ
 capability_named word =
     if bytes_eq word (codes "IPC_OWNER") then Some cap_ipc_owner
     else (if bytes_eq word (codes "SYS_ADMIN") then Some cap_sys_admin
-    else (if bytes_eq word (codes "SYS_RESOURCE") then Some cap_sys_resource else None))
+    else (if bytes_eq word (codes "SYS_RESOURCE") then Some cap_sys_resource
+    else (if bytes_eq word (codes "SETUID") then Some cap_setuid
+    else (if bytes_eq word (codes "SETGID") then Some cap_setgid else None))))
 
 -- the capabilities so far with those that the words name
 abbrev pub with_capabilities : ℕ → List (List ℕ) → Option ℕ
@@ -62,12 +80,16 @@ with_capabilities caps (w ∷ ws) = capability_named w >>= λ cap. with_capabili
 unfoldable pub capability_list : List ℕ → Option ℕ
 capability_list text = with_capabilities 0 (fields_of 44 text)
 
+-- SUID:SGID, which one colon (byte 58) separates
+abbrev pub saved_pair : List ℕ → Option (ℕ × ℕ)
+saved_pair text = of_two two_numbers (fields_of 58 text)
+
 -- what follows a prefix of the first word, and the words behind it
 abbrev pub option_text : List ℕ → List (List ℕ) → Option (List ℕ × List (List ℕ))
 option_text prefix [] = None
 option_text prefix (w ∷ ws) = option_map (λ text. (text, ws)) (after_prefix prefix w)
 
--- an option of a client's line that may be missing, and the words behind it
+-- an option that may be missing, and the words behind it
 abbrev pub optional_at : {A : Type 0} → (List ℕ → Option A) → A → List (List ℕ) → Option (List ℕ × List (List ℕ))
     → Option (A × List (List ℕ))
 optional_at read none words None = Some (none, words)
@@ -80,27 +102,37 @@ abbrev pub only : {A : Type 0} → A → List (List ℕ) → Option A
 only x [] = Some x
 only x (w ∷ ws) = None
 
--- [groups=G,G,..] [caps=C,C,..]
-abbrev pub options_of : List (List ℕ) → Option (List ℕ × ℕ)
-options_of words = do
+-- the credentials of a client whose real user and group are its effective ones
+abbrev pub credentials : ℕ → ℕ → List ℕ → ℕ → ℕ × ℕ → Credentials
+credentials uid gid groups caps saved = record {
+  euid = uid;
+  egid = gid;
+  groups = groups;
+  caps = caps;
+  ruid = uid;
+  suid = saved.0;
+  rgid = gid;
+  sgid = saved.1;
+}
+
+-- [groups=G,G,..] [caps=C,C,..] [saved=SUID:SGID]: the saved user and group are the effective ones where none are given
+abbrev pub options_of : ℕ → ℕ → List (List ℕ) → Option Credentials
+options_of uid gid words = do
   groups ← optional (codes "groups=") group_list [] words
   caps ← optional (codes "caps=") capability_list 0 groups.1
-  only (groups.0, caps.0) caps.1
+  saved ← optional (codes "saved=") saved_pair (uid, gid) caps.1
+  only (credentials uid gid groups.0 caps.0 saved.0) saved.1
 
--- NAME EUID EGID [groups=G,G,..] [caps=C,C,..]
+-- NAME EUID EGID [groups=G,G,..] [caps=C,C,..] [saved=SUID:SGID]
 abbrev pub client_words : List ℕ → List ℕ → List ℕ → List (List ℕ) → Option (List ℕ × Credentials)
 client_words name euid egid options = do
   n ← name_of name
-  u ← number_32 euid
-  g ← number_32 egid
-  o ← options_of options
-  Some (n, record { euid = u; egid = g; groups = o.0; caps = o.1 })
+  ids ← two_numbers euid egid
+  creds ← options_of ids.0 ids.1 options
+  Some (n, creds)
 
 unfoldable pub client_of : List (List ℕ) → Option (List ℕ × Credentials)
-client_of [] = None
-client_of (name ∷ []) = None
-client_of (name ∷ euid ∷ []) = None
-client_of (name ∷ euid ∷ egid ∷ options) = client_words name euid egid options
+client_of words = of_first (λ name. of_first_two (client_words name)) words
 
 abbrev pub limit_words : List ℕ → List ℕ → Option (Limit × ℕ)
 limit_words word value = do

@@ -1,10 +1,11 @@
 -- The calls on semaphore sets that words make; None where they aren't in the grammar.
 use Rattle.std.specs.Prelude.{ℕ, List, [], ◌∷◌, codes, bytes_eq, Option, Some, None, if◌then◌else◌, option_map}
 use Rattle.ipc_call.specs.declared.calls.Call.{Call}
-use Rattle.ipc_call.specs.declared.calls.Call.TheVariants.{SemGet, SemOp, GetVal, GetPid, GetNcnt, GetZcnt, GetAll, SetVal, SetAll}
+use Rattle.ipc_call.specs.declared.calls.Call.TheVariants.{SemGet, SemOp, SemTimedOp, GetVal, GetPid, GetNcnt, GetZcnt}
+use Rattle.ipc_call.specs.declared.calls.Call.TheVariants.{GetAll, SetVal, SetAll}
 use Rattle.ipc_call.specs.declared.calls.SemOper.{SemOper}
-use Rattle.ipc_text.specs.Grammar.{each_of, of_one, of_three, of_two}
-use Rattle.ipc_words.specs.Numbers.{number_16, number_32, signed_16, signed_32}
+use Rattle.ipc_text.specs.Grammar.{each_of, of_first_two, of_one, of_three, of_two, two_numbers}
+use Rattle.ipc_words.specs.Numbers.{number_16, number_32, number_64, signed_16, signed_32}
 use Rattle.ipc_words.specs.Steps.{◌>>=◌}
 use Rattle.ipc_words.specs.Words.{fields_of}
 
@@ -65,19 +66,24 @@ semop_of (id ∷ ops) = do
   os ← each_of oper_of ops
   Some (SemOp i os)
 
+abbrev pub semtimedop_words : List ℕ → List ℕ → List (List ℕ) → Option Call
+semtimedop_words id timeout ops = do
+  i ← number_32 id
+  t ← number_64 timeout
+  os ← each_of oper_of ops
+  Some (SemTimedOp i os t)
+
+-- ID TIMEOUT [OP ..]
+abbrev pub semtimedop_of : List (List ℕ) → Option Call
+semtimedop_of words = of_first_two semtimedop_words words
+
 -- ID
 abbrev pub getall_of : List (List ℕ) → Option Call
 getall_of words = option_map (λ i. GetAll i) (of_one number_32 words)
 
-abbrev pub semaphore_words : List ℕ → List ℕ → Option (ℕ × ℕ)
-semaphore_words id num = do
-  i ← number_32 id
-  n ← number_32 num
-  Some (i, n)
-
 -- ID NUM
 abbrev pub semaphore_of : List (List ℕ) → Option (ℕ × ℕ)
-semaphore_of words = of_two semaphore_words words
+semaphore_of words = of_two two_numbers words
 
 -- the word of a report on one semaphore, and its arguments
 abbrev pub report_of : List ℕ → List (List ℕ) → Option Call
@@ -98,4 +104,5 @@ abbrev pub set_call_of : List ℕ → List (List ℕ) → Option Call
 set_call_of word words =
     if bytes_eq word (codes "semget") then semget_of words
     else (if bytes_eq word (codes "semop") then semop_of words
-    else (if bytes_eq word (codes "setall") then setall_of words else value_call_of word words))
+    else (if bytes_eq word (codes "semtimedop") then semtimedop_of words
+    else (if bytes_eq word (codes "setall") then setall_of words else value_call_of word words)))

@@ -1,9 +1,10 @@
-// The arguments of a call or a directive, where there are exactly so many.
+// The arguments of a call or a directive, where there are exactly so many, and pairs of them.
 
-ghost use Rattle.std.specs.Prelude.{◌≡◌, ◌≢◌, [], ◌∷◌, length, MatchOption};
+ghost use Rattle.std.specs.Prelude.{◌≡◌, ◌≢◌, ◌<◌, [], ◌∷◌, length, MatchOption};
+ghost use Rattle.ipc_text.specs.Grammar.{two_numbers as number_words};
 ghost use Rattle.ipc_words.specs.Words.{words_of};
 
-use ipc_words::split_word;
+use ipc_words::{number_32, split_word};
 
 /// The word, where it is one.
 pub(crate) fn one_word(words: &[u8]) -> Option<&[u8]>
@@ -22,6 +23,24 @@ pub(crate) fn two_words(words: &[u8]) -> Option<(&[u8], &[u8])>
 {
     let (first, words) = split_word(words)?;
     let second = one_word(words)?;
+    Some((first, second))
+}
+
+/// The first two words, and what follows them.
+pub(crate) fn first_two(words: &[u8]) -> Option<(&[u8], &[u8], &[u8])>
+    ensures { MatchOption result (length (words_of words.now) < 2) (λ x. words_of words.now ≡ x.0.now ∷ x.1.now ∷ words_of x.2.now) }
+{
+    let (first, words) = split_word(words)?;
+    let (second, others) = split_word(words)?;
+    Some((first, second, others))
+}
+
+/// The numbers that two words write; None where one of them writes none that 32 bits hold.
+pub(crate) fn two_numbers(first: &[u8], second: &[u8]) -> Option<(u32, u32)>
+    ensures { result ≡ number_words first.now second.now }
+{
+    let first = number_32(first)?;
+    let second = number_32(second)?;
     Some((first, second))
 }
 

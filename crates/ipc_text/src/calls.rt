@@ -1,16 +1,18 @@
 // The calls that the words behind a client's name make.
 
-ghost use Rattle.std.specs.Prelude.{◌≡◌, IfOk};
+ghost use Rattle.std.specs.Prelude.{◌≡◌, IfOk, option_map};
 ghost use Rattle.ipc_text.specs.Calls.{call_of as call_words, control_of as control_words, exit_of as exit_words, interrupt_of as interrupt_words, process_of as process_words, kind_named as kind_word, msgget_of as msgget_words, object_call_of as object_call_words, object_of as object_words};
-ghost use Rattle.ipc_text.specs.Calls.{qbytes_of as qbytes_words, set_of as set_line, set_words as set_parts};
+ghost use Rattle.ipc_text.specs.Calls.{groups_option as groups_words, new_groups as new_groups_text, qbytes_of as qbytes_words, set_of as set_line, set_words as set_parts, setcreds_of as setcreds_line, setcreds_words as setcreds_parts};
 ghost use Rattle.ipc_text.specs.Calls.{msgrcv_of as msgrcv_line, msgrcv_words as msgrcv_parts, msgsnd_of as msgsnd_line, msgsnd_words as msgsnd_parts};
 ghost use Rattle.ipc_words.specs.Words.{words_of};
 
-use crate::arguments::{four_words, one_word, two_words};
+use crate::arguments::{first_two, four_words, one_word, two_numbers, two_words};
+use crate::grammar::option_text;
+use crate::lists::number_list;
 use crate::segments::segment_call_of;
 use crate::sets::set_call_of;
 use crate::texts::text_of;
-use ipc_call::{Call, Kind};
+use ipc_call::{Call, Items, Kind};
 use ipc_words::{number, number_32, signed_64, split_word};
 use std::alloc::{AllocError, Global};
 
@@ -50,6 +52,8 @@ fn process_of(alloc: Global, word: &[u8], words: &[u8]) -> Result<Option<Call>, 
 {
     if word == b"interrupt".as_slice() {
         Ok(interrupt_of(words))
+    } else if word == b"setcreds".as_slice() {
+        setcreds_of(alloc, words)
     } else if word == b"exit".as_slice() {
         Ok(exit_of(words))
     } else {
@@ -153,6 +157,49 @@ fn interrupt_of(words: &[u8]) -> Option<Call>
 {
     let pid = number_32(one_word(words)?)?;
     Some(Call::Interrupt { pid })
+}
+
+fn setcreds_of(alloc: Global, words: &[u8]) -> Result<Option<Call>, AllocError>
+    ensures { IfOk result (λ call. call ≡ setcreds_line (words_of words.now)) }
+{
+    let Some((euid, egid, options)) = first_two(words) else {
+        return Ok(None);
+    };
+    let Some((euid, egid)) = two_numbers(euid, egid) else {
+        return Ok(None);
+    };
+    let Some((groups, words)) = groups_option(alloc, options)? else {
+        return Ok(None);
+    };
+    match split_word(words) {
+        None => Ok(Some(Call::SetCreds { euid, egid, groups })),
+        Some(_) => Ok(None),
+    }
+}
+
+fn groups_option(
+    alloc: Global,
+    words: &[u8],
+) -> Result<Option<(Option<Items<u32>>, &[u8])>, AllocError>
+    ensures { IfOk result (λ groups. option_map (λ x. (x.0, words_of x.1.now)) groups ≡ groups_words (words_of words.now)) }
+{
+    let Some((text, rest)) = option_text(b"groups=", words) else {
+        return Ok(Some((None, words)));
+    };
+    let Some(groups) = new_groups(alloc, text)? else {
+        return Ok(None);
+    };
+    Ok(Some((Some(groups), rest)))
+}
+
+fn new_groups(alloc: Global, text: &[u8]) -> Result<Option<Items<u32>>, AllocError>
+    ensures { IfOk result (λ groups. groups ≡ new_groups_text text.now) }
+{
+    if text == b"-".as_slice() {
+        return Ok(Some(Items::new(Vec::new(alloc))));
+    }
+    let groups = number_list(alloc, text)?;
+    Ok(groups.map(Items::new))
 }
 
 fn exit_of(words: &[u8]) -> Option<Call>

@@ -18,7 +18,7 @@ pub type Command = Items<Part>;
 /// bad command, or one call, whose words else are a bad line. `AllocError` comes where memory was refused. The words of
 /// a call are the project's own, with the names and the order of arguments of the man pages (msgget(2), msgop(2),
 /// msgctl(2), semget(2), semop(2), semctl(2), shmget(2), shmop(2), shmctl(2), _exit(2)); those of `interrupt`,
-/// `shmread` and `shmwrite` are the project's own.
+/// `setcreds`, `shmread` and `shmwrite` are the project's own.
 #[tactic(auto, unfolding(crate::specs::Commands::command_of))]
 pub fn command_of(alloc: Global, words: &[u8]) -> Result<Result<Command, Reason>, AllocError>
     ensures { IfOk result (λ command. command ≡ command_words (words_of words.now)) }

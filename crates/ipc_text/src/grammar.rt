@@ -2,21 +2,22 @@
 
 ghost use Rattle.std.specs.Prelude.{◌≡◌, ◌≤◌, [], codes, option_map, vec_len, IfOk, IfSome, IsTrue};
 ghost use Rattle.ipc_text.specs.Grammar.{capability_list as capabilities_words, capability_named as capability_word, client_of as client_line, client_words as client_parts, clock_of as clock_words};
-ghost use Rattle.ipc_text.specs.Grammar.{group_list as groups_words, limit_of as limit_words, option_text as text_of_option, optional, options_of as options_words};
+ghost use Rattle.ipc_text.specs.Grammar.{group_list as groups_words, limit_of as limit_words, option_text as text_of_option, optional, options_of as options_words, saved_pair as saved_words};
 ghost use Rattle.ipc_call.specs.Limits.{is_in_range};
 ghost use Rattle.ipc_words.specs.Words.{words_of};
 
-use crate::arguments::{one_word, two_words};
+use crate::arguments::{first_two, one_word, two_numbers, two_words};
+use crate::lists::number_list;
 use crate::names::Name;
 use crate::settings::{limit_named, value_of};
 use bitflags::Flags;
 use ipc_call::Limit;
 use ipc_creds::{Caps, Creds, GROUPS_MAX};
-use ipc_words::{number, number_32, split_field, split_word};
+use ipc_words::{number, split_field, split_word};
 use std::alloc::{AllocError, Global};
 
-/// The client of `NAME EUID EGID [groups=G,G,..] [caps=C,C,..]`, the words behind `client`; `None` where they
-/// aren't of this form. `AllocError` comes only where a growth was refused. The directive is the project's
+/// The client of `NAME EUID EGID [groups=G,G,..] [caps=C,C,..] [saved=SUID:SGID]`, the words behind `client`; `None`
+/// where they aren't of this form. `AllocError` comes only where a growth was refused. The directive is the project's
 /// own.
 #[tactic(auto, unfolding(crate::specs::Grammar::client_of))]
 pub fn client_of(alloc: Global, words: &[u8]) -> Result<Option<(Name, Creds)>, AllocError>
@@ -25,10 +26,7 @@ pub fn client_of(alloc: Global, words: &[u8]) -> Result<Option<(Name, Creds)>, A
     let Some((name, words)) = split_word(words) else {
         return Ok(None);
     };
-    let Some((euid, words)) = split_word(words) else {
-        return Ok(None);
-    };
-    let Some((egid, options)) = split_word(words) else {
+    let Some((euid, egid, options)) = first_two(words) else {
         return Ok(None);
     };
     client_words(alloc, name, euid, egid, options)
@@ -46,21 +44,17 @@ fn client_words(
     let Some(name) = Name::from_word(alloc, name)? else {
         return Ok(None);
     };
-    let Some(euid) = number_32(euid) else {
+    let Some((euid, egid)) = two_numbers(euid, egid) else {
         return Ok(None);
     };
-    let Some(egid) = number_32(egid) else {
+    let Some(creds) = options_of(alloc, euid, egid, options)? else {
         return Ok(None);
     };
-    let Some((groups, caps)) = options_of(alloc, options)? else {
-        return Ok(None);
-    };
-    Ok(Some((name, Creds::new(euid, egid, groups, caps))))
+    Ok(Some((name, creds)))
 }
 
-fn options_of(alloc: Global, words: &[u8]) -> Result<Option<(Vec<u32>, Caps)>, AllocError>
-    ensures value { IfOk result (λ options. option_map (λ x. (x.0.items, x.1.0)) options ≡ options_words (words_of words.now)) }
-    ensures few { IfOk result (λ options. IfSome options (λ x. vec_len x.0 ≤ 32)) }
+fn options_of(alloc: Global, uid: u32, gid: u32, words: &[u8]) -> Result<Option<Creds>, AllocError>
+    ensures { IfOk result (λ creds. creds ≡ options_words uid gid (words_of words.now)) }
 {
     let Some((groups, words)) = groups_of(alloc, words)? else {
         return Ok(None);
@@ -68,8 +62,12 @@ fn options_of(alloc: Global, words: &[u8]) -> Result<Option<(Vec<u32>, Caps)>, A
     let Some((caps, words)) = caps_of(words) else {
         return Ok(None);
     };
+    let Some(((suid, sgid), words)) = saved_of((uid, gid), words) else {
+        return Ok(None);
+    };
+    let creds = Creds::new(uid, gid, groups, caps).with_saved(suid, sgid);
     match split_word(words) {
-        None => Ok(Some((groups, caps))),
+        None => Ok(Some(creds)),
         Some(_) => Ok(None),
     }
 }
@@ -97,7 +95,18 @@ fn caps_of(words: &[u8]) -> Option<(Caps, &[u8])>
     Some((caps, rest))
 }
 
-fn option_text<'a>(prefix: &[u8], words: &'a [u8]) -> Option<(&'a [u8], &'a [u8])>
+fn saved_of(effective: (u32, u32), words: &[u8]) -> Option<((u32, u32), &[u8])>
+    ensures { option_map (λ x. (x.0, words_of x.1.now)) result ≡ optional (codes "saved=") saved_words effective (words_of words.now) }
+{
+    let Some((text, rest)) = option_text(b"saved=", words) else {
+        return Some((effective, words));
+    };
+    let saved = saved_pair(text)?;
+    Some((saved, rest))
+}
+
+/// The text behind the prefix of the first word, and what follows the word; `None` where it has another beginning.
+pub(crate) fn option_text<'a>(prefix: &[u8], words: &'a [u8]) -> Option<(&'a [u8], &'a [u8])>
     ensures { option_map (λ x. (x.0.now, words_of x.1.now)) result ≡ text_of_option prefix.now (words_of words.now) }
 {
     let (word, rest) = split_word(words)?;
@@ -105,23 +114,15 @@ fn option_text<'a>(prefix: &[u8], words: &'a [u8]) -> Option<(&'a [u8], &'a [u8]
     Some((text, rest))
 }
 
-#[tactic(auto, unfolding(crate::specs::Grammar::group_list))]
 fn group_list(alloc: Global, text: &[u8]) -> Result<Option<Vec<u32>>, AllocError>
     ensures value { IfOk result (λ groups. option_map (λ x. x.items) groups ≡ groups_words text.now) }
     ensures few { IfOk result (λ groups. IfSome groups (λ x. vec_len x ≤ 32)) }
 {
-    let mut groups = Vec::new(alloc);
-    let mut rest = Some(text);
-    while let Some(text) = rest {
-        let (field, others) = split_field(text, b',');
-        let Some(group) = number_32(field) else {
-            return Ok(None);
-        };
-        if groups.len() == GROUPS_MAX {
-            return Ok(None);
-        }
-        groups.push(group)?;
-        rest = others;
+    let Some(groups) = number_list(alloc, text)? else {
+        return Ok(None);
+    };
+    if groups.len() > GROUPS_MAX {
+        return Ok(None);
     }
     Ok(Some(groups))
 }
@@ -148,7 +149,19 @@ fn capability_named(word: &[u8]) -> Option<Caps>
         b"IPC_OWNER" => Some(Caps::IPC_OWNER),
         b"SYS_ADMIN" => Some(Caps::SYS_ADMIN),
         b"SYS_RESOURCE" => Some(Caps::SYS_RESOURCE),
+        b"SETUID" => Some(Caps::SETUID),
+        b"SETGID" => Some(Caps::SETGID),
         _ => None,
+    }
+}
+
+fn saved_pair(text: &[u8]) -> Option<(u32, u32)>
+    ensures { result ≡ saved_words text.now }
+{
+    let (user, rest) = split_field(text, b':');
+    match split_field(rest?, b':') {
+        (group, None) => two_numbers(user, group),
+        (_, Some(_)) => None,
     }
 }
 

@@ -1,12 +1,12 @@
-// Lists of words.
+// Lists of words, and of numbers in one word.
 
-ghost use Rattle.std.specs.Prelude.{◌≡◌, IfOk};
-ghost use Rattle.ipc_text.specs.Grammar.{each_of};
+ghost use Rattle.std.specs.Prelude.{◌≡◌, IfOk, option_map};
+ghost use Rattle.ipc_text.specs.Grammar.{each_of, number_list as number_words};
 ghost use Rattle.ipc_words.specs.Numbers.{signed_32 as signed_word_32};
 ghost use Rattle.ipc_words.specs.Words.{words_of};
 
 use ipc_call::Items;
-use ipc_words::{signed_32, split_word};
+use ipc_words::{number_32, signed_32, split_field, split_word};
 use std::alloc::{AllocError, Global};
 
 /// What one word of a list writes.
@@ -43,4 +43,23 @@ pub(crate) fn items_of<T: Item>(alloc: Global, words: &[u8]) -> Result<Option<It
         rest = others;
     }
     Ok(Some(Items::new(items)))
+}
+
+/// The numbers that commas separate in the text; None where one of them isn't a number. `AllocError` comes only where a
+/// growth was refused.
+#[tactic(auto, unfolding(crate::specs::Grammar::number_list))]
+pub(crate) fn number_list(alloc: Global, text: &[u8]) -> Result<Option<Vec<u32>>, AllocError>
+    ensures { IfOk result (λ numbers. option_map (λ x. x.items) numbers ≡ number_words text.now) }
+{
+    let mut numbers = Vec::new(alloc);
+    let mut rest = Some(text);
+    while let Some(text) = rest {
+        let (field, others) = split_field(text, b',');
+        let Some(number) = number_32(field) else {
+            return Ok(None);
+        };
+        numbers.push(number)?;
+        rest = others;
+    }
+    Ok(Some(numbers))
 }

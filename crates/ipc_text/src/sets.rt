@@ -2,13 +2,13 @@
 
 ghost use Rattle.std.specs.Prelude.{◌≡◌, IfOk};
 ghost use Rattle.ipc_text.specs.Sets.{getall_of as getall_words, oper_flags as flags_fields, oper_of as oper_word, report_of as report_words, semaphore_of as semaphore_words, set_call_of as set_call_words, value_call_of as value_call_words};
-ghost use Rattle.ipc_text.specs.Sets.{semget_of as semget_line, semget_words as semget_parts, setall_of as setall_words, semop_of as semop_words, setval_of as setval_line, setval_words as setval_parts};
+ghost use Rattle.ipc_text.specs.Sets.{semget_of as semget_line, semget_words as semget_parts, semop_of as semop_words, semtimedop_of as semtimedop_words, setall_of as setall_words, setval_of as setval_line, setval_words as setval_parts};
 ghost use Rattle.ipc_words.specs.Words.{fields_of, words_of};
 
-use crate::arguments::{one_word, three_words, two_words};
+use crate::arguments::{first_two, one_word, three_words, two_numbers, two_words};
 use crate::lists::{Item, items_of};
 use ipc_call::{Call, SemOper};
-use ipc_words::{number_16, number_32, signed_16, signed_32, split_field, split_word};
+use ipc_words::{number, number_16, number_32, signed_16, signed_32, split_field, split_word};
 use std::alloc::{AllocError, Global};
 
 /// The call on a semaphore set that this word and those behind it make; `None` where they make none.
@@ -24,6 +24,8 @@ pub(crate) fn set_call_of(
         Ok(semget_of(words))
     } else if word == b"semop".as_slice() {
         semop_of(alloc, words)
+    } else if word == b"semtimedop".as_slice() {
+        semtimedop_of(alloc, words)
     } else if word == b"setall".as_slice() {
         setall_of(alloc, words)
     } else {
@@ -123,6 +125,24 @@ fn semop_of(alloc: Global, words: &[u8]) -> Result<Option<Call>, AllocError>
     Ok(Some(Call::SemOp { id, ops }))
 }
 
+fn semtimedop_of(alloc: Global, words: &[u8]) -> Result<Option<Call>, AllocError>
+    ensures { IfOk result (λ call. call ≡ semtimedop_words (words_of words.now)) }
+{
+    let Some((id, timeout, ops)) = first_two(words) else {
+        return Ok(None);
+    };
+    let Some(id) = number_32(id) else {
+        return Ok(None);
+    };
+    let Some(timeout) = number(timeout, u64::MAX) else {
+        return Ok(None);
+    };
+    let Some(ops) = items_of(alloc, ops)? else {
+        return Ok(None);
+    };
+    Ok(Some(Call::SemTimedOp { id, ops, timeout }))
+}
+
 impl Item for SemOper {
     ghost item_of = { oper_word };
 
@@ -160,7 +180,5 @@ fn semaphore_of(words: &[u8]) -> Option<(u32, u32)>
     ensures { result ≡ semaphore_words (words_of words.now) }
 {
     let (id, num) = two_words(words)?;
-    let id = number_32(id)?;
-    let num = number_32(num)?;
-    Some((id, num))
+    two_numbers(id, num)
 }

@@ -16,7 +16,7 @@ ghost use Rattle.ipcsh.specs.Runs.{summary_of};
 use crate::readings::Reading;
 use crate::runs::Summary;
 use ipc_call::{Call, Limit, Limits, Memory, Reply};
-use ipc_creds::Creds;
+use ipc_creds::{Creds, copies};
 use ipc_space::{Effects, Space};
 use ipc_text::{Line, Name, Reason, print_bad, print_reply, print_waits};
 use std::alloc::Global;
@@ -292,16 +292,6 @@ impl Session {
             None => "",
         }
     }
-}
-
-fn copies(alloc: Global, clients: &[Creds]) -> Result<Vec<Creds>, Memory>
-    ensures { IfOk result (λ copied. copied.items ≡ clients.now) }
-{
-    let mut copied = Vec::with_capacity(alloc, clients.len())?;
-    for creds in clients {
-        copied.push(creds.copy()?)?;
-    }
-    Ok(copied)
 }
 
 fn position_of(names: &[Name], word: &[u8]) -> Option<u32>

@@ -4,11 +4,11 @@ use Rattle.ipc_call.specs.declared.calls.Call.{Call}
 use Rattle.ipc_model.specs.State.{is_waiting, opening}
 use Rattle.ipc_history.specs.History.{History, run, with_event}
 use Rattle.ipc_model.specs.Step.{Event}
-use Rattle.ipc_space.proofs.Balance.{clients-run}
+use Rattle.ipc_space.proofs.Histories.{clients-run}
 use Rattle.ipc_space.proofs.replaying.enter.Goals as goal
 
 clients-same : (h : History) → length (run h).clients ≡ length h.clients
-clients-same h = ap length (clients-run (opening h.limits h.clients) h.events)
+clients-same h = clients-run (opening h.limits h.clients) h.events
 
 pub returns-then-not-may_call : goal.returns-then-not-may_call
 returns-then-not-may_call c = (

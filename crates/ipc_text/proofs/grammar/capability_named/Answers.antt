@@ -21,3 +21,15 @@ unfolding capability_named
 returns-in-83-2 c =
     let e : c.args.word.now ≡ codes "SYS_RESOURCE" = text_from_reads c.args.word.now (codes "SYS_RESOURCE") (omega arith) (search rules) in
     rw e refl
+
+pub returns-in-SETUID : goal.returns-in-SETUID
+unfolding capability_named
+returns-in-SETUID c =
+    let e : c.args.word.now ≡ codes "SETUID" = text_from_reads c.args.word.now (codes "SETUID") (omega arith) (search rules) in
+    rw e refl
+
+pub returns-in-SETGID : goal.returns-in-SETGID
+unfolding capability_named
+returns-in-SETGID c =
+    let e : c.args.word.now ≡ codes "SETGID" = text_from_reads c.args.word.now (codes "SETGID") (omega arith) (search rules) in
+    rw e refl

@@ -10,4 +10,4 @@ apply-requires-clause-free c = subst (λ h. is_waiting (run h) c.args.client ≡
 
 pub returns-clause-ok : goal.returns-clause-ok
 returns-clause-ok c = subst (λ h. IfOk c.apply.result (λ x. HasEntered c.args.client c.args.now c.args.call h c.apply.new.self x.own x.others.items)) c.deref_mut.ensures.value
-    (entered_if c.deref_mut.result.now c.apply.new.self c.args.client c.args.now c.args.call c.apply.result c.apply.ensures.event c.apply.ensures.own c.apply.ensures.others c.apply.ensures.legal c.apply.ensures.alone)
+    (entered_if c.deref_mut.result.now c.apply.new.self c.args.client c.args.now c.args.call c.apply.result c.apply.ensures.event c.apply.ensures.own c.apply.ensures.others c.apply.ensures.legal c.apply.ensures.apart)

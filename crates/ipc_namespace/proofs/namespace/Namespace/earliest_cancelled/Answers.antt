@@ -5,35 +5,37 @@ use Rattle.ipc_call.specs.declared.replies.Waiting.{Waiting}
 use Rattle.ipc_call.specs.declared.calls.Kind.{Kind}
 use Rattle.ipc_call.specs.declared.rules.Rule.{Rule}
 use Rattle.ipc_call.specs.declared.rules.Rule.TheVariants.{Removed}
-use Rattle.ipc_model.specs.Decide.{can_wait, needs}
+use Rattle.ipc_model.specs.Decide.{stands, needs}
 use Rattle.ipc_model.specs.Cancelled.{first_denial, waits_on}
 use Rattle.ipc_model.specs.State.{State, creds_at}
 use Rattle.ipc_parked.specs.declared.parked.Arrival.{Arrival}
-use Rattle.ipc_parked.specs.Parked.{on_object, waiting}
+use Rattle.ipc_parked.specs.Parked.{entry_of, on_object, waiting}
 use Rattle.ipc_parked.proofs.Picking.{clients_found, find_filter, may_ask, may_ask_on_object, picks_find, picks_waiting}
 use Rattle.ipc_namespace.specs.declared.cancelling.Cancelling.{Cancelling}
 use Rattle.ipc_namespace.specs.declared.cancelling.Cancelling.TheVariants as cancellings
 use Rattle.ipc_namespace.specs.Namespace.{cancelled_as}
+use Rattle.ipc_namespace.proofs.Endings.{without-until}
 use Rattle.ipc_namespace.proofs.Parked.{each-parked}
 use Rattle.ipc_namespace.proofs.namespace.Namespace.earliest_cancelled.Goals as goal
 
 pub earliest-requires : goal.earliest-requires
 earliest-requires c =
     let s = c.args.self.now in
-    let each = subst (λ (s : State). AllByRecursion (λ w. (w.client < length s.clients) × (can_wait w.call ≡ true)) (waiting c.self.inside.parked)) c.self.view_is (each-parked (length c.self.inside.clients.items) (waiting c.self.inside.parked) c.self.invariant.1) in
-    may_ask _ (λ w. (w.client < length s.clients) × (can_wait w.call ≡ true)) _ each (λ client call known. search rules)
+    let each = subst (λ (s : State). AllByRecursion (λ w. (w.client < length s.clients) × (stands w.call ≡ true)) (waiting c.self.inside.parked)) c.self.view_is (each-parked (length c.self.inside.clients.items) (waiting c.self.inside.parked) c.self.invariant.1) in
+    may_ask _ (λ client call. (client < length s.clients) × (stands call ≡ true)) _ each (λ client call known. search rules)
 
 pub on_object-requires : goal.on_object-requires
 on_object-requires c =
     let s = c.args.self.now in
-    let each = subst (λ (s : State). AllByRecursion (λ w. (w.client < length s.clients) × (can_wait w.call ≡ true)) (waiting c.self.inside.parked)) c.self.view_is (each-parked (length c.self.inside.clients.items) (waiting c.self.inside.parked) c.self.invariant.1) in
-    may_ask_on_object _ (λ w. (w.client < length s.clients) × (can_wait w.call ≡ true)) c.in-Denied.kind c.in-Denied.id _ each (λ client call on known. search rules)
+    let each = subst (λ (s : State). AllByRecursion (λ w. (w.client < length s.clients) × (stands w.call ≡ true)) (waiting c.self.inside.parked)) c.self.view_is (each-parked (length c.self.inside.clients.items) (waiting c.self.inside.parked) c.self.invariant.1) in
+    may_ask_on_object _ (λ client call. (client < length s.clients) × (stands call ≡ true)) c.in-Denied.kind c.in-Denied.id _ each (λ client call on known. search rules)
 
 pub returns-in-Interrupted : goal.returns-in-Interrupted
 returns-in-Interrupted c =
     let s = c.args.self.now in
     let rule = cancelled_as s c.args.cancelling in
-    picks_waiting _ (λ client call. is_some (rule (record { client = client; call = call }))) _ _ c.earliest.ensures (λ client call answer says. search rules)
+    picks_waiting _ (λ client call. is_some (rule (record { client = client; call = call; deadline = None }))) _ _ c.earliest.ensures (λ client call answer says. search rules)
+    ∙ ap (λ (test : Waiting → Bool). option_map (λ (w : Waiting). w.client) (find test (waiting c.self.inside.parked))) (λ i w. is_some (without-until s c.args.cancelling w i))
     ∙ ap (λ (t : State). option_map (λ (w : Waiting). w.client) (find (λ w. is_some (rule w)) t.parked)) c.self.view_is
 
 only_on : (b : Bool) (o : Option Rule) → (b && is_some (cond b o None)) ≡ is_some (cond b o None)
@@ -56,10 +58,11 @@ returns-in-Denied c =
     let kind = c.in-Denied.kind in
     let id = c.in-Denied.id in
     let rule = cancelled_as s c.args.cancelling in
-    let test = λ (e : ℕ × Arrival). is_some (rule (record { client = e.0; call = e.1.call })) in
+    let test = λ (e : ℕ × Arrival). is_some (rule (entry_of e)) in
     let all : find test (on_object kind id es) ≡ find test es = find_filter (λ e. waits_on kind id e.1.call) test es
-    ∙ ap (λ (t : ℕ × Arrival → Bool). find t es) (λ i e. ends_on s c.args.cancelling kind id (record { client = e.0; call = e.1.call }) c.in-Denied.is i) in
-    picks_find _ (λ client call. is_some (rule (record { client = client; call = call }))) _ _ c.on_object.ensures (λ client call answer says. search rules)
+    ∙ ap (λ (t : ℕ × Arrival → Bool). find t es) (λ i e. ends_on s c.args.cancelling kind id (entry_of e) c.in-Denied.is i) in
+    picks_find _ (λ client call. is_some (rule (record { client = client; call = call; deadline = None }))) _ _ c.on_object.ensures (λ client call answer says. search rules)
+    ∙ ap (λ (t : ℕ × Arrival → Bool). option_map (λ e. e.0) (find t (on_object kind id es))) (λ i e. is_some (without-until s c.args.cancelling (entry_of e) i))
     ∙ ap (λ (o : Option (ℕ × Arrival)). option_map (λ e. e.0) o) all
     ∙ clients_found (λ w. is_some (rule w)) es
     ∙ ap (λ (t : State). option_map (λ (w : Waiting). w.client) (find (λ w. is_some (rule w)) t.parked)) c.self.view_is

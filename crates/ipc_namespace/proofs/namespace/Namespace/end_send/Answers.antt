@@ -34,11 +34,12 @@ returns-in-Err-clause-ended c =
     let client = c.args.client in
     let there = own-there client s.parked c.requires.waits in
     let call = there.0.call in
-    let own : waiting_of s client ≡ Some (record { client = client; call = call }) = there.1 ∙ (λ i. Some (record { client = there.2 i; call = call })) in
+    let until = there.0.deadline in
+    let own : waiting_of s client ≡ Some (record { client = client; call = call; deadline = until }) = there.1 ∙ (λ i. Some (record { client = there.2 i; call = call; deadline = until })) in
     let d = decide (without s client) client call in
     let refused = answered-refused d c.in-Err.rule (IfSome-at (waiting_of s client) _ (λ (w : Waiting). without_answer (decide (without s client) client w.call) ≡ Some c.args.decided) own c.requires.decided ∙ ap (λ (r : Result ⊤ Rule). Some r) c.in-Err.is) in
     subst (λ o. IfSome o (λ (w : Waiting). end_waiting s w ≡ record { state = c.end_as.new.self; ended = c.end_as.result ∷ [] })) (sym own)
-    (ends-so s c.end_as.new.self client call (Err c.in-Err.rule) c.requires.alive refused.0 (c.end_as.ensures.state ∙ sym (refused.1 (without s client)))
+    (ends-so s c.end_as.new.self client call until (Err c.in-Err.rule) c.requires.alive refused.0 (c.end_as.ensures.state ∙ sym (refused.1 (without s client)))
     ∙ ap (λ (e : Ended). record { state = c.end_as.new.self; ended = e ∷ [] }) (sym c.end_as.ensures.ended))
 
 pub finish-requires : goal.finish-requires
@@ -47,7 +48,7 @@ finish-requires c = sym (any_waiting c.args.client c.self.inside.parked) ∙ ap 
 left : (c : After-finish) → Leaves (length c.self.inside.clients.items) c.args.client c.finish.result (waiting c.self.inside.parked) (waiting c.finish.new.self)
 left c = leaves (length c.self.inside.clients.items) c.args.client c.finish.result c.self.inside.parked c.finish.new.self c.self.invariant.1 c.finish.ensures.call c.finish.ensures.rest
 
-own : (c : After-finish) → waiting_of c.args.self.now c.args.client ≡ Some (record { client = c.args.client; call = c.finish.result })
+own : (c : After-finish) → waiting_of c.args.self.now c.args.client ≡ Some (record { client = c.args.client; call = c.finish.result; deadline = (left c).until })
 own c = sym (ap (λ (s : State). waiting_of s c.args.client) c.self.view_is) ∙ (left c).own
 
 pub unreachable-requires : goal.unreachable-requires
@@ -119,7 +120,7 @@ returns-clause-ended c =
     let t = without s client in
     let new = put_in (rest k) (queues_of c.send_reserved.new.self) in
     subst (λ o. IfSome o (λ (w : Waiting). end_waiting s w ≡ record { state = new; ended = record { client = client; outcome = Ok Done } ∷ [] })) (sym (own b))
-    (ends-so s new client c.finish.result (Ok Done)
+    (ends-so s new client c.finish.result (left b).until (Ok Done)
     c.requires.alive
     (ap (λ (call : Call). outcome_of (decide t client call)) n.is ∙ sym (send-outcome (rest k) t client _ (rest_is k) (called k) n.id n.flags _ n.mtype n.text (back k)) ∙ sent-done c.self.inside.limits (queues_of c.self.inside.queues) c.caller_of-who.result n.id n.flags (record { mtype = to_z w64 (of_z w64 n.mtype); text = n.text }) (granted k))
     (send-left (rest k) t client _ (rest_is k) (called k) n.id n.flags _ n.mtype n.text (back k) (queues_of c.send_reserved.new.self) (c.send_reserved.ensures.queues c.self.inside.limits n.flags (granted k))

@@ -1,16 +1,31 @@
-use Rattle.std.proofs.Common.{sym, ap, ◌∙◌}
+use Rattle.std.proofs.Common.{◌≡◌, ◌++◌, append_assoc, refl, sym, ap, ◌∙◌}
 use Rattle.ipc_call.specs.declared.replies.Ended.{Ended}
 use Rattle.std.proofs.Common.{Vec, Global}
-use Rattle.ipc_namespace.proofs.Settling.{entered-granted, entered-still}
+use Rattle.ipc_model.specs.Step.{after, expire, moved_by, settled}
+use Rattle.ipc_namespace.proofs.Settling.{entered-granted, entered-still, quiet-expire}
 use Rattle.ipc_namespace.proofs.namespace.Namespace.enter.Goals as goal
 use Rattle.ipc_namespace.proofs.namespace.Namespace.enter.Goals.{then-is_granted, else-is_granted}
 
 pub returns-clause-ok : goal.returns-clause-ok
 returns-clause-ok c =
     let s = c.args.self.now in
+    let t = (expire s).state in
+    let first = (expire s).ended in
+    let client = c.args.client in
+    let call = c.args.call.now in
+    let u = c.act.new.self in
+    let own = c.in_ok-own.own in
+    let cancels = (moved_by t client call).ended in
+    let final = c.if-is_granted.ended.items in
     elim c.if-is_granted.branch [
-      | then-is_granted p ↦ entered-granted s c.act.new.self c.if-is_granted.self c.args.client c.args.call.now c.in_ok-own.own c.act.new.ended.items c.if-is_granted.ended.items
-          c.in_ok-own.ensures.state c.in_ok-own.ensures.ended (sym c.in_ok-own.ensures.own) (p.self-is ∙ p.settle.ensures.state) (ap (λ (v : Vec Ended Global). v.items) p.ended-is ∙ p.settle.ensures.ended)
-      | else-is_granted p ↦ entered-still s c.if-is_granted.self c.args.client c.args.call.now c.in_ok-own.own c.if-is_granted.ended.items c.requires.quiet
-          (sym c.is_granted.ensures ∙ p.if-is_granted.false) c.in_ok-own.ensures.own (p.self-is ∙ c.in_ok-own.ensures.state) (ap (λ (v : Vec Ended Global). v.items) p.ended-is ∙ c.in_ok-own.ensures.ended)
+      | then-is_granted p ↦
+          let rest = (settled u).ended in
+          let told : final ≡ first ++ (cancels ++ rest) =
+          ap (λ (v : Vec Ended Global). v.items) p.ended-is ∙ p.settle.ensures.ended ∙ ap (λ es. es ++ rest) c.in_ok-own.ensures.ended ∙ append_assoc first cancels rest in
+          ap (after first) (entered-granted t u c.if-is_granted.self client call own cancels (cancels ++ rest) c.in_ok-own.ensures.state refl (sym c.in_ok-own.ensures.own) (p.self-is ∙ p.settle.ensures.state) refl)
+          ∙ (λ i. record { state = c.if-is_granted.self; own = own; ended = sym told i })
+      | else-is_granted p ↦
+          let told : final ≡ first ++ cancels = ap (λ (v : Vec Ended Global). v.items) p.ended-is ∙ c.in_ok-own.ensures.ended in
+          ap (after first) (entered-still t c.if-is_granted.self client call own cancels (quiet-expire s c.requires.quiet) (sym c.is_granted.ensures ∙ p.if-is_granted.false) c.in_ok-own.ensures.own (p.self-is ∙ c.in_ok-own.ensures.state) refl)
+          ∙ (λ i. record { state = c.if-is_granted.self; own = own; ended = sym told i })
     ]

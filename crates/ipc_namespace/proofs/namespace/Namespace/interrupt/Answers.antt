@@ -6,6 +6,7 @@ use Rattle.ipc_model.specs.Decide.{decide_alive as decide, part_plan}
 use Rattle.ipc_model.specs.Decision.{without_answer}
 use Rattle.ipc_model.specs.Processes.{interrupt}
 use Rattle.ipc_namespace.proofs.Moving.{creds-read, refused-ended, refused-state}
+use Rattle.ipc_namespace.proofs.Expiring.{told-none}
 use Rattle.ipc_namespace.proofs.namespace.Namespace.interrupt.Goals as goal
 use Rattle.ipc_namespace.proofs.namespace.Namespace.interrupt.Goals.{After-from_residual, After-may_end_wait}
 
@@ -22,4 +23,4 @@ pub returns-in_err-may_end_wait-clause-state : goal.returns-in_err-may_end_wait-
 returns-in_err-may_end_wait-clause-state c = refused-state c.args.self.now c.args.client (Interrupt c.args.pid) c.in_err-may_end_wait.field-0.0 (refused c)
 
 pub returns-in_err-may_end_wait-clause-ended : goal.returns-in_err-may_end_wait-clause-ended
-returns-in_err-may_end_wait-clause-ended c = c.requires.empty ∙ refused-ended c.args.self.now c.args.client (Interrupt c.args.pid) c.in_err-may_end_wait.field-0.0 (refused c)
+returns-in_err-may_end_wait-clause-ended c = told-none c.args.ended.now.items (refused-ended c.args.self.now c.args.client (Interrupt c.args.pid) c.in_err-may_end_wait.field-0.0 (refused c))

@@ -4,14 +4,12 @@ use Rattle.std.specs.List.{list_any}
 use Rattle.std.proofs.lemmas.Bool.{true≢false}
 use Rattle.ipc_call.specs.declared.replies.Waiting.{Waiting}
 use Rattle.queue_calls.specs.Held.{one_if, room}
-use Rattle.ipc_model.specs.Decide.{can_wait, decide_alive as decide}
 use Rattle.ipc_model.specs.State.{State, has_ended}
 use Rattle.ipc_parked.specs.Parked.{waiting}
 use Rattle.ipc_parked.proofs.Listed.{any_waiting, waiting-push}
 use Rattle.ipc_namespace.specs.Namespace.{AreHeld, AreParked, is_at, is_send_to, sends_on}
 use Rattle.ipc_model.specs.Decision.{Decision, Refuse, Wait, Grant, outcome_of, proceeds}
 use Rattle.std.proofs.lemmas.Option.{none-some}
-use Rattle.ipc_model.proofs.Calls.{only_parkable_alive}
 use Rattle.ipc_namespace.proofs.Calling.{operator-there, sender-there}
 use Rattle.ipc_namespace.specs.Namespace.{MayReserve}
 use Rattle.ipc_namespace.proofs.Held.{held-longer, held-push}
@@ -37,13 +35,12 @@ went_well (Err e) P good p = absurd (true≢false good)
 pub invariant_of-self-else-is_err : goal.invariant_of-self-else-is_err
 invariant_of-self-else-is_err c =
     let n = c.self.inside in
-    let w : Waiting = record { client = c.args.client; call = c.args.call } in
-    let d = decide c.args.self.now c.args.client c.args.call in
-    let may : can_wait c.args.call ≡ true = only_parkable_alive c.args.self.now c.args.client c.args.call (stays d c.requires.waits) in
+    let w : Waiting = record { client = c.args.client; call = c.args.call; deadline = c.args.deadline } in
+    let may = c.requires.as_semop in
     let known : c.args.client < length n.clients.items = subst (λ (s : State). c.args.client < length s.clients) (sym c.self.view_is) c.requires.known in
     let free : list_any (λ v. v.client == c.args.client) (waiting n.parked) ≡ false = ap (λ (s : State). list_any (λ v. v.client == c.args.client) s.parked) c.self.view_is ∙ c.requires.free in
     let pushed = went_well c.park-parked.result _ (sym c.is_err.ensures.value ∙ c.if-is_err.false) c.park-parked.ensures.ok in
-    let longer : waiting c.park-parked.new.self ≡ waiting n.parked ++ w ∷ [] = ap waiting pushed ∙ waiting-push n.parked (c.args.client, record { place = c.args.place; call = c.args.call }) in (
+    let longer : waiting c.park-parked.new.self ≡ waiting n.parked ++ w ∷ [] = ap waiting pushed ∙ waiting-push n.parked (c.args.client, record { place = c.args.place; call = c.args.call; deadline = c.args.deadline }) in (
       c.self.invariant.0,
       subst (λ ws. AreParked (length n.clients.items) ws) (sym longer) (AreParked-push (length n.clients.items) (waiting n.parked) w c.self.invariant.1 known may free),
       λ id. c.in_ok-reserve_in.ensures.room id ∙ ap (λ q. room n.queues id + one_if (is_at id q)) c.sent_to-queue.ensures ∙ ap (λ k. k + one_if (is_send_to id c.args.call)) (c.self.invariant.2 id)

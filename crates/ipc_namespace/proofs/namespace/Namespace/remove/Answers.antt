@@ -17,6 +17,7 @@ use Rattle.ipc_namespace.specs.declared.cancelling.Cancelling.TheVariants as can
 use Rattle.ipc_namespace.proofs.Held.{held-elsewhere, none_there}
 use Rattle.ipc_namespace.proofs.Moving.{creds-read, refused-ended, refused-state}
 use Rattle.ipc_namespace.proofs.Reserved.{none_left}
+use Rattle.ipc_namespace.proofs.Expiring.{told-none}
 use Rattle.ipc_namespace.proofs.namespace.Namespace.remove.Goals as goal
 use Rattle.ipc_namespace.proofs.namespace.Namespace.remove.Goals.{After-from_residual, After-may_remove}
 
@@ -33,7 +34,7 @@ pub returns-in_err-may_remove-clause-state : goal.returns-in_err-may_remove-clau
 returns-in_err-may_remove-clause-state c = refused-state c.args.self.now c.args.client (IpcRmid c.args.kind c.args.id) c.in_err-may_remove.field-0.0 (refused c)
 
 pub returns-in_err-may_remove-clause-ended : goal.returns-in_err-may_remove-clause-ended
-returns-in_err-may_remove-clause-ended c = c.requires.empty ∙ refused-ended c.args.self.now c.args.client (IpcRmid c.args.kind c.args.id) c.in_err-may_remove.field-0.0 (refused c)
+returns-in_err-may_remove-clause-ended c = told-none c.args.ended.now.items (refused-ended c.args.self.now c.args.client (IpcRmid c.args.kind c.args.id) c.in_err-may_remove.field-0.0 (refused c))
 
 pub remove-requires-clause-unreserved : goal.remove-requires-clause-unreserved
 remove-requires-clause-unreserved c =

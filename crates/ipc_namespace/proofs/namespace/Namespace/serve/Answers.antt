@@ -1,4 +1,4 @@
-use Rattle.std.proofs.Common.{◌≡◌, false, sym, ap, ◌∙◌, subst, None, Ok, Err}
+use Rattle.std.proofs.Common.{◌≡◌, length, false, sym, ap, ◌∙◌, subst, None, Ok, Err}
 use Rattle.std.specs.Prelude.{is_err, IfOk, Result}
 use Rattle.std.proofs.lemmas.Bool.{true≢false}
 use Rattle.ipc_model.proofs.Keeping.{Follows-enter}
@@ -27,5 +27,5 @@ returns-else-is_err-clause-limits c =
 pub returns-else-is_err-clause-clients : goal.returns-else-is_err-clause-clients
 returns-else-is_err-clause-clients c =
     let new = c.enter-served.new.self in
-    well c.enter-served.result _ (new.clients ≡ c.args.self.now.clients) (sym c.is_err.ensures.value ∙ c.if-is_err.false) c.enter-served.ensures.ok (λ served is.
-    sym (ap (λ (t : Stepped). t.state.clients) is) ∙ (Follows-enter _ c.args.client c.args.call.now).clients ∙ ap (λ (t : State). t.clients) c.self.view_is)
+    well c.enter-served.result _ (length new.clients ≡ length c.args.self.now.clients) (sym c.is_err.ensures.value ∙ c.if-is_err.false) c.enter-served.ensures.ok (λ served is.
+    sym (ap (λ (t : Stepped). length t.state.clients) is) ∙ (Follows-enter _ c.args.client c.args.call.now).clients ∙ ap (λ (t : State). length t.clients) c.self.view_is)

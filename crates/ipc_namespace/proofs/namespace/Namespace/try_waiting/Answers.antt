@@ -15,7 +15,7 @@ use Rattle.ipc_model.specs.State.{Caller, Queues, Sems, State, caller, has_ended
 use Rattle.ipc_model.specs.Plan.{Plan, decision}
 use Rattle.ipc_model.specs.Semaphores.{operate}
 use Rattle.ipc_model.specs.Decision.{Outcome, left_by, outcome_of, proceeds}
-use Rattle.ipc_model.specs.Decide.{can_wait, decide_alive as decide, part_plan}
+use Rattle.ipc_model.specs.Decide.{stands, decide_alive as decide, part_plan}
 use Rattle.ipc_model.specs.Step.{end_waiting, is_ready, without}
 use Rattle.ipc_parked.specs.Parked.{waiting}
 use Rattle.ipc_namespace.specs.Namespace.{HasRowFor, sent_to}
@@ -29,7 +29,7 @@ use Rattle.ipc_namespace.proofs.namespace.Namespace.try_waiting.Goals.{After-cal
 
 -- the call at the index
 abbrev tried : After-deref → Waiting
-tried c = record { client = c.in_ok-client.client; call = c.in_ok-client.call.now }
+tried c = record { client = c.in_ok-client.client; call = c.in_ok-client.arrival.now.call; deadline = c.in_ok-client.arrival.now.deadline }
 
 found : (c : After-deref) → slice_get (waiting c.self.inside.parked) c.args.index ≡ Some (tried c)
 found c = sym c.in_ok-client.ensures
@@ -37,7 +37,7 @@ found c = sym c.in_ok-client.ensures
 own : (c : After-deref) → find (λ w. w.client == c.in_ok-client.client) (waiting c.self.inside.parked) ≡ Some (tried c)
 own c = let n = c.self.inside in nth-own (waiting n.parked) c.args.index (tried c) (apart-parked (length n.clients.items) (waiting n.parked) c.self.invariant.1) (found c)
 
-of_client : (c : After-deref) → (c.in_ok-client.client < length c.self.inside.clients.items) × (can_wait c.in_ok-client.call.now ≡ true)
+of_client : (c : After-deref) → (c.in_ok-client.client < length c.self.inside.clients.items) × (stands c.in_ok-client.arrival.now.call ≡ true)
 of_client c = let n = c.self.inside in parked_found (length n.clients.items) (λ w. w.client == c.in_ok-client.client) (waiting n.parked) (tried c) c.self.invariant.1 (own c)
 
 at_index : (c : After-deref) → slice_get c.args.self.now.parked c.args.index ≡ Some (tried c)
@@ -53,8 +53,8 @@ alive : (c : After-deref) → has_ended c.args.self.now c.in_ok-client.client �
 alive c = subst (λ (s : State). has_ended s c.in_ok-client.client ≡ false) c.self.view_is (is_held c).0
 
 -- what is decided of the call, its client being alive
-as-decided : (c : After-deref) → proceeds (decide c.args.self.now c.in_ok-client.client c.in_ok-client.call.now) ≡ is_ready c.args.self.now (tried c)
-as-decided c = sym (ap (λ d. proceeds d) (alive-decides c.args.self.now c.in_ok-client.client c.in_ok-client.call.now (alive c)))
+as-decided : (c : After-deref) → proceeds (decide c.args.self.now c.in_ok-client.client c.in_ok-client.arrival.now.call) ≡ is_ready c.args.self.now (tried c)
+as-decided c = sym (ap (λ d. proceeds d) (alive-decides c.args.self.now c.in_ok-client.client c.in_ok-client.arrival.now.call (alive c)))
 
 pub caller_of-who-requires-clause-known : goal.caller_of-who-requires-clause-known
 caller_of-who-requires-clause-known c = rw c.deref.ensures.value (of_client (goal.at.caller_of-who-requires-clause-known c).After-deref).0
@@ -157,7 +157,7 @@ returns-in_err-outcome-in-MsgRcv-clause-none c =
 pub unreachable-requires : goal.unreachable-requires
 unreachable-requires c =
     let b = (goal.at.unreachable-requires c).After-deref in
-    no_other c.in_ok-client.call.now (of_client b).1 c.in_default.not-MsgSnd c.in_default.not-MsgRcv c.in_default.not-SemOp
+    no_other c.in_ok-client.arrival.now.call (of_client b).1 c.in_default.not-MsgSnd c.in_default.not-MsgRcv c.in_default.not-SemOp
 
 pub invariant_of-self-in-SemOp : goal.invariant_of-self-in-SemOp
 invariant_of-self-in-SemOp c = (
@@ -220,7 +220,7 @@ returns-in_ok-outcome-in-MsgRcv-clause-ended c =
     let outcome = c.in_ok-outcome-in-MsgRcv.outcome in
     let new = c.end_as.new.self in
     subst (λ o. IfSome o (λ (w : Waiting). end_waiting s w ≡ record { state = new; ended = c.end_as.result ∷ [] })) (sym (at_index b))
-    (ends-so s new client c.in_ok-client.call.now outcome (alive b)
+    (ends-so s new client c.in_ok-client.arrival.now.call c.in_ok-client.arrival.now.deadline outcome (alive b)
     (ap (λ (call : Call). outcome_of (decide t client call)) n.is
     ∙ sym (receive-outcome (without (view k) client) t client c.caller_of-who.result (rest_is k) (called k) n.id n.size n.flags _ n.msgtyp back)
     ∙ sym c.in_ok-outcome-in-MsgRcv.ensures.outcome)
@@ -230,24 +230,24 @@ returns-in_ok-outcome-in-MsgRcv-clause-ended c =
     ∙ ap (λ (e : Ended). record { state = new; ended = e ∷ [] }) (sym c.end_as.ensures.ended))
 
 -- a semop, as the code reads it
-module _ (c : After-caller_of-who) (id : ℕ) (ops : List SemOper) (is : c.in_ok-client.call.now ≡ SemOp id ops) where
+module _ (c : After-caller_of-who) (id : ℕ) (ops : List SemOper) (is : c.in_ok-client.arrival.now.call ≡ SemOp id ops) where
   abbrev part : State → Caller → Plan Sems
   part t w = operate t.limits t.sems w id ops
 
-  op-outcome : outcome_of (decision c.caller_of-who.result.creds (part (view c) c.caller_of-who.result)) ≡ outcome_of (decide c.args.self.now c.in_ok-client.client c.in_ok-client.call.now)
+  op-outcome : outcome_of (decision c.caller_of-who.result.creds (part (view c) c.caller_of-who.result)) ≡ outcome_of (decide c.args.self.now c.in_ok-client.client c.in_ok-client.arrival.now.call)
   unfolding view part_plan
   op-outcome =
       sets-outcome (SemOp id ops) part (view c) c.args.self.now c.in_ok-client.client c.caller_of-who.result c.self.view_is (called c) (λ t. refl)
       ∙ ap (λ (call : Call). outcome_of (decide c.args.self.now c.in_ok-client.client call)) (sym is)
 
-  op-rest : outcome_of (decision c.caller_of-who.result.creds (part (view c) c.caller_of-who.result)) ≡ outcome_of (decide (without c.args.self.now c.in_ok-client.client) c.in_ok-client.client c.in_ok-client.call.now)
+  op-rest : outcome_of (decision c.caller_of-who.result.creds (part (view c) c.caller_of-who.result)) ≡ outcome_of (decide (without c.args.self.now c.in_ok-client.client) c.in_ok-client.client c.in_ok-client.arrival.now.call)
   unfolding view part_plan
   op-rest =
       sets-outcome (SemOp id ops) part (without (view c) c.in_ok-client.client) (without c.args.self.now c.in_ok-client.client) c.in_ok-client.client c.caller_of-who.result (rest_is c) (called c) (λ t. refl)
       ∙ ap (λ (call : Call). outcome_of (decide (without c.args.self.now c.in_ok-client.client) c.in_ok-client.client call)) (sym is)
 
   op-left : (sems : Sems) → sems ≡ left_by (view c).sems (decision c.caller_of-who.result.creds (part (view c) c.caller_of-who.result))
-      → put_sems (without (view c) c.in_ok-client.client) sems ≡ left_by (without c.args.self.now c.in_ok-client.client) (decide (without c.args.self.now c.in_ok-client.client) c.in_ok-client.client c.in_ok-client.call.now)
+      → put_sems (without (view c) c.in_ok-client.client) sems ≡ left_by (without c.args.self.now c.in_ok-client.client) (decide (without c.args.self.now c.in_ok-client.client) c.in_ok-client.client c.in_ok-client.arrival.now.call)
   unfolding view part_plan
   op-left sems so =
       sets-left (SemOp id ops) part (without (view c) c.in_ok-client.client) (without c.args.self.now c.in_ok-client.client) c.in_ok-client.client c.caller_of-who.result (rest_is c) (called c) (λ t. refl) sems so
@@ -260,7 +260,7 @@ returns-in_err-outcome-in-SemOp-clause-ready c =
     let k = (goal.at.returns-in_err-outcome-in-SemOp-clause-ready c).After-caller_of-who in
     let n = c.in-SemOp in
     let s = c.args.self.now in
-    let is : c.in_ok-client.call.now ≡ SemOp n.id c.as_slice.result.now = n.is ∙ ap (λ (ops : List SemOper). SemOp n.id ops) (sym c.as_slice.ensures) in
+    let is : c.in_ok-client.arrival.now.call ≡ SemOp n.id c.as_slice.result.now = n.is ∙ ap (λ (ops : List SemOper). SemOp n.id ops) (sym c.as_slice.ensures) in
     subst (λ o. IfSome o (λ (w : Waiting). is_some c.from_residual-in_err-outcome-in-SemOp.result ≡ is_ready s w)) (sym (at_index b))
     (ap (λ (o : Option Ended). is_some o) c.from_residual-in_err-outcome-in-SemOp.ensures ∙ ap (λ (o : Option Outcome). is_some o) c.in_err-outcome-in-SemOp.ensures.outcome
     ∙ ap (λ (o : Option Outcome). is_some o) (op-outcome k n.id c.as_slice.result.now is) ∙ outcome-some _ ∙ as-decided b)
@@ -279,7 +279,7 @@ returns-in_ok-outcome-in-SemOp-clause-ready c =
     let k = (goal.at.returns-in_ok-outcome-in-SemOp-clause-ready c).After-caller_of-who in
     let n = c.in-SemOp in
     let s = c.args.self.now in
-    let is : c.in_ok-client.call.now ≡ SemOp n.id c.as_slice.result.now = n.is ∙ ap (λ (ops : List SemOper). SemOp n.id ops) (sym c.as_slice.ensures) in
+    let is : c.in_ok-client.arrival.now.call ≡ SemOp n.id c.as_slice.result.now = n.is ∙ ap (λ (ops : List SemOper). SemOp n.id ops) (sym c.as_slice.ensures) in
     subst (λ o. IfSome o (λ (w : Waiting). true ≡ is_ready s w)) (sym (at_index b))
     (ap (λ (o : Option Outcome). is_some o) (c.in_ok-outcome-in-SemOp.ensures.outcome ∙ op-outcome k n.id c.as_slice.result.now is) ∙ outcome-some _ ∙ as-decided b)
 
@@ -291,10 +291,10 @@ returns-in_ok-outcome-in-SemOp-clause-ended c =
     let n = c.in-SemOp in
     let s = c.args.self.now in
     let client = c.in_ok-client.client in
-    let is : c.in_ok-client.call.now ≡ SemOp n.id c.as_slice.result.now = n.is ∙ ap (λ (ops : List SemOper). SemOp n.id ops) (sym c.as_slice.ensures) in
+    let is : c.in_ok-client.arrival.now.call ≡ SemOp n.id c.as_slice.result.now = n.is ∙ ap (λ (ops : List SemOper). SemOp n.id ops) (sym c.as_slice.ensures) in
     let new = c.end_as-in-SemOp.new.self in
     subst (λ o. IfSome o (λ (w : Waiting). end_waiting s w ≡ record { state = new; ended = c.end_as-in-SemOp.result ∷ [] })) (sym (at_index b))
-    (ends-so s new client c.in_ok-client.call.now c.in_ok-outcome-in-SemOp.outcome (alive b)
+    (ends-so s new client c.in_ok-client.arrival.now.call c.in_ok-client.arrival.now.deadline c.in_ok-outcome-in-SemOp.outcome (alive b)
     (sym (op-rest k n.id c.as_slice.result.now is) ∙ sym c.in_ok-outcome-in-SemOp.ensures.outcome)
     (c.end_as-in-SemOp.ensures.state ∙ op-left k n.id c.as_slice.result.now is (sems_of c.semop_reserved.new.self) c.semop_reserved.ensures.sems)
     ∙ ap (λ (e : Ended). record { state = new; ended = e ∷ [] }) (sym c.end_as-in-SemOp.ensures.ended))

@@ -1,4 +1,4 @@
-use Rattle.std.proofs.Common.{◌≡◌, ℕ, ◌+◌, ◌<◌, ◌≤◌, Bool, true, false, List, get_or, length, sym, ap, ◌∙◌, subst, arith}
+use Rattle.std.proofs.Common.{◌≡◌, ℕ, ◌+◌, ◌<◌, ◌≤◌, Bool, true, false, List, get_or, length, sym, ap, ◌∙◌, subst, arith, None}
 use Rattle.std.specs.Prelude.{cond, slice_get, take, IfSome}
 use Rattle.std.specs.List.{count_by}
 use Rattle.std.proofs.lemmas.List.{take_all}
@@ -14,7 +14,7 @@ use Rattle.ipc_namespace.specs.Namespace.{is_awaited}
 use Rattle.ipc_namespace.proofs.Calling.{IfSome-at}
 use Rattle.ipc_namespace.proofs.Parked.{length-parked}
 use Rattle.ipc_namespace.proofs.namespace.Namespace.waiting_at.Goals as goal
-use Rattle.ipc_namespace.proofs.namespace.Namespace.waiting_at.Goals.{Joined-waits_at, then-waits_at, else-waits_at}
+use Rattle.ipc_namespace.proofs.namespace.Namespace.waiting_at.Goals.{then-waits_at, else-waits_at}
 
 pub overflow_add-count : goal.overflow_add-count
 overflow_add-count c =
@@ -25,7 +25,7 @@ overflow_add-count c =
 
 -- a call that stands where another isn't there
 abbrev default : Waiting
-default = record { client = 0; call = Exit }
+default = record { client = 0; call = Exit; deadline = None }
 
 -- the count with one call more
 counted : (test : Waiting → Bool) (ws : List Waiting) (i : ℕ) (answer : Bool) → i < length ws → IfSome (slice_get ws i) (λ w. answer ≡ test w)

@@ -1,18 +1,17 @@
-use Rattle.std.proofs.Common.{◌≡◌, ℕ, ◌+◌, ◌<◌, [], ◌∷◌, ◌++◌, map, length, refl, sym, ap, ◌∙◌, subst, arith, Option, Some, None}
-use Rattle.std.proofs.lemmas.Option.{none-some}
+use Rattle.std.proofs.Common.{◌≡◌, ℕ, ◌+◌, ◌<◌, [], ◌∷◌, ◌++◌, map, length, sym, ap, ◌∙◌, subst, arith}
 use Rattle.ipc_call.specs.declared.replies.JournalRow.TheVariants.{Called}
 use Rattle.ipc_model.specs.State.{State, is_waiting}
 use Rattle.ipc_model.specs.Step.{Event, Stepped, step}
-use Rattle.ipc_model.specs.Decision.{Outcome}
-use Rattle.ipc_history.specs.History.{History, IsLegalAt, answered_row, next_step, rows_by, run, told_ended, told_own, with_event}
+use Rattle.ipc_history.specs.History.{History, IsLegalAt, answered_row, next_step, rows_by, run, told_ended, told_own, with_event, IsLegal}
 use Rattle.ipc_model.specs.Waits.{AreNotReady}
-use Rattle.ipc_space.specs.Spaces.{IsOfHistory, history_in, other_replies, own_reply}
-use Rattle.ipc_space.proofs.Alone.{waits_alone}
-use Rattle.ipc_space.proofs.Histories.{IsOfHistory-push, length-events_in, rows_by-entered}
+use Rattle.ipc_space.specs.Spaces.{IsOfHistory, history_in, other_replies}
+use Rattle.ipc_space.proofs.Histories.{IsOfHistory-push, clients-reached, length-events_in, rows_by-entered}
 use Rattle.ipc_space.proofs.Once.{waits_once}
-use Rattle.ipc_space.proofs.Permitted.{run_attached, run_not_ready, run_permitted}
+use Rattle.ipc_space.proofs.Permitted.{run_attached, run_not_ready, run_permitted, run_in_time}
 use Rattle.ipc_space.proofs.spaces.Space.apply.Goals as goal
 use Rattle.ipc_space.proofs.spaces.Space.apply.Goals.{After-tell_others}
+use Rattle.ipc_space.proofs.Balance.{caller-apart}
+use Rattle.ipc_space.specs.Telling.{replies_in}
 
 event : (c : After-tell_others) → Event
 event c = record { client = c.args.client; now = c.args.now; call = c.args.call }
@@ -20,10 +19,20 @@ event c = record { client = c.args.client; now = c.args.now; call = c.args.call 
 stepped : (c : After-tell_others) → Stepped
 stepped c = record { state = c.serve.new.self; own = c.in_ok-outcome.outcome; ended = c.serve.new.ended.items }
 
+-- the client is known, by the credentials at the start as by those now
+among : (clients now count : ℕ) → now ≡ clients → count < clients → count < now
+among clients now count same less = omega (arith, same, less)
+
+known : (c : After-tell_others) → c.args.client < length c.self.inside.namespace.clients
+known c =
+    let s = c.self.inside in
+    among (length s.opening.items) (length s.namespace.clients) c.args.client (clients-reached s.namespace s.opening.items s.journal.rows s.events c.self.invariant.0)
+    (subst (λ (h : History). c.args.client < length h.clients) (sym c.self.view_is) c.requires.known)
+
 legal : (c : After-tell_others) → IsLegalAt c.self.inside.namespace (event c)
 unfolding event
 legal c = record {
-  known = subst (λ (h : History). c.args.client < length h.clients) (sym c.self.view_is) c.requires.known;
+  known = known c;
   free = ap (λ (s : State). is_waiting s c.args.client) (c.self.invariant.0.state ∙ ap run c.self.view_is) ∙ c.requires.free;
 }
 
@@ -38,13 +47,13 @@ rows c =
     c.tell_others.ensures.rows ∙ ap (λ r. r ++ others) (c.tell_own-own.ensures.rows ∙ ap (λ r. r ++ own) called)
     ∙ rows_by-entered c.self.inside.journal.rows place (event c) (stepped c)
 
-longer : (c : After-tell_others) → IsOfHistory c.serve.new.self c.tell_others.new.journal.rows (c.self.inside.events + 1)
-    × (history_in c.serve.new.self c.tell_others.new.journal.rows ≡ with_event (history_in c.self.inside.namespace c.self.inside.journal.rows) (event c))
+longer : (c : After-tell_others) → IsOfHistory c.serve.new.self c.self.inside.opening.items c.tell_others.new.journal.rows (c.self.inside.events + 1)
+    × (history_in c.serve.new.self.limits c.self.inside.opening.items c.tell_others.new.journal.rows ≡ with_event (history_in c.self.inside.namespace.limits c.self.inside.opening.items c.self.inside.journal.rows) (event c))
 unfolding event stepped
 longer c =
     let s = c.self.inside in
     let steps = c.in_ok-outcome.ensures.ok in
-    IsOfHistory-push s.namespace s.journal.rows c.tell_others.new.journal.rows s.events (event c) (stepped c) c.self.invariant.0 (legal c) steps c.serve.ensures.limits c.serve.ensures.clients (rows c)
+    IsOfHistory-push s.namespace s.opening.items s.journal.rows c.tell_others.new.journal.rows s.events (event c) (stepped c) c.self.invariant.0 (legal c) steps c.serve.ensures.limits (rows c)
 
 pub overflow_add-place : goal.overflow_add-place
 overflow_add-place c =
@@ -52,7 +61,7 @@ overflow_add-place c =
     omega (arith, c.self.invariant.0.counted, length-events_in s.journal.rows, c.in_ok-reserve.ensures.fits, ap length c.reserve.ensures.rows)
 
 pub serve-requires-clause-quiet : goal.serve-requires-clause-quiet
-serve-requires-clause-quiet c = subst AreNotReady (sym c.self.invariant.0.state) (run_not_ready (history_in c.self.inside.namespace c.self.inside.journal.rows))
+serve-requires-clause-quiet c = subst AreNotReady (sym c.self.invariant.0.state) (run_not_ready (history_in c.self.inside.namespace.limits c.self.inside.opening.items c.self.inside.journal.rows))
 
 pub invariant_of-self-2 : goal.invariant_of-self-2
 invariant_of-self-2 c = ((longer (goal.at.invariant_of-self-2 c).After-tell_others).0, c.tell_others.ensures.told, c.hand_out-others.ensures.left)
@@ -64,32 +73,37 @@ returns-clause-event c =
     (longer b).1 ∙ ap (λ (h : History). with_event h (event b)) c.self.view_is
 
 pub returns-clause-not_ready : goal.returns-clause-not_ready
-returns-clause-not_ready c = run_not_ready (history_in c.serve.new.self c.tell_others.new.journal.rows)
+returns-clause-not_ready c = run_not_ready (history_in c.serve.new.self.limits c.self.inside.opening.items c.tell_others.new.journal.rows)
 
 pub returns-clause-permitted : goal.returns-clause-permitted
-returns-clause-permitted c = run_permitted (history_in c.serve.new.self c.tell_others.new.journal.rows)
+returns-clause-permitted c = run_permitted (history_in c.serve.new.self.limits c.self.inside.opening.items c.tell_others.new.journal.rows)
+
+pub returns-clause-in_time : goal.returns-clause-in_time
+returns-clause-in_time c = run_in_time (history_in c.serve.new.self.limits c.self.inside.opening.items c.tell_others.new.journal.rows)
 
 pub returns-clause-attached : goal.returns-clause-attached
-returns-clause-attached c = run_attached (history_in c.serve.new.self c.tell_others.new.journal.rows)
+returns-clause-attached c = run_attached (history_in c.serve.new.self.limits c.self.inside.opening.items c.tell_others.new.journal.rows)
 
 pub returns-clause-once : goal.returns-clause-once
-returns-clause-once c = waits_once (history_in c.serve.new.self c.tell_others.new.journal.rows) (longer (goal.at.returns-clause-once c).After-tell_others).0.legal
+returns-clause-once c = waits_once (history_in c.serve.new.self.limits c.self.inside.opening.items c.tell_others.new.journal.rows) (longer (goal.at.returns-clause-once c).After-tell_others).0.legal
 
 pub returns-clause-legal : goal.returns-clause-legal
 returns-clause-legal c = (longer (goal.at.returns-clause-legal c).After-tell_others).0.legal
 
-no_own : (place : ℕ) (o : Option Outcome) → own_reply place o ≡ None → o ≡ None
-no_own place None is = refl
-no_own place (Some o) is = absurd (none-some _ (sym is))
+pub serve-requires-clause-known : goal.serve-requires-clause-known
+serve-requires-clause-known c =
+    let s = c.self.inside in
+    among (length s.opening.items) (length s.namespace.clients) c.args.client (clients-reached s.namespace s.opening.items s.journal.rows s.events c.self.invariant.0)
+    (subst (λ (h : History). c.args.client < length h.clients) (sym c.self.view_is) c.requires.known)
 
-pub returns-clause-alone : goal.returns-clause-alone
+pub returns-clause-apart : goal.returns-clause-apart
 unfolding event stepped
-returns-clause-alone c = λ none.
-    let b = (goal.at.returns-clause-alone c).After-tell_others in
+returns-clause-apart c =
+    let b = (goal.at.returns-clause-apart c).After-tell_others in
     let s = c.self.inside in
     let place = s.events + 1 in
-    let h = history_in s.namespace s.journal.rows in
+    let h = history_in s.namespace.limits s.opening.items s.journal.rows in
     let is : next_step h (event b) ≡ stepped b = ap (λ (x : State). step x (event b)) (sym c.self.invariant.0.state) ∙ c.in_ok-outcome.ensures.ok in
-    let own : c.in_ok-outcome.outcome ≡ None = no_own place c.in_ok-outcome.outcome (sym c.tell_own-own.ensures.reply ∙ none) in
-    let ended = waits_alone h (event b) (ap (λ (m : Stepped). m.own) is ∙ own) in
-    c.hand_out-others.ensures.handed ∙ c.tell_others.ensures.others ∙ ap (λ es. other_replies place es) (ap (λ (m : Stepped). m.ended) (sym is) ∙ ended)
+    let law : IsLegal (with_event h (event b)) = subst (λ (h : History). IsLegal h) (longer b).1 (longer b).0.legal in
+    ap (λ others. replies_in others c.args.client) (c.hand_out-others.ensures.handed ∙ c.tell_others.ensures.others ∙ ap (λ (m : Stepped). other_replies place m.ended) (sym is))
+    ∙ caller-apart h (event b) place law
