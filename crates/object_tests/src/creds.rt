@@ -1,7 +1,8 @@
-// Credentials that are copied.
+// Credentials that are copied, and that change.
 
 use bitflags::Flags;
 use ipc_creds::{Caps, Creds};
+use std::alloc::Global;
 use std::test::Fail;
 
 fn caps() -> Caps {
@@ -22,5 +23,26 @@ fn a_copy_equals_its_source(rt: HostRuntime) -> Result<(), Fail> {
     let creds = Creds::new(300, 30, groups, caps());
     let copied = creds.copy()?;
     assert!(rt; is_own(&creds) && is_own(&copied));
+    Ok(())
+}
+
+/// User 100 of group 10, with the saved user 7 and the saved group 8.
+fn daemon(alloc: Global) -> Creds {
+    Creds::new(100, 10, Vec::new(alloc), Caps::empty()).with_saved(7, 8)
+}
+
+/// The user and the group are each one that the client may become.
+fn are_own(creds: &Creds, uid: u32, gid: u32) -> bool {
+    creds.is_own_user(uid) && creds.is_own_group(gid)
+}
+
+#[test]
+fn a_client_takes_on_its_saved_user_and_back(rt: HostRuntime) -> Result<(), Fail> {
+    let mut creds = daemon(rt.alloc());
+    creds.take_on(7, 8, None);
+    assert!(rt; creds.euid() == 7 && creds.egid() == 8);
+    assert!(rt; are_own(&creds, 100, 10) && are_own(&creds, 7, 8) && !creds.is_own_user(8));
+    let copied = creds.copy()?;
+    assert!(rt; are_own(&copied, 100, 8) && !copied.is_own_group(7));
     Ok(())
 }

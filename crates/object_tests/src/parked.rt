@@ -10,6 +10,8 @@ use std::test::Fail;
 enum Step {
     /// A client waits for a message of a queue, from the event at a place on: how many wait then.
     Park(u32, u64, u32),
+    /// A client waits for a message of queue 7, until a second of the clock: how many wait then.
+    ParkUntil(u32, u64),
     /// The client's call leaves the list: how many are left.
     Finish(u32),
     /// The place of the event that brought the client's call.
@@ -20,6 +22,8 @@ enum Step {
     AtQueue(u32, u32),
     /// The earliest that waits at a semaphore set.
     AtSet(u32),
+    /// The earliest whose deadline is reached at a second of the clock.
+    Due(u64),
 }
 
 /// A call that receives from a queue.
@@ -32,11 +36,17 @@ fn receive(id: u32) -> Call {
     }
 }
 
-fn park(parked: &mut Parked, client: u32, place: u64, id: u32) -> Result<(), Fail> {
+fn park(
+    parked: &mut Parked,
+    client: u32,
+    place: u64,
+    id: u32,
+    deadline: Option<u64>,
+) -> Result<(), Fail> {
     if parked.is_waiting(client) {
         return Err(Fail::from("it waits"));
     }
-    parked.park(client, place, receive(id))?;
+    parked.park(client, place, receive(id), deadline)?;
     Ok(())
 }
 
@@ -62,6 +72,7 @@ fn seen(parked: &Parked, step: Step) -> Option<u64> {
         }
         Step::AtQueue(id, least) => at_object(parked, Kind::Queue, id, least),
         Step::AtSet(id) => at_object(parked, Kind::Sems, id, 0),
+        Step::Due(clock) => parked.due(clock),
         Step::PlaceOf(client) if parked.is_waiting(client) => return Some(parked.place_of(client)),
         _ => None,
     };
@@ -71,7 +82,8 @@ fn seen(parked: &Parked, step: Step) -> Option<u64> {
 /// Does a step, and answers what it tells.
 fn told(rt: &impl Abort, parked: &mut Parked, step: Step) -> Result<Option<u64>, Fail> {
     match step {
-        Step::Park(client, place, id) => park(parked, client, place, id)?,
+        Step::Park(client, place, id) => park(parked, client, place, id, None)?,
+        Step::ParkUntil(client, deadline) => park(parked, client, 1, 7, Some(deadline))?,
         Step::Finish(client) => finish(rt, parked, client),
         _ => return Ok(seen(parked, step)),
     }
@@ -121,6 +133,28 @@ fn the_earliest_that_passes_is_told(rt: HostRuntime) -> Result<(), Fail> {
         (Step::AtQueue(8, 4), Some(9)),
         (Step::AtQueue(9, 0), None),
         (Step::AtSet(8), None),
+    ];
+    follow(&rt, &mut parked, &steps)
+}
+
+#[test]
+fn the_earliest_that_is_due_is_told(rt: HostRuntime) -> Result<(), Fail> {
+    let mut parked = Parked::new(rt.alloc());
+    let steps = [
+        (Step::Due(u64::MAX), None),
+        (Step::Park(1, 2, 7), Some(1)),
+        (Step::Due(u64::MAX), None),
+        (Step::ParkUntil(5, 9), Some(2)),
+        (Step::ParkUntil(3, 7), Some(3)),
+        (Step::ParkUntil(4, u64::MAX), Some(4)),
+        (Step::Due(6), None),
+        (Step::Due(7), Some(3)),
+        (Step::Due(9), Some(5)),
+        (Step::Finish(3), Some(3)),
+        (Step::Due(8), None),
+        (Step::Finish(5), Some(2)),
+        (Step::Due(u64::MAX - 1), None),
+        (Step::Due(u64::MAX), Some(4)),
     ];
     follow(&rt, &mut parked, &steps)
 }

@@ -18,6 +18,9 @@ pub fn any_call(
     if client < 3 && numbers.once_in(1000) {
         return Ok(Call::Exit);
     }
+    if numbers.once_in(30) {
+        return credentials(alloc, numbers);
+    }
     let kind = any_kind(numbers);
     let id = any_id(numbers, space, kind)?;
     if client == 7 || numbers.once_in(10) {
@@ -157,6 +160,11 @@ fn set_call(alloc: Global, numbers: &mut Numbers, id: u32) -> Result<Call, Memor
             id,
             values: Items::new(Vec::from_elem(alloc, 1, num as usize)?),
         },
+        8..11 => Call::SemTimedOp {
+            id,
+            ops: any_operations(alloc, numbers)?,
+            timeout: u64::from(numbers.below(40)),
+        },
         _ => Call::SemOp {
             id,
             ops: any_operations(alloc, numbers)?,
@@ -189,6 +197,33 @@ fn segment_call(alloc: Global, numbers: &mut Numbers, id: u32) -> Result<Call, M
             bytes: any_bytes(alloc, numbers)?,
         },
     })
+}
+
+/// A user and a group that the client may become or not, and seldom supplementary groups, at times too many.
+fn credentials(alloc: Global, numbers: &mut Numbers) -> Result<Call, Memory> {
+    let groups = if numbers.once_in(4) {
+        Some(any_groups(alloc, numbers)?)
+    } else {
+        None
+    };
+    Ok(Call::SetCreds {
+        euid: numbers.below(4) * 100,
+        egid: if numbers.once_in(3) { 30 } else { 10 },
+        groups,
+    })
+}
+
+fn any_groups(alloc: Global, numbers: &mut Numbers) -> Result<Items<u32>, Memory> {
+    let count = if numbers.once_in(4) {
+        33
+    } else {
+        numbers.below(3)
+    };
+    let mut groups = Vec::new(alloc);
+    for _ in 0..count {
+        groups.push(numbers.below(4) * 10)?;
+    }
+    Ok(Items::new(groups))
 }
 
 fn control(numbers: &mut Numbers, kind: Kind, id: u32) -> Call {

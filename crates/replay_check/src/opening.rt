@@ -22,13 +22,17 @@ pub fn limits() -> Limits
     }
 }
 
-/// Two of each of three users, one who may read and alter everything, and one who may control it.
+/// Two of each of three users, of whom the second has another saved user and group; one of these may become any user,
+/// and one any group. Then one who may read and alter everything, and one who may control it.
 pub fn users(alloc: Global) -> io::Result<Vec<Creds>>
     ensures { IfOk result (λ users. (1 ≤ vec_len users) × (vec_len users ≤ 64)) }
 {
     let mut users = Vec::new(alloc);
-    for user in [0, 100, 200, 0, 100, 200] {
+    for user in [0, 100, 200] {
         users.push(Creds::new(user, 10, Vec::new(alloc), Caps::empty()))?;
+    }
+    for (user, caps) in [(0, Caps::SETUID), (100, Caps::SETGID), (200, Caps::empty())] {
+        users.push(Creds::new(user, 10, Vec::new(alloc), caps).with_saved(300, 30))?;
     }
     for caps in [Caps::IPC_OWNER, Caps::SYS_ADMIN] {
         users.push(Creds::new(300, 30, Vec::new(alloc), caps))?;

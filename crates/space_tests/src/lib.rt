@@ -7,3 +7,5 @@ mod journal;
 mod replays;
 #[cfg(test)]
 mod spaces;
+#[cfg(test)]
+mod users;
