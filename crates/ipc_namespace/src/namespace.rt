@@ -380,6 +380,7 @@ impl Namespace {
 
     /// Ends the waiting calls whose deadline is reached, the earliest first. There is room for each in the list of those
     /// that ended.
+    #[inline(always)]
     fn expire(&mut self, ended: &mut Vec<Ended>)
         requires { vec_len ended.old + length self.old.parked ≤ vec_capacity ended.old }
         ensures state { self.new ≡ (expire self.old).state }
@@ -394,6 +395,7 @@ impl Namespace {
     }
 
     /// The client of the earliest waiting call whose deadline is reached.
+    #[inline(always)]
     fn first_due(&self) -> Option<u32>
         ensures first { result ≡ option_map (λ w. w.client) (find (λ w. is_reached self.now.clock w.deadline) self.now.parked) }
         ensures waits { IfSome result (λ client. waits self.now client ≡ true) }

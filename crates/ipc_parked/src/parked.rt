@@ -134,6 +134,7 @@ impl Parked {
 
     /// The client of the earliest waiting call whose deadline is reached at a second of the clock. Where none is, this is
     /// known without a walk. Takes no memory.
+    #[inline(always)]
     pub fn due(&self, clock: u64) -> Option<u32>
         ensures { result ≡ option_map (λ e. e.0) (find (λ e. is_reached clock e.1.deadline) self.now) }
     {
@@ -226,6 +227,7 @@ pub fn waits_at(call: &Call) -> Option<(Kind, u32)>
     }
 }
 
+#[inline(always)]
 fn is_due(deadline: Option<u64>, clock: u64) -> bool
     ensures { result ≡ is_reached clock deadline }
 {
