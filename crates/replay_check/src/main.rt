@@ -79,8 +79,8 @@ fn wanted(row: &JournalRow, at: u64, change: Change) -> Option<Option<u64>> {
     match (change, row) {
         (Change::Doubled, _) => Some(Some(at.saturating_add(1))),
         (_, JournalRow::Answered { .. }) => Some(Some(at)),
-        // The row of a call has no rule. Another time may end a call at its deadline that else goes on waiting.
-        (Change::Rule, _) => Some(None),
+        // The row of a call has no rule, and the time of none of these decides whether a deadline is reached.
+        (Change::Place | Change::Rule, _) => Some(None),
         _ => None,
     }
 }
