@@ -111,7 +111,16 @@ reads_no_byte_more() {
     same 'its output' /dev/null "$scratch/out"
 }
 
-check_memory() { with_program attempt 'refused allocations' bears_refusals; }
+check_memory() {
+    with_program attempt 'refused allocations' bears_refusals
+    attempt 'refused allocations of queues' queues_bear_refusals
+}
+
+# refuser: builds what refuses allocations.
+refuser() {
+    why='checks/refuse.c does not build'
+    cc -shared -fPIC -o "$scratch/refuse.so" checks/refuse.c
+}
 
 # A run with one allocation refused: it stopped for want of memory with a prefix of the rows; or one call was answered
 # so, and the other as if that call weren't there; or the run did without that allocation, and all rows are there.
@@ -135,8 +144,7 @@ ipcsh: no memory') head -c "$(wc -c <"$scratch/out")" examples/first-run.out | c
 
 # Each allocation of the first run is refused in turn.
 bears_refusals() {
-    why='checks/refuse.c does not build'
-    cc -shared -fPIC -o "$scratch/refuse.so" checks/refuse.c || return 1
+    refuser || return 1
     number=0
     answered=no
     while :; do
@@ -155,6 +163,20 @@ bears_refusals() {
     why="with no allocation refused: status $status"
     [ "$status" = 0 ] || return 1
     same 'its output' examples/first-run.out "$scratch/out"
+}
+
+# Each second, third, .. allocation of the random lists of calls on queues is refused: they answer as plain lists do.
+queues_bear_refusals() {
+    refuser || return 1
+    tests=crates/object_tests/out/object_tests_tests
+    why='the tests of crates/object_tests are not built'
+    [ -x "$tests" ] || (cd crates/object_tests && rt test) >/dev/null 2>&1 || return 1
+    for each in 2 3 5 7 11 101; do
+        why="each allocation with a number that $each divides refused: not as a plain list, or none was refused"
+        EACH="$each" LD_PRELOAD="$scratch/refuse.so" timeout 60 "$tests" lists::a_queue_answers_as_a_list \
+            >"$scratch/out" 2>"$scratch/err" || return 1
+        grep -q '^refused$' "$scratch/err" || return 1
+    done
 }
 
 check_table() { with_program attempt 'full table' fills_a_table; }

@@ -1,4 +1,5 @@
-/* Preloaded into a program: refuses the allocation whose number, from 1, is in REFUSE. After it all are granted. */
+/* Preloaded into a program: refuses the allocation whose number, from 1, is in REFUSE, and after it none; or with EACH=N each
+   Nth one. */
 #define _GNU_SOURCE
 #include <dlfcn.h>
 #include <errno.h>
@@ -7,15 +8,23 @@
 #include <unistd.h>
 
 static long left = -1;
+static long each;
+
+static long number_in(const char *name)
+{
+    const char *number = getenv(name);
+    return number ? atol(number) : 0;
+}
 
 static int refused(void)
 {
     if (left < 0) {
-        const char *number = getenv("REFUSE");
-        left = number ? atol(number) : 0;
+        each = number_in("EACH");
+        left = each ? each : number_in("REFUSE");
     }
     if (left == 0 || --left != 0)
         return 0;
+    left = each;
     if (write(2, "refused\n", 8) != 8)
         _exit(99);
     errno = ENOMEM;

@@ -1,4 +1,10 @@
-mod Chosen
-mod Places
-mod Room
-mod Selection
+mod Changing
+mod Chains
+mod First
+mod Holding
+mod Links
+mod Others
+mod Placed
+mod Relinks
+mod Rows
+mod Selecting

@@ -1,3 +1,6 @@
+pub mod Links
 pub mod Messages
-pub mod Places
+pub mod Others
 pub mod Queues
+pub mod Types
+pub mod Words

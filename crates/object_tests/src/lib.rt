@@ -9,6 +9,8 @@ mod creds;
 #[cfg(test)]
 mod ids;
 #[cfg(test)]
+mod lists;
+#[cfg(test)]
 mod messages;
 #[cfg(test)]
 mod objects;
