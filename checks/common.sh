@@ -60,10 +60,22 @@ built() {
     return 1
 }
 
+# has_program: there is a program for ./ipcsh to run, the proved one but under --unproved.
+has_program() {
+    [ -n "${unproved-}" ] || { built ipcsh_cli && return 0 || return 1; }
+    why='it cannot be built without a proof'
+    is_kept ipcsh_cli || keep ipcsh_cli
+}
+
+# the_program: the file of this program, which is run by itself where ./ipcsh would look at all sources each time.
+the_program() {
+    if [ -n "${unproved-}" ]; then unproved_of ipcsh_cli; else program_of ipcsh_cli; fi
+}
+
 # with_program COMMAND..: the checks of a part that runs ./ipcsh. Without the program that is one failure.
 with_program() {
     : >"$scratch/shown"
-    if built ipcsh_cli; then
+    if has_program; then
         "$@"
     else
         fail ipcsh

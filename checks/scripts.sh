@@ -1,5 +1,6 @@
 # The scripts with stored output: those of examples/ and of crates/rows/data. The program `rows` runs the second too, as two
-# compilers build it, but without their words and status.
+# compilers build it, but without their words and status. Those of crates/rows/data are handed to the program itself, as
+# ./ipcsh answers --help and --version in its place.
 
 check_scripts() { with_program script_checks; }
 
@@ -9,7 +10,7 @@ script_checks() {
         attempt "$file" matches "${file%.ipcsh}" ipcsh
     done
     for file in crates/rows/data/*.in; do
-        attempt "$file" matches "${file%.in}" in
+        attempt "$file" matches "${file%.in}" in "$(the_program)"
     done
 }
 

@@ -27,7 +27,7 @@ is_for_threads() {
 matches_each_time() {
     round=1
     while [ "$round" -le "$rounds" ]; do
-        matches "$1" "$2" "$(program_of ipcsh_cli)" || {
+        matches "$1" "$2" "$(the_program)" || {
             why="round $round: $why"
             return 1
         }

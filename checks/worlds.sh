@@ -16,7 +16,7 @@ world_checks() {
 # rows_in WORLD: the rows of the client in this world of each pair, in $worlds/WORLD. A line of a client that waits is bad,
 # which is status 1 of the program.
 rows_in() {
-    program=$(program_of ipcsh_cli)
+    program=$(the_program)
     number=1
     : >"$worlds/rows"
     while [ "$number" -le "$pairs" ]; do
