@@ -6,7 +6,7 @@
 #   KIND FILE    lines that stand in this file as they are; of kind `rust` always.
 #   sh, text     what has no output: commands to be copied, a picture, a grammar.
 
-documents='README.md docs/*.md'
+documents='README.md CHANGELOG.md docs/*.md examples/README.md'
 
 # A command of the documents that checks them again would never end, so there this fails.
 check_docs() {
@@ -25,6 +25,18 @@ docs_checks() {
         [ "$kind" != ipcsh ] || script=$block.body
     done
     attempt 'docs/PROFILE.md' names_each_refusal
+    attempt 'links' links_lead_somewhere
+    attempt 'docs/hand-over.svg' is_drawn_of_its_table
+}
+
+links_lead_somewhere() {
+    why='a link leads nowhere:'
+    python3 lib/links.py $documents >"$scratch/shown"
+}
+
+is_drawn_of_its_table() {
+    awk -f lib/hand_over_picture.awk docs/SPEED.md >"$scratch/drawn"
+    same 'the picture of the table' "$scratch/drawn" docs/hand-over.svg
 }
 
 # cut_blocks FILE..: of each block a file NUMBER.place, NUMBER.kind and NUMBER.body in $scratch/blocks.
