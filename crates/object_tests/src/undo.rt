@@ -1,4 +1,4 @@
-//! Worked rows of semadj, with what semop(2), semctl(2) and _exit(2) have them become.
+//! Worked rows of semadj, with what semop(2) and semctl(2) have them become.
 
 use sem_undo::Undo;
 use std::alloc::Global;

@@ -70,8 +70,8 @@ impl Segments {
         Ok(Answer::Done)
     }
 
-    /// Detaches all that the caller has attached, as its exit does, the least number first (shmop(2), _exit(2)). It
-    /// takes no memory.
+    /// Detaches all that the caller has attached, as its exit does, the least number first (shmop(2); POSIX XSH _Exit).
+    /// It takes no memory.
     pub fn exit(&mut self, who: &Caller)
         ensures { self.new ≡ after_detaches self.old who.entry.now }
     {

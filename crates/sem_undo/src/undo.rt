@@ -128,7 +128,7 @@ impl Undo {
     }
 
     /// Takes out a row of a client: the least set where it has one, and its semadj there by semaphore number; None
-    /// once it has none (_exit(2)).
+    /// once it has none (semop(2), SEM_UNDO).
     pub fn take_all(&mut self, client: u32) -> Option<(u32, Vec<i32>)>
         ensures none { IfNone result (without_client self.old.entries client ≡ self.old.entries) }
         ensures no_row { IfNone result ((set : ℕ)

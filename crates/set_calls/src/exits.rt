@@ -11,7 +11,7 @@ use crate::sets::Sets;
 use object_calls::Caller;
 
 impl Sets {
-    /// Undoes what the caller's operations with SEM_UNDO did, as its exit does (semop(2), _exit(2)): each value has its
+    /// Undoes what the caller's operations with SEM_UNDO did, as its exit does (semop(2), SEM_UNDO): each value has its
     /// semadj added, and is brought into 0 to SEMVMX. Its rows go. It takes no memory.
     pub fn exit(&mut self, who: &Caller)
         ensures sems { sems_of self.new ≡ after_exit (sems_of self.old) who.entry.now }
