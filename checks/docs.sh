@@ -27,6 +27,26 @@ docs_checks() {
     attempt 'docs/PROFILE.md' names_each_refusal
     attempt 'links' links_lead_somewhere
     attempt 'docs/hand-over.svg' is_drawn_of_its_table
+    attempt 'man/' man_pages_are_current
+    ! command -v man >/dev/null || attempt 'man -l' man_pages_show
+}
+
+man_pages_are_current() {
+    why='python3 lib/man_pages.py man makes others:'
+    python3 lib/man_pages.py "$scratch/man" || return 1
+    ! diff -r -U 1 man "$scratch/man" >"$scratch/diff" || return 0
+    sed -n '1,12p' "$scratch/diff" >"$scratch/shown"
+    return 1
+}
+
+# Each man page is shown without a warning.
+man_pages_show() {
+    why='man warns:'
+    for file in man/*; do
+        LC_ALL=C.UTF-8 man --warnings -l "$file" 2>>"$scratch/shown" >"$scratch/page" || return 1
+        [ -s "$scratch/page" ] || return 1
+    done
+    [ ! -s "$scratch/shown" ]
 }
 
 links_lead_somewhere() {

@@ -1,0 +1,199 @@
+#!/usr/bin/env python3
+"""man_pages.py FOLDER: makes the man pages ipcsh.1, ipcsh.5 and sysvipc-rules.7 of the documents, in this folder. They are
+kept in man/, and ./check docs finds them current. A table becomes a list, as a terminal has no room for its columns."""
+import os
+import re
+import sys
+
+TOP = os.path.dirname(os.path.dirname(os.path.abspath(__file__)))
+
+
+# Names of columns that tell no more than their cells.
+PLAIN = ("", "When", "What", "Is", "Of", "Limit", "Command", "Meaning", "What it does")
+
+
+def document(name):
+    with open(os.path.join(TOP, name), encoding="utf-8") as it:
+        return it.read()
+
+
+def sections(text, level=2):
+    """The sections of a document by heading; what stands before the first has the name ''."""
+    found, name, inside = {"": []}, "", False
+    for line in text.split("\n"):
+        inside ^= line.startswith("```")
+        if not inside and line.startswith("#" * level + " "):
+            name = line[level + 1 :]
+            found[name] = []
+        else:
+            found[name].append(line)
+    return {it: "\n".join(lines).strip("\n") for it, lines in found.items()}
+
+
+def escaped(text):
+    return text.replace("\\", "\\e").replace("-", "\\-").replace("'", "\\(aq").replace("`", "\\(ga").replace("^", "\\(ha").replace("~", "\\(ti")
+
+
+def pointed_to(words, target):
+    """What stands in the place of a link: a page that is a man page too, another document's file, or the link's words."""
+    name = os.path.basename(target.partition("#")[0])
+    pages = {"PROFILE.md": "sysvipc-rules(7)", "LANGUAGE.md": "ipcsh(5)"}
+    if name in pages:
+        return pages[name]
+    return "docs/" + name if words + ".md" == name else words
+
+
+def inline(text):
+    """A paragraph's text: code and bold words are bold, a link is its words."""
+    text = re.sub(r'<a id="[^"]*"></a>', "", text)
+    text = re.sub(r"!\[[^]]*\]\([^)]*\)", "", text)
+    text = re.sub(r"\[([^]]*)\]\(([^)]*)\)", lambda it: pointed_to(it[1], it[2]), text)
+    parts = re.split(r"(`[^`]+`|\*\*.+?\*\*)", text)
+    said = ""
+    for part in parts:
+        if part.startswith("`") and len(part) > 2:
+            said += f"\\fB{escaped(part[1:-1])}\\fR"
+        elif part.startswith("**"):
+            said += f"\\fB{escaped(part[2:-2].replace('`', ''))}\\fR"
+        else:
+            said += part.replace("\\", "\\e")
+    return guarded(said.strip())
+
+
+def guarded(line):
+    """A line of text that groff doesn't take for a request."""
+    return "\\&" + line if line[:1] in (".", "'") else line
+
+
+def cells(line):
+    return [it.strip() for it in re.split(r"(?<!\\)\|", line.strip().strip("|"))]
+
+
+def table(lines):
+    """Each row is a paragraph with its first cell as the tag. Of more than two columns each cell has the column's name."""
+    heads = cells(lines[0])
+    said = []
+    for line in lines[2:]:
+        row = cells(line)
+        tag = inline(row[0]) or "\\&"
+        told = [(head, it) for head, it in zip(heads[1:], row[1:]) if it]
+        if len(heads) == 2:
+            body = "".join(it for _, it in told)
+        else:
+            body = "; ".join(it if head in PLAIN else f"{head}: {it}" for head, it in told)
+        said += [".TP", tag, inline(body) or "\\&"]
+    return said
+
+
+def listed(lines):
+    """Items that begin with `- ` or with a number; what is indented goes on with the item before."""
+    items = []
+    for line in lines:
+        begins = re.match(r"(-|\d+\.) +(.*)", line)
+        if begins:
+            items.append([begins[1], begins[2]])
+        else:
+            items[-1][1] += " " + line.strip()
+    said = []
+    for mark, text in items:
+        said += [".IP \\(bu 2" if mark == "-" else f".IP {mark} 4", inline(text)]
+    return said
+
+
+def block_of_code(lines):
+    return [".PP", ".in +4n", ".nf", *(guarded(escaped(it)) for it in lines), ".fi", ".in"]
+
+
+def paragraph(lines):
+    first = lines[0]
+    if first.startswith("#"):
+        return [".SS " + inline(first.lstrip("# "))]
+    if first.startswith("|"):
+        return table(lines)
+    if re.match(r"(-|\d+\.) ", first):
+        return listed(lines)
+    text = inline(" ".join(it.strip() for it in lines))
+    return [".PP", text] if text and not text.startswith("Contents:") else []
+
+
+def roff(text):
+    """The text of a section, as lines for groff."""
+    said, block, code = [], [], None
+
+    def end():
+        if block:
+            said.extend(paragraph(block))
+            block.clear()
+
+    for line in text.split("\n") + [""]:
+        if line.startswith("```"):
+            end()
+            if code is not None:
+                said.extend(block_of_code(code))
+            code = [] if code is None else None
+        elif code is not None:
+            code.append(line)
+        elif not line.strip():
+            end()
+        else:
+            if line.startswith("#"):
+                end()
+            block.append(line)
+            if line.startswith("#"):
+                end()
+    return said
+
+
+def page(name, number, about, parts):
+    version = document("VERSION").strip()
+    said = [
+        ".\\\" Made by lib/man_pages.py of the documents; a change belongs there.",
+        f'.TH {name} {number} "" "ipcsh {version}" "System V IPC in user space"',
+        ".ad l",
+        ".nh",
+        ".SH NAME",
+        f"{escaped(name)} \\- {about}",
+    ]
+    for head, text in parts:
+        said += [".SH " + inline(head).upper().replace("\\FB", "\\fB").replace("\\FR", "\\fR"), *roff(text)]
+    return "\n".join(said) + "\n"
+
+
+def command():
+    readme, language = sections(document("README.md")), sections(document("docs/LANGUAGE.md"))
+    about = readme[""].split("\n\n", 1)[1].split("\n\nIt is for you")[0]
+    parts = [
+        ("Synopsis", "```text\nipcsh [threads] < SCRIPT\nipcsh --help\nipcsh --version\n```"),
+        ("Description", about + "\n\nThe language of scripts is in ipcsh(5), and the rules of behaviour are in sysvipc\\-rules(7).".replace("\\", "")),
+        ("Example", readme["An owner who is denied"].split("\n\n[examples/]")[0]),
+        ("What it isn't", readme["What it isn't"]),
+        ("Exit status", language["How the program ends"]),
+        ("Environment", language["Before the program is built"]),
+        ("See also", "ipcsh(5), sysvipc-rules(7), ipcs(1), ipcmk(1), ipcrm(1), svipc(7)"),
+    ]
+    return page("ipcsh", 1, "run scripts of System V IPC calls, and tell why each is refused", parts)
+
+
+def language():
+    found = sections(document("docs/LANGUAGE.md"))
+    left = ("How the program ends", "Before the program is built")
+    parts = [("Description" if not name else name, text.split("\n\n", 1)[1] if not name else text) for name, text in found.items() if name not in left]
+    parts.append(("See also", "ipcsh(1), sysvipc-rules(7)"))
+    return page("ipcsh", 5, "the language of scripts, and the rows that ipcsh(1) prints", parts)
+
+
+def rules():
+    found = sections(document("docs/PROFILE.md"))
+    parts = [("Description" if not name else name, text.split("\n\n", 1)[1] if not name else text) for name, text in found.items()]
+    parts.append(("See also", "ipcsh(1), ipcsh(5), msgop(2), semop(2), shmop(2), svipc(7), capabilities(7), credentials(7)"))
+    return page("sysvipc-rules", 7, "rules of System V IPC as ipcsh(1) follows them, with their sources", parts)
+
+
+def main():
+    os.makedirs(sys.argv[1], exist_ok=True)
+    for name, made in (("ipcsh.1", command), ("ipcsh.5", language), ("sysvipc-rules.7", rules)):
+        with open(os.path.join(sys.argv[1], name), "w", encoding="utf-8") as it:
+            it.write(made())
+
+
+main()
