@@ -26,7 +26,8 @@ docs_checks() {
     done
     attempt 'docs/PROFILE.md' names_each_refusal
     attempt 'links' links_lead_somewhere
-    attempt 'docs/hand-over.svg' is_drawn_of_its_table
+    attempt 'docs/hand-over.svg' is_drawn_by hand_over_picture docs/hand-over.svg
+    attempt 'docs/threads.svg' is_drawn_by threads_picture docs/threads.svg
     attempt 'man/' man_pages_are_current
     ! command -v man >/dev/null || attempt 'man -l' man_pages_show
 }
@@ -54,9 +55,10 @@ links_lead_somewhere() {
     python3 lib/links.py $documents >"$scratch/shown"
 }
 
-is_drawn_of_its_table() {
-    awk -f lib/hand_over_picture.awk docs/SPEED.md >"$scratch/drawn"
-    same 'the picture of the table' "$scratch/drawn" docs/hand-over.svg
+# is_drawn_by NAME FILE: the picture is that of the tables of docs/SPEED.md.
+is_drawn_by() {
+    awk -f "lib/$1.awk" docs/SPEED.md >"$scratch/drawn"
+    same "what lib/$1.awk draws of docs/SPEED.md" "$scratch/drawn" "$2"
 }
 
 # cut_blocks FILE..: of each block a file NUMBER.place, NUMBER.kind and NUMBER.body in $scratch/blocks.
