@@ -26,13 +26,13 @@ def slug(heading):
     return plain.replace(" ", "-")
 
 
-@functools.cache
+@functools.lru_cache(maxsize=None)
 def text_of(file):
     with open(file, encoding="utf-8") as it:
         return it.read()
 
 
-@functools.cache
+@functools.lru_cache(maxsize=None)
 def anchors_of(file):
     text = without_blocks(text_of(file))
     headings = {slug(it) for it in re.findall(r"^#+ +(.*)$", text, re.M)}
