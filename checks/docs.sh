@@ -5,6 +5,9 @@
 #   ipcsh        a script. The next block, of kind `rows`, is what ./ipcsh prints for it.
 #   KIND FILE    lines that stand in this file as they are; of kind `rust` always.
 #   sh, text     what has no output: commands to be copied, a picture, a grammar.
+#
+# Their links lead somewhere, the pictures are those of the tables that they are drawn of, and the man pages those that
+# lib/man_pages.py makes of the documents.
 
 documents='README.md CHANGELOG.md docs/*.md examples/README.md'
 
