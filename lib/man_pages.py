@@ -75,8 +75,12 @@ def table(lines):
     said = []
     for line in lines[2:]:
         row = cells(line)
-        tag = inline(row[0]) or "\\&"
-        told = [(head, it) for head, it in zip(heads[1:], row[1:]) if it]
+        first = 1
+        if heads[:3] == ["Number", "Error", "Name"]:
+            row[2] = f"{row[1]} {row[0]} {row[2]}"
+            first = 3
+        tag = inline(row[first - 1]) or "\\&"
+        told = [(head, it) for head, it in zip(heads[first:], row[first:]) if it]
         if len(heads) == 2:
             body = "".join(it for _, it in told)
         else:
