@@ -1,9 +1,9 @@
 -- What a test picks of the calls that wait.
-use Rattle.std.proofs.Common.{◌≡◌, ℕ, Bool, true, false, cond, ◌&&◌, List, [], ◌∷◌, filter, refl, sym, ap, subst, ◌∙◌, ⊎_elim, inl, inr, Option, Some, None}
+use Rattle.std.proofs.Common.{◌≡◌, ℕ, Bool, true, false, cond, ◌&&◌, List, [], ◌∷◌, filter, refl, sym, ap, subst, ◌∙◌, ⊎_elim, Option, Some, None}
 use Rattle.std.specs.List.{find, AllByRecursion}
 use Rattle.std.specs.Option.{option_map}
 use Rattle.std.specs.Borrow.{Bor}
-use Rattle.std.proofs.lemmas.Bool.{cases_Bool, false≢true}
+use Rattle.std.proofs.lemmas.Bool.{cases_Bool}
 use Rattle.ipc_call.specs.declared.calls.Call.{Call}
 use Rattle.ipc_call.specs.declared.calls.Kind.{Kind}
 use Rattle.ipc_call.specs.declared.replies.Waiting.{Waiting}
@@ -35,44 +35,6 @@ find_filter keeps test (e ∷ es) =
     (λ (kept : keeps e ≡ true). rw kept (ap (λ (rest : Option (ℕ × Arrival)). cond (test e) (Some e) rest) (find_filter keeps test es)))
     (λ (left : keeps e ≡ false). rw left (find_filter keeps test es))
     (cases_Bool (keeps e))
-
--- a test that asks another one of those that pass a filter, and of no other
-pub may_ask_filter : (pre pre' : ℕ → Bor Call → Type 0) (keeps : ℕ × Arrival → Bool) (es : List (ℕ × Arrival))
-    → ((e : ℕ × Arrival) (call : Bor Call) → call.now ≡ e.1.call → (keeps e ≡ true → pre e.0 call) → pre' e.0 call)
-    → MayAsk pre (filter keeps es) → MayAsk pre' es
-may_ask_filter pre pre' keeps [] says may = tt
-may_ask_filter pre pre' keeps (e ∷ es) says may =
-    ⊎_elim
-    (λ (kept : keeps e ≡ true).
-    let own : MayAsk pre (e ∷ filter keeps es) = rw kept at may in
-    (λ (call : Bor Call) (is : call.now ≡ e.1.call). says e call is (λ _. own.0 call is), may_ask_filter pre pre' keeps es says own.1))
-    (λ (left : keeps e ≡ false).
-    let rest : MayAsk pre (filter keeps es) = rw left at may in
-    (λ (call : Bor Call) (is : call.now ≡ e.1.call). says e call is (λ kept. absurd (false≢true (sym left ∙ kept))), may_ask_filter pre pre' keeps es says rest))
-    (cases_Bool (keeps e))
-
--- picks the same of all as the other one of those that pass
-pub picks_filter : (post post' : ℕ → Bor Call → Bool → Type 0) (keeps : ℕ × Arrival → Bool) (es : List (ℕ × Arrival)) (client : Option ℕ)
-    → Picks (Answers post') es client
-    → ((e : ℕ × Arrival) (call : Bor Call) (answer : Bool) → call.now ≡ e.1.call → post' e.0 call answer → (keeps e ≡ true → post e.0 call answer) × (keeps e ≡ false → answer ≡ false))
-    → Picks (Answers post) (filter keeps es) client
-picks_filter post post' keeps [] client picks says = picks
-picks_filter post post' keeps (e ∷ es) client picks says =
-    ⊎_elim
-    (λ (first : (client ≡ Some e.0) × Answers post' e true).
-    let said = says e first.1.shown true first.1.shows first.1.says in
-    ⊎_elim
-    (λ (kept : keeps e ≡ true). rw kept (inl (first.0, record { shown = first.1.shown; shows = first.1.shows; says = said.0 kept })))
-    (λ (left : keeps e ≡ false). absurd (false≢true (sym (said.1 left))))
-    (cases_Bool (keeps e)))
-    (λ (later : Answers post' e false × Picks (Answers post') es client).
-    let said = says e later.0.shown false later.0.shows later.0.says in
-    let rest : Picks (Answers post) (filter keeps es) client = picks_filter post post' keeps es client later.1 says in
-    ⊎_elim
-    (λ (kept : keeps e ≡ true). rw kept (inr (record { shown = later.0.shown; shows = later.0.shows; says = said.0 kept }, rest)))
-    (λ (left : keeps e ≡ false). rw left rest)
-    (cases_Bool (keeps e)))
-    picks
 
 -- a test may be asked of each of the calls that wait, where what is true of each gives what the test asks for
 pub may_ask : (pre : ℕ → Bor Call → Type 0) (P : ℕ → Call → Type 0) (es : List (ℕ × Arrival)) → AllByRecursion (λ w. P w.client w.call) (waiting es)

@@ -1,13 +1,15 @@
 -- The calls that wait, as one list of clients with their calls, in order of arrival. The list is the project's own.
-use Rattle.std.specs.Prelude.{◌≡◌, ℕ, ◌==◌, ◌⊎◌, Bool, true, false, not, nat_lt, List, [], ◌∷◌, map, filter, Option, Some, None}
+use Rattle.std.specs.Prelude.{◌≡◌, ℕ, ◌==◌, ◌&&◌, ◌⊎◌, Bool, true, false, not, nat_lt, List, [], ◌∷◌, map, filter, Option, Some, None}
 use Rattle.std.specs.List.{find, list_any, AllByRecursion}
-use Rattle.std.specs.Option.{option_map}
+use Rattle.std.specs.Option.{option_map, unwrap_or}
 use Rattle.std.specs.Borrow.{Bor}
 use Rattle.ipc_call.specs.declared.calls.Call.{Call}
 use Rattle.ipc_call.specs.declared.calls.Kind.{Kind}
 use Rattle.ipc_call.specs.declared.replies.Waiting.{Waiting}
-use Rattle.ipc_model.specs.Cancelled.{waits_on}
+use Rattle.ipc_model.specs.Cancelled.{is_same, waits_on}
 use Rattle.ipc_parked.specs.declared.parked.Arrival.{Arrival}
+use Rattle.ipc_parked.specs.declared.waits.Wait.{Wait}
+use Rattle.ipc_parked.specs.Waits.{clients_at}
 
 -- a client with its call and its deadline
 abbrev pub entry_of : ℕ × Arrival → Waiting
@@ -51,6 +53,18 @@ AreApart (w ∷ ws) = (list_any (λ v. v.client == w.client) ws ≡ false) × Ar
 -- those that wait on this object
 abbrev pub on_object : Kind → ℕ → List (ℕ × Arrival) → List (ℕ × Arrival)
 on_object kind id es = filter (λ e. waits_on kind id e.1.call) es
+
+-- and their clients
+abbrev pub clients_on : Kind → ℕ → List (ℕ × Arrival) → List ℕ
+clients_on kind id es = map (λ e. e.0) (on_object kind id es)
+
+-- the place of a call is this object
+abbrev pub is_at : Kind → ℕ → Option (Kind × ℕ) → Bool
+is_at kind id at = unwrap_or (option_map (λ object. is_same object.0 kind && object.1 == id) at) false
+
+-- the rows on each object of a kind are the clients whose calls wait on it
+abbrev pub IsIndex : Kind → List Wait → List (ℕ × Arrival) → Type 0
+IsIndex kind rows es = (id : ℕ) → clients_at id rows ≡ clients_on kind id es
 
 -- a test may be asked of each, where it may be asked of a client and a call that have pre
 abbrev pub MayAsk : (ℕ → Bor Call → Type 0) → List (ℕ × Arrival) → Type 0

@@ -3,5 +3,6 @@
 #![tactic(auto)]
 
 mod parked;
+mod waits;
 
 pub use parked::{Arrival, Parked, waits_at, waits_on};

@@ -1,7 +1,8 @@
 // The calls that wait.
 
-ghost use Rattle.std.specs.Prelude.{◌≡◌, true, false, [], ◌∷◌, ◌++◌, length, slice_get, OnOk, OnErr, Some};
+ghost use Rattle.std.specs.Prelude.{◌≡◌, ℕ, ◌<◌, true, false, [], ◌∷◌, ◌++◌, length, slice_get, OnOk, OnErr, Some, if◌then◌else◌};
 ghost use Rattle.std.specs.Option.{option_map};
+ghost use Rattle.ipc_call.specs.declared.calls.Kind.TheVariants as kinds;
 ghost use Rattle.ipc_call.specs.declared.replies.Waiting.{Waiting as WaitingCall};
 ghost use Rattle.ipc_model.specs.Cancelled.{waits_on as call_waits_on};
 ghost use Rattle.ipc_model.specs.Decide.{is_reached, waits_at as call_waits_at};
@@ -18,8 +19,12 @@ ghost use Rattle.ipc_parked.specs.Parked.{
   Picks,
   NoneBefore,
   is_before,
+  clients_on,
+  is_at,
 };
+ghost use Rattle.ipc_parked.specs.Waits.{clients_at, without_first};
 
+use crate::waits::Waits;
 use indexmap::IndexMap;
 use ipc_call::{Call, Kind, Memory};
 use std::alloc::Global;
@@ -44,18 +49,23 @@ pub struct Parked {
     arrivals: IndexMap<u32, Arrival>,
     /// No deadline is before this one. None where no call has a deadline.
     soonest: Option<u64>,
+    /// The clients whose calls wait on queues, by queue.
+    queues: Waits,
+    /// The clients whose calls wait on semaphore sets, by set.
+    sets: Waits,
 }
 
 impl Model for Parked {
     ghost use Rattle.std.specs.Prelude.{ℕ, List};
     ghost use Rattle.ipc_parked.specs.declared.parked.Arrival.{Arrival};
-    ghost use Rattle.ipc_parked.specs.Parked.{AreDistinct, NoneBefore};
+    ghost use Rattle.ipc_call.specs.declared.calls.Kind.TheVariants.{Queue, Sems};
+    ghost use Rattle.ipc_parked.specs.Parked.{AreDistinct, IsIndex, NoneBefore};
 
     ghost Value = { List (ℕ × Arrival) };
 
     ghost view = { λ p. p.arrivals.entries };
 
-    ghost invariant = { λ p. AreDistinct p.arrivals.entries × NoneBefore p.soonest p.arrivals.entries };
+    ghost invariant = { λ p. AreDistinct p.arrivals.entries × NoneBefore p.soonest p.arrivals.entries × IsIndex Queue p.queues.rows p.arrivals.entries × IsIndex Sems p.sets.rows p.arrivals.entries };
 }
 
 impl Parked {
@@ -66,6 +76,8 @@ impl Parked {
         Parked {
             arrivals: IndexMap::new(alloc),
             soonest: None,
+            queues: Waits::new(alloc),
+            sets: Waits::new(alloc),
         }
     }
 
@@ -82,6 +94,8 @@ impl Parked {
         ensures ok { OnOk result (self.new ≡ self.old ++ (client, record { place = place; call = call; deadline = deadline }) ∷ []) }
         ensures err { OnErr result (self.new ≡ self.old) }
     {
+        let at = waits_at(&call);
+        reserve_row(&mut self.queues, &mut self.sets)?;
         self.arrivals.insert(
             client,
             Arrival {
@@ -90,6 +104,7 @@ impl Parked {
                 deadline,
             },
         )?;
+        add_row(&mut self.queues, &mut self.sets, at, client);
         self.soonest = sooner(self.soonest, deadline);
         Ok(())
     }
@@ -132,6 +147,26 @@ impl Parked {
         Some((*client, arrival))
     }
 
+    /// The call at an index, from 0, in order of arrival among those that wait on the object of this kind and
+    /// identifier, with its client. Those that wait elsewhere cost nothing. Takes no memory.
+    pub fn nth_on(&self, kind: Kind, id: u32, index: usize) -> Option<(u32, &Arrival)>
+        ensures { option_map {U = WaitingCall} (λ found. entry_of (found.0, found.1.now)) result ≡ slice_get (waiting (those_on_object kind id self.now)) index }
+    {
+        let client = self.client_on(kind, id, index)?;
+        Some((client, &self.arrivals[&client]))
+    }
+
+    /// Its client alone.
+    fn client_on(&self, kind: Kind, id: u32, index: usize) -> Option<u32>
+        ensures { result ≡ slice_get (clients_on kind id self.now) index }
+    {
+        match kind {
+            Kind::Queue => self.queues.nth(id, index),
+            Kind::Sems => self.sets.nth(id, index),
+            Kind::Segment => None,
+        }
+    }
+
     /// The client of the earliest waiting call whose deadline is reached at a second of the clock. Where none is, this is
     /// known without a walk. Takes no memory.
     #[inline(always)]
@@ -169,13 +204,13 @@ impl Parked {
         requires { MayAsk (F.pre test) (those_on_object kind id self.now) }
         ensures { Picks (Answers (F.post test)) (those_on_object kind id self.now) result }
     {
-        self.earliest(
-            |client: u32, call: &Call| -> bool
-                requires { call_waits_on kind id call.now ≡ true → F.pre test client call }
-                ensures asked { call_waits_on kind id call.entry.now ≡ true → F.post test client call.entry result }
-                ensures other { call_waits_on kind id call.entry.now ≡ false → result ≡ false }
-            { waits_on(kind, id, call) && test(client, call) },
-        )
+        for index in 0..self.len() {
+            let (client, arrival) = self.nth_on(kind, id, index)?;
+            if test(client, &arrival.call) {
+                return Some(client);
+            }
+        }
+        None
     }
 
     /// The client's call waits no longer, and the others keep their order. Takes no memory.
@@ -185,10 +220,49 @@ impl Parked {
         ensures rest { self.new ≡ others client self.old }
     {
         let arrival = self.arrivals.shift_remove(&client).unwrap();
+        let at = waits_at(&arrival.call);
+        remove_row(&mut self.queues, &mut self.sets, at, client);
         if arrival.deadline.is_some() {
             self.soonest = soonest_of(&self.arrivals);
         }
         arrival.call
+    }
+}
+
+/// Makes room for one more client on an object of either kind.
+fn reserve_row(queues: &mut Waits, sets: &mut Waits) -> Result<(), Memory>
+    ensures queues_room { OnOk result (0 < queues.new.spare) }
+    ensures sets_room { OnOk result (0 < sets.new.spare) }
+    ensures queues { queues.new.rows ≡ queues.old.rows }
+    ensures sets { sets.new.rows ≡ sets.old.rows }
+{
+    queues.reserve_one()?;
+    sets.reserve_one()
+}
+
+/// A client waits at an object, if any, after those that are there. There is room for it.
+fn add_row(queues: &mut Waits, sets: &mut Waits, at: Option<(Kind, u32)>, client: u32)
+    requires queues { 0 < queues.old.spare }
+    requires sets { 0 < sets.old.spare }
+    ensures queues { (i : ℕ) → clients_at i queues.new.rows ≡ (if is_at kinds.Queue i at then clients_at i queues.old.rows ++ client ∷ [] else clients_at i queues.old.rows) }
+    ensures sets { (i : ℕ) → clients_at i sets.new.rows ≡ (if is_at kinds.Sems i at then clients_at i sets.old.rows ++ client ∷ [] else clients_at i sets.old.rows) }
+{
+    match at {
+        Some((Kind::Queue, id)) => queues.add(id, client),
+        Some((Kind::Sems, id)) => sets.add(id, client),
+        Some((Kind::Segment, _)) | None => {}
+    }
+}
+
+/// A client waits at an object, if any, no longer.
+fn remove_row(queues: &mut Waits, sets: &mut Waits, at: Option<(Kind, u32)>, client: u32)
+    ensures queues { (i : ℕ) → clients_at i queues.new.rows ≡ (if is_at kinds.Queue i at then without_first client (clients_at i queues.old.rows) else clients_at i queues.old.rows) }
+    ensures sets { (i : ℕ) → clients_at i sets.new.rows ≡ (if is_at kinds.Sems i at then without_first client (clients_at i sets.old.rows) else clients_at i sets.old.rows) }
+{
+    match at {
+        Some((Kind::Queue, id)) => queues.remove(id, client),
+        Some((Kind::Sems, id)) => sets.remove(id, client),
+        Some((Kind::Segment, _)) | None => {}
     }
 }
 

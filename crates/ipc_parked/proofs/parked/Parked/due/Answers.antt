@@ -1,4 +1,4 @@
-use Rattle.std.proofs.Common.{◌≡◌, ℕ, List, ap, sym, ◌∙◌, Option}
+use Rattle.std.proofs.Common.{ℕ, List, ap, sym, ◌∙◌, Option}
 use Rattle.std.specs.List.{find}
 use Rattle.std.specs.Option.{option_map}
 use Rattle.ipc_model.specs.Decide.{is_reached}

@@ -1,9 +1,11 @@
 use Rattle.std.proofs.Common.{ap, subst, sym, ◌∙◌, ◌≡◌, ℕ, List, Option, Some}
 use Rattle.std.specs.Option.{option_map, is_some}
 use Rattle.ipc_call.specs.declared.calls.Call.{Call}
+use Rattle.ipc_call.specs.declared.calls.Kind.TheVariants as kinds
 use Rattle.ipc_parked.specs.declared.parked.Arrival.{Arrival}
-use Rattle.ipc_parked.specs.Parked.{is_there, arrival_of, others, AreDistinct, NoneBefore}
+use Rattle.ipc_parked.specs.Parked.{is_there, arrival_of, others, AreDistinct, IsIndex, NoneBefore}
 use Rattle.ipc_parked.proofs.Clients.{lookup_there, lookup_arrival, removed_others, AreDistinct-others}
+use Rattle.ipc_parked.proofs.Objects.{index-others}
 use Rattle.ipc_parked.proofs.Sooner.{none-before-others}
 use Rattle.ipc_parked.proofs.parked.Parked.finish.Goals as goal
 use Rattle.ipc_parked.proofs.parked.Parked.finish.Goals.{After-unwrap-arrival}
@@ -21,22 +23,37 @@ left c = c.shift_remove.ensures.entries ∙ removed_others c.args.client c.self.
 distinct : (c : After-unwrap-arrival) → AreDistinct c.shift_remove.new.self.entries
 distinct c = subst (λ (es : List (ℕ × Arrival)). AreDistinct es) (sym (left c)) (AreDistinct-others c.args.client c.self.inside.arrivals.entries c.self.invariant.0)
 
+-- the call that left, by the map
+found : (c : After-unwrap-arrival) → option_map (λ a. a.call) (arrival_of c.args.client c.self.inside.arrivals.entries) ≡ Some c.unwrap-arrival.result.call
+found c =
+    ap (λ (a : Option Arrival). option_map {T = Arrival} {U = Call} (λ a. a.call) a) (sym (lookup_arrival c.args.client c.self.inside.arrivals.entries) ∙ sym c.shift_remove.ensures.value ∙ c.unwrap-arrival.ensures)
+
 called : (c : After-unwrap-arrival) → option_map (λ a. a.call) (arrival_of c.args.client c.args.self.now) ≡ Some c.unwrap-arrival.result.call
-called c =
-    let found = lookup_arrival c.args.client c.self.inside.arrivals.entries ∙ ap (λ (es : List (ℕ × Arrival)). arrival_of c.args.client es) c.self.view_is in
-    ap (λ (a : Option Arrival). option_map {T = Arrival} {U = Call} (λ a. a.call) a) (sym found ∙ sym c.shift_remove.ensures.value ∙ c.unwrap-arrival.ensures)
+called c = subst (λ (es : List (ℕ × Arrival)). option_map (λ a. a.call) (arrival_of c.args.client es) ≡ Some c.unwrap-arrival.result.call) c.self.view_is (found c)
 
 rest : (c : After-unwrap-arrival) → c.shift_remove.new.self.entries ≡ others c.args.client c.args.self.now
 rest c = left c ∙ ap (λ (es : List (ℕ × Arrival)). others c.args.client es) c.self.view_is
 
 pub invariant_of-self : goal.invariant_of-self
-invariant_of-self c = (distinct (goal.at.invariant_of-self c).After-unwrap-arrival, c.soonest_of-self-inside.ensures)
+invariant_of-self c =
+    let b = (goal.at.invariant_of-self c).After-unwrap-arrival in (
+      distinct b,
+      c.soonest_of-self-inside.ensures,
+      subst (λ (es : List (ℕ × Arrival)). IsIndex kinds.Queue c.remove_row.new.queues.rows es) (sym (left b))
+          (index-others kinds.Queue c.self.inside.queues.rows c.remove_row.new.queues.rows c.waits_at-at.result c.args.client c.unwrap-arrival.result.call c.self.inside.arrivals.entries c.self.invariant.0 (found b) c.self.invariant.2 c.waits_at-at.ensures c.remove_row.ensures.queues),
+      subst (λ (es : List (ℕ × Arrival)). IsIndex kinds.Sems c.remove_row.new.sets.rows es) (sym (left b))
+          (index-others kinds.Sems c.self.inside.sets.rows c.remove_row.new.sets.rows c.waits_at-at.result c.args.client c.unwrap-arrival.result.call c.self.inside.arrivals.entries c.self.invariant.0 (found b) c.self.invariant.3 c.waits_at-at.ensures c.remove_row.ensures.sets),
+    )
 
 pub invariant_of-self-else-is_some : goal.invariant_of-self-else-is_some
 invariant_of-self-else-is_some c =
     let b = (goal.at.invariant_of-self-else-is_some c).After-unwrap-arrival in (
       distinct b,
       subst (λ (es : List (ℕ × Arrival)). NoneBefore c.self.inside.soonest es) (sym (left b)) (none-before-others c.self.inside.soonest c.args.client c.self.inside.arrivals.entries c.self.invariant.1),
+      subst (λ (es : List (ℕ × Arrival)). IsIndex kinds.Queue c.remove_row.new.queues.rows es) (sym (left b))
+          (index-others kinds.Queue c.self.inside.queues.rows c.remove_row.new.queues.rows c.waits_at-at.result c.args.client c.unwrap-arrival.result.call c.self.inside.arrivals.entries c.self.invariant.0 (found b) c.self.invariant.2 c.waits_at-at.ensures c.remove_row.ensures.queues),
+      subst (λ (es : List (ℕ × Arrival)). IsIndex kinds.Sems c.remove_row.new.sets.rows es) (sym (left b))
+          (index-others kinds.Sems c.self.inside.sets.rows c.remove_row.new.sets.rows c.waits_at-at.result c.args.client c.unwrap-arrival.result.call c.self.inside.arrivals.entries c.self.invariant.0 (found b) c.self.invariant.3 c.waits_at-at.ensures c.remove_row.ensures.sets),
     )
 
 pub returns-then-is_some-clause-call : goal.returns-then-is_some-clause-call

@@ -1,17 +1,43 @@
-use Rattle.std.proofs.Common.{ℕ, sym, ap, ◌∙◌}
-use Rattle.ipc_call.specs.declared.calls.Call.{Call}
-use Rattle.ipc_parked.specs.declared.parked.Arrival.{Arrival}
-use Rattle.ipc_model.specs.Cancelled.{waits_on}
-use Rattle.ipc_parked.proofs.Picking.{may_ask_filter, picks_filter}
+use Rattle.std.proofs.Common.{◌≤◌, ℕ, Option, length, refl, sym, subst, add-one, arith}
+use Rattle.ipc_parked.specs.Parked.{Answers, Picks, entry_of, on_object}
+use Rattle.ipc_parked.proofs.Objects.{drop_all, length-on_object, may_ask_at, may_ask_later, past_end, pick_end, pick_here, pick_later}
+use Rattle.ipc_parked.proofs.parked.Parked.on_object.Given as given
 use Rattle.ipc_parked.proofs.parked.Parked.on_object.Goals as goal
 
-pub earliest-requires : goal.earliest-requires
-earliest-requires g c =
-    let waits = λ (call : Call). waits_on c.args.kind c.args.id call in
-    may_ask_filter _ _ (λ (e : ℕ × Arrival). waits e.1.call) c.args.self.now (λ e call is asks own. asks (ap waits (sym is) ∙ own)) c.requires
+pub returns-in_err-client : goal.returns-in_err-client
+returns-in_err-client g c =
+    let post = given.F-post g c.args.test in
+    let waits = on_object c.args.kind c.args.id c.args.self.now in
+    subst (λ (client : Option ℕ). Picks (Answers post) waits client) (sym c.from_residual.ensures)
+    (pick_end (Answers post) waits c.loop-index.index (past_end waits c.loop-index.index c.in_err-client.ensures) c.loop-index.invariant.1)
+
+pub test-requires : goal.test-requires
+test-requires g c =
+    let waits = on_object c.args.kind c.args.id c.args.self.now in
+    let w = entry_of (c.in_ok-client.client, c.in_ok-client.arrival.now) in
+    may_ask_at (given.F-pre g c.args.test) waits c.loop-index.index w _ c.in_ok-client.ensures refl c.loop-index.invariant.0
+
+pub returns-then-test : goal.returns-then-test
+returns-then-test g c =
+    let waits = on_object c.args.kind c.args.id c.args.self.now in
+    let w = entry_of (c.in_ok-client.client, c.in_ok-client.arrival.now) in
+    pick_here (given.F-post g c.args.test) waits c.loop-index.index w _ c.in_ok-client.ensures refl c.if-test.ensures c.loop-index.invariant.1
+
+pub loop-index-preserved : goal.loop-index-preserved
+loop-index-preserved g c =
+    let waits = on_object c.args.kind c.args.id c.args.self.now in
+    let w = entry_of (c.in_ok-client.client, c.in_ok-client.arrival.now) in
+    rw add-one (
+      may_ask_later (given.F-pre g c.args.test) waits c.loop-index.index w c.in_ok-client.ensures c.loop-index.invariant.0,
+      pick_later (given.F-post g c.args.test) waits c.loop-index.index w _ c.in_ok-client.ensures refl c.if-test.ensures c.loop-index.invariant.1,
+    )
 
 pub returns : goal.returns
 returns g c =
-    let waits = λ (call : Call). waits_on c.args.kind c.args.id call in
-    picks_filter _ _ (λ (e : ℕ × Arrival). waits e.1.call) c.args.self.now c.earliest.result c.earliest.ensures
-    (λ e call answer is says. (λ own. says.0 (ap waits is ∙ own), λ other. says.1 (ap waits is ∙ other)))
+    let all = c.args.self.now in
+    let waits = on_object c.args.kind c.args.id all in
+    let few = length-on_object c.args.kind c.args.id all in
+    let past = c.loop-index-test.false in
+    let size = c.len-index-end.ensures in
+    let within : length waits ≤ c.loop-index.index = omega (arith, few, past, size) in
+    pick_end (Answers (given.F-post g c.args.test)) waits c.loop-index.index (drop_all waits c.loop-index.index within) c.loop-index.invariant.1

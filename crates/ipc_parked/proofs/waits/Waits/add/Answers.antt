@@ -1,0 +1,24 @@
+use Rattle.std.proofs.Common.{◌≡◌, ◌+◌, ◌∙◌, ℕ, cond, eqb, ap, subst, List, [], ◌∷◌, ◌++◌}
+use Rattle.std.specs.List.{insert}
+use Rattle.ipc_parked.specs.declared.waits.Wait.{Wait}
+use Rattle.ipc_parked.specs.Waits.{IsPlace, WaitsState, clients_at}
+use Rattle.ipc_parked.proofs.Rows.{clients_inserted, rising_inserted}
+use Rattle.ipc_parked.proofs.waits.Waits.add.Goals as goal
+use Rattle.ipc_parked.proofs.waits.Waits.add.Goals.{After-unwrap}
+
+place : (c : After-unwrap) → IsPlace c.self.inside.rows.items (c.args.id + 1) c.place_of-at.result
+place c =
+    subst (λ (xs : List Wait). IsPlace xs (c.args.id + 1) c.place_of-at.result) c.as_slice.ensures.value
+    (subst (λ (n : ℕ). IsPlace c.as_slice.result.now (n + 1) c.place_of-at.result) c.from.ensures c.place_of-at.ensures)
+
+items : (c : After-unwrap) → c.insert.new.self.items ≡ insert c.self.inside.rows.items c.place_of-at.result (record { id = c.args.id; client = c.args.client })
+items c = let e = c.insert.ensures.items in rw c.unwrap.ensures at e
+
+pub invariant_of-self : goal.invariant_of-self
+invariant_of-self c = let e = items c in rw e (rising_inserted c.self.inside.rows.items c.args.id c.place_of-at.result c.args.client c.self.invariant (place c))
+
+pub returns : goal.returns
+returns c =
+    let after = c.insert.new.self.items in
+    subst (λ (w : WaitsState). (i : ℕ) → clients_at i after ≡ cond (eqb c.args.id i) (clients_at i w.rows ++ c.args.client ∷ []) (clients_at i w.rows)) c.self.view_is
+    (λ i. ap (λ (xs : List Wait). clients_at i xs) (items c) ∙ clients_inserted c.self.inside.rows.items c.args.id c.place_of-at.result c.args.client i (place c))
