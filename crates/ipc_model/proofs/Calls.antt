@@ -186,7 +186,7 @@ module _ {X : Type 0} where
   -- a get, of any kind: what holds of the table as it is, and with the new object, holds of what is left
   module _ (t : Table (Object X)) (who : Caller) (key flags : ℕ) (getting : Getting X) (P : Table (Object X) → Type 0) (same : P t)
       (new : (id : ℕ) → next_id t ≡ Some id → P (with_object t id (new_object who key flags getting.new))) where
-    Ends-getting : (there : Option (ℕ × Object X)) → Ends (λ answer u. P u) (get_found t who key flags getting there)
+    pub Ends-getting : (there : Option (ℕ × Object X)) → Ends (λ answer u. P u) (get_found t who key flags getting there)
     Ends-getting None = Ends-order (λ answer u. P u) getting.to_make _ (Ends-found (λ answer u. P u) (next_id t) NoSlot tt _ new)
     Ends-getting (Some there) = Ends-order (λ answer u. P u) (getting.to_find there.1.contents) (plans.Grant (Id there.0) t) same
 

@@ -1,4 +1,5 @@
 pub mod Alike
+pub mod Apart
 pub mod Beside
 pub mod Calls
 pub mod Growing
@@ -6,3 +7,4 @@ pub mod Keeping
 pub mod Late
 pub mod Leading
 pub mod Plans
+pub mod Staying

@@ -12,4 +12,5 @@ pub mod Segments
 pub mod Semaphores
 pub mod State
 pub mod Step
+pub mod Touched
 pub mod Waits

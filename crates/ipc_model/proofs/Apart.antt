@@ -1,0 +1,85 @@
+-- A change of one object, and of what exit undoes there, leaves the others as they were.
+use Rattle.std.proofs.Common.{◌+◌, ◌≡◌, ◌≢◌, ℕ, ℤ, Bool, true, false, cond, eqb, List, [], ◌∷◌, ◌++◌, refl, sym, ap, ◌∙◌, ⊎_elim, Option, Some, None}
+use Rattle.std.specs.Prelude.{◌&&◌, ◌||◌, is_none, not, pos, ◌-ℤ◌, option_map}
+use Rattle.std.specs.List.{list_any}
+use Rattle.std.specs.Ordering.{int_eq}
+use Rattle.std.specs.FinMap as finite
+use Rattle.std.proofs.lemmas.Bool.{cases_Bool, false≢true, ne_eqb, true≢false}
+use Rattle.std.proofs.lemmas.Option.{none-some, same_Some}
+use Rattle.ipc_call.specs.declared.calls.SemOper.{SemOper}
+use Rattle.ipc_ids.specs.Table.{Table, id_at, is_retired, is_usable, least_from, next_id, object_at}
+use Rattle.ipc_ids.proofs.Least.{least_found}
+use Rattle.ipc_ids.proofs.Sound.{get-insert-other}
+use Rattle.ipc_objects.specs.declared.object.Object.{Object}
+use Rattle.ipc_objects.specs.Objects.{changed, with_perm}
+use Rattle.sem_set.specs.declared.sets.Semaphore.{Semaphore}
+use Rattle.sem_set.specs.Exits.{any_from, undone_from}
+use Rattle.sem_set.specs.Trials.{undoes}
+use Rattle.sem_undo.specs.Entries.{Adjusted, Entries, adj_of, cleared, with_adj, without_client}
+use Rattle.sem_undo.proofs.Entries.{get_kept, get_with_apart, key}
+use Rattle.ipc_model.specs.State.{Caller, SemSet, Sems, pid_of}
+use Rattle.ipc_model.specs.Semaphores.{exited, lowered, lowered_by}
+
+-- an object at another identifier
+pub changed-apart : {X : Type 0} (t : Table (Object X)) (id at : ℕ) (f : Object X → Object X) → at ≢ id → finite.get (changed t id f).objects at ≡ finite.get t.objects at
+changed-apart {X} t id at f other = by (finite.get t.objects id)
+  where
+    by : (o : Option (Object X)) → finite.get (with_perm t id f o).objects at ≡ finite.get t.objects at
+    by None = refl
+    by (Some object) = get-insert-other t.objects id (f object) at other
+
+-- no object has the identifier of the next one
+pub next-free : {X : Type 0} (t : Table X) (id : ℕ) → next_id t ≡ Some id → finite.get t.objects id ≡ None
+next-free {X} t id is = by (least_from (λ slot. is_usable t slot) t.slots 0) refl is
+  where
+    usable : (retired : Bool) (o : Option X) → not retired && is_none o ≡ true → o ≡ None
+    usable retired None is = refl
+    usable true (Some x) is = absurd (false≢true is)
+    usable false (Some x) is = absurd (false≢true is)
+    by : (o : Option ℕ) → least_from (λ slot. is_usable t slot) t.slots 0 ≡ o → option_map (λ slot. id_at t slot) o ≡ Some id → finite.get t.objects id ≡ None
+    by None found is = absurd (none-some id is)
+    by (Some slot) found is =
+        ap (λ n. finite.get t.objects n) (sym (same_Some (id_at t slot) id is))
+        ∙ usable (is_retired t slot) (object_at t slot) (least_found (λ slot. is_usable t slot) t.slots 0 slot found).0
+
+-- a semop lowers semadj on its set alone
+lowered-step : (client id : ℕ) (o : SemOper) (m : Entries) (q : Adjusted) → q.set ≢ id → finite.get (lowered_by m client id o) q ≡ finite.get m q
+lowered-step client id o m q other = by (undoes o)
+  where
+    by : (b : Bool) → finite.get (cond b (with_adj m (key client id o.num) (adj_of m client id o.num -ℤ o.op)) m) q ≡ finite.get m q
+    by true = get_with_apart m (key client id o.num) q (adj_of m client id o.num -ℤ o.op) (λ e. other (ap (λ (k : Adjusted). k.set) e))
+    by false = refl
+
+pub lowered-apart : (client id : ℕ) (ops : List SemOper) (m : Entries) (q : Adjusted) → q.set ≢ id → finite.get (lowered m client id ops) q ≡ finite.get m q
+lowered-apart client id [] m q other = refl
+lowered-apart client id (o ∷ os) m q other = lowered-apart client id os (lowered_by m client id o) q other ∙ lowered-step client id o m q other
+
+-- a set's semadj are cleared
+pub cleared-apart : (m : Entries) (id : ℕ) (which : ℕ → Bool) (q : Adjusted) → q.set ≢ id → finite.get (cleared m id which) q ≡ finite.get m q
+cleared-apart m id which q other = get_kept m _ q ∙ ap (λ b. cond (not (b && which q.num)) (finite.get m q) None) (ne_eqb q.set id other)
+
+-- a client's semadj go
+pub without-apart : (m : Entries) (client : ℕ) (q : Adjusted) → q.client ≢ client → finite.get (without_client m client) q ≡ finite.get m q
+without-apart m client q other = get_kept m _ q ∙ ap (λ b. cond (not b) (finite.get m q) None) (ne_eqb q.client client other)
+
+-- exit changes no set at which nothing is undone
+undone-none : (adj : ℕ → ℤ) (pid num : ℕ) (sems : List Semaphore) → any_from adj num sems ≡ false → undone_from adj pid num sems ≡ sems
+undone-none adj pid num [] none = refl
+undone-none adj pid num (s ∷ ss) none =
+    ⊎_elim
+    (λ (zero : int_eq (adj num) (pos 0) ≡ true).
+    let later : any_from adj (num + 1) ss ≡ false = rw zero at none in rw zero (ap (λ (rest : List Semaphore). s ∷ rest) (undone-none adj pid (num + 1) ss later)))
+    (λ (some : int_eq (adj num) (pos 0) ≡ false). let e : true ≡ false = rw some at none in absurd (true≢false e))
+    (cases_Bool (int_eq (adj num) (pos 0)))
+
+pub exited-none : (sems : Sems) (who : Caller) (id : ℕ) (set : Object SemSet) → any_from (adj_of sems.undo who.client id) 0 set.contents.semaphores ≡ false → exited sems who id set ≡ set
+exited-none sems who id set none =
+    ap (λ (contents : SemSet). record set { contents = contents }) (λ i. record {
+      semaphores = undone-none (adj_of sems.undo who.client id) (pid_of who.client) 0 set.contents.semaphores none i;
+      op_time = cond (none i) who.now set.contents.op_time;
+    })
+
+-- one more client has ended
+pub ended-other : (ended : List ℕ) (client c : ℕ) → c ≢ client → list_any (λ other. eqb other c) (ended ++ client ∷ []) ≡ list_any (λ other. eqb other c) ended
+ended-other [] client c other = let no = ne_eqb client c (λ e. other (sym e)) in rw no refl
+ended-other (e ∷ ended) client c other = ap (λ (b : Bool). eqb e c || b) (ended-other ended client c other)
