@@ -36,6 +36,7 @@ next-free {X} t id is = by (least_from (λ slot. is_usable t slot) t.slots 0) re
     usable retired None is = refl
     usable true (Some x) is = absurd (false≢true is)
     usable false (Some x) is = absurd (false≢true is)
+
     by : (o : Option ℕ) → least_from (λ slot. is_usable t slot) t.slots 0 ≡ o → option_map (λ slot. id_at t slot) o ≡ Some id → finite.get t.objects id ≡ None
     by None found is = absurd (none-some id is)
     by (Some slot) found is =

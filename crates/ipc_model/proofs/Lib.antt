@@ -8,3 +8,5 @@ pub mod Late
 pub mod Leading
 pub mod Plans
 pub mod Staying
+pub mod Touched
+pub mod Turning

@@ -12,12 +12,10 @@ use Rattle.ipc_call.specs.declared.calls.Kind.{Kind}
 use Rattle.ipc_call.specs.declared.calls.Kind.TheVariants as kinds
 use Rattle.ipc_call.specs.declared.calls.SemOper.{SemOper}
 use Rattle.ipc_call.specs.declared.settings.Settings.{Settings}
-use Rattle.ipc_call.specs.declared.replies.Answer.{Answer}
 use Rattle.ipc_call.specs.declared.replies.Answer.TheVariants.{Done}
 use Rattle.ipc_call.specs.declared.rules.Rule.TheVariants.{BadId, NoProcess}
 use Rattle.ipc_creds.specs.Credentials.{Credentials, became}
 use Rattle.ipc_ids.specs.Table.{Table, next_id, with_object}
-use Rattle.ipc_ids.specs.Images.{map_entries}
 use Rattle.ipc_ids.proofs.Images.{get-entries}
 use Rattle.ipc_ids.proofs.Sound.{get-insert-other, get-remove-other}
 use Rattle.ipc_objects.specs.declared.object.Object.{Object}
@@ -28,7 +26,7 @@ use Rattle.sem_set.specs.declared.sets.Semaphore.{Semaphore}
 use Rattle.sem_set.specs.Exits.{any_from}
 use Rattle.sem_undo.specs.Entries.{adj_of}
 use Rattle.sem_undo.proofs.Entries.{key}
-use Rattle.ipc_model.specs.State.{Caller, Queue, Queues, SemSet, Sems, Shared, State, caller, creds_at, has_ended, nobody}
+use Rattle.ipc_model.specs.State.{Queue, Queues, SemSet, Sems, Shared, State, caller, creds_at, nobody}
 use Rattle.ipc_model.specs.Plan.{Needs, Plan, found, on_part, ◌⨾◌}
 use Rattle.ipc_model.specs.Plan as plans
 use Rattle.ipc_model.specs.Cancelled.{is_same}
@@ -182,8 +180,8 @@ module _ (s : State) (client : ℕ) (kind : Kind) (at : ℕ) where
   gone-kept : (of : Kind) (id : ℕ) → Elsewhere of id → Kept (removed s of id)
   gone-kept kinds.Queue id other = stays-queues _ (λ is. get-remove-other s.queues.objects id at (elsewhere kinds.Queue id other is))
   gone-kept kinds.Sems id other = stays-sems _ (λ is.
-    let no = elsewhere kinds.Sems id other is in
-    (get-remove-other s.sems.sets.objects id at no, λ c ne num. entry (without_set s.sems id) c num (cleared-apart s.sems.undo id (λ _. true) (key c at num) no)))
+      let no = elsewhere kinds.Sems id other is in
+      (get-remove-other s.sems.sets.objects id at no, λ c ne num. entry (without_set s.sems id) c num (cleared-apart s.sems.undo id (λ _. true) (key c at num) no)))
   gone-kept kinds.Segment id other = stays-shared _
 
   -- exit
@@ -197,8 +195,8 @@ module _ (s : State) (client : ℕ) (kind : Kind) (at : ℕ) where
       by : owes s.sems client at ≡ false → (o : Option (Object SemSet)) → set_at s.sems at ≡ o → option_map (exited s.sems (caller s client) at) (set_at s.sems at) ≡ set_at s.sems at
       by none None is = rw is refl
       by none (Some set) is = rw is (ap (λ (x : Object SemSet). Some x) (exited-none s.sems (caller s client) at set (
-        ap (λ (o : Option (Object SemSet)). unwrap_or (option_map (λ (set : Object SemSet). any_from (adj_of s.sems.undo client at) 0 set.contents.semaphores) o) false) (sym is) ∙ none
-      )))
+          ap (λ (o : Option (Object SemSet)). unwrap_or (option_map (λ (set : Object SemSet). any_from (adj_of s.sems.undo client at) 0 set.contents.semaphores) o) false) (sym is) ∙ none
+          )))
 
   exit-kept : is_same kinds.Sems kind && owes s.sems client at ≡ false → (shared : Shared) → Kept (record s { ended = s.ended ++ client ∷ []; sems = after_exit s.sems (caller s client); shared = shared })
   exit-kept other shared = record {
