@@ -14,7 +14,6 @@ use Rattle.ipc_creds.specs.Credentials.{Credentials}
 use Rattle.ipc_perm.specs.Access.{Permission, class_of, rule_of, to_alter, to_read}
 use Rattle.ipc_ids.specs.Images.{map_entries}
 use Rattle.ipc_ids.specs.Table.{Table, without_object}
-use Rattle.ipc_ids.proofs.Identifiers.{apart_eq}
 use Rattle.ipc_ids.proofs.Images.{get-entries}
 use Rattle.ipc_objects.specs.declared.object.Object.{Object}
 use Rattle.ipc_objects.specs.Objects.{changed}
@@ -29,12 +28,13 @@ use Rattle.ipc_model.specs.Plan.{Needs, Passes, Grant, in_order}
 use Rattle.ipc_model.specs.Controls.{without_set}
 use Rattle.ipc_model.specs.Gets.{get_set, getting_set}
 use Rattle.ipc_model.specs.Semaphores.{after_exit, exited, undone_set, get_all, look, lowered, operate, operate_found, operated, renewed, set_all, set_at, set_value, trial_checks, values_of, wanted_by, with_values}
+use Rattle.ipc_model.proofs.Apart.{cleared-apart, lowered-apart}
 use Rattle.ipc_laws.specs.Worlds.{all_masked, blank, blank_set, masked, blur_sems, hides_closed, is_closed, is_hidden_in}
 use Rattle.ipc_laws.proofs.Closed.{denied-permission}
 use Rattle.ipc_laws.proofs.Pairs.{Both, Grants, both-check, both-denied, both-grant, both-less, both-on, both-order, both-passes, grants-check, grants-found, grants-grant, grants-order, grants-passes}
 use Rattle.ipc_laws.proofs.Parts.{Alike, Exact, alike-changed, alike-without, both-get, exact-alike, exact-changed, hidden-changed, own-found, seen-found}
 use Rattle.ipc_laws.proofs.Tables.{again, blank-like, get-masked, hidden-at, hidden-masked, masked-hidden, masked-seen, same-tables}
-use Rattle.ipc_laws.proofs.Undo.{AreSame, kept-same, lowered-apart, lowered-kept, same-kept, same-retained}
+use Rattle.ipc_laws.proofs.Undo.{AreSame, kept-same, lowered-kept, same-kept, same-retained}
 
 -- how many semaphores there are is all that a blank set has
 blank-same : (x y : SemSet) → length x.semaphores ≡ length y.semaphores → blank_set x ≡ blank_set y
@@ -212,20 +212,17 @@ module _ (client : ℕ) (c : Credentials) where
             let sets = hidden-changed blank_set (hides_closed client c) sems.sets id o there (sym (hidden-at (hides_closed client c) sems.sets id (Some o) there) ∙ hidden) f perm (blank-same (f o).contents o.contents long) in
             blur-same new sems sets (λ k isnt. apart k (λ here. true≢false (sym hidden ∙ ap (hid sems) (sym here) ∙ sym (hid-alike new.sets sems.sets sets k.set) ∙ isnt)))
 
-        cleared-apart : (which : ℕ → Bool) (k : Adjusted) → (k.set ≡ id → ⊥) → finite.get (cleared sems.undo id which) k ≡ finite.get sems.undo k
-        cleared-apart which k ne = get_kept sems.undo _ k ∙ ap (λ b. cond (not (b && which k.num)) (finite.get sems.undo k) None) (apart_eq k.set id ne)
-
         pub same-set : (who : Caller) (num : ℕ) (value : ℤ) → Grants d IsSame (set_value sems who id num value)
         same-set who num value = grants-check IsSame d (Passes (is_value value) ValueRange tt) (grants-found IsSame d (set_at sems id) BadId tt (λ o there.
             grants-check IsSame d (Needs (Permission o.perm to_alter)) (grants-check IsSame d (Passes (nat_lt num (length o.contents.semaphores)) BadSem tt)
             (let new = slice_set o.contents.semaphores num (set_to (pid_of who.client) value) in
-            grants-grant IsSame d Done _ (same-changed o there (renewed who.now new) (cleared sems.undo id (λ n. n == num)) refl (length-set o.contents.semaphores num (set_to (pid_of who.client) value)) (cleared-apart (λ n. n == num)))))))
+            grants-grant IsSame d Done _ (same-changed o there (renewed who.now new) (cleared sems.undo id (λ n. n == num)) refl (length-set o.contents.semaphores num (set_to (pid_of who.client) value)) (cleared-apart sems.undo id (λ n. n == num)))))))
 
         pub same-set_all : (who : Caller) (values : List ℤ) → Grants d IsSame (set_all sems who id values)
         same-set_all who values = grants-check IsSame d (Passes (list_all is_value values) ValueRange tt) (grants-found IsSame d (set_at sems id) BadId tt (λ o there.
             grants-check IsSame d (Needs (Permission o.perm to_alter)) (grants-passes IsSame d (length values == length o.contents.semaphores) BadSize tt (λ many.
             grants-grant IsSame d Done _ (same-changed o there (renewed who.now (map (set_to (pid_of who.client)) values)) (cleared sems.undo id (λ n. true)) refl
-            (length-map values (set_to (pid_of who.client)) ∙ eqb-true (length values) (length o.contents.semaphores) many) (cleared-apart (λ n. true)))))))
+            (length-map values (set_to (pid_of who.client)) ∙ eqb-true (length values) (length o.contents.semaphores) many) (cleared-apart sems.undo id (λ n. true)))))))
 
         pub same-operate : (who : Caller) (ops : List SemOper) (limits : Limits) → Grants d IsSame (operate limits sems who id ops)
         same-operate who ops limits =

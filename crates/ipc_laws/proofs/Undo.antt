@@ -7,8 +7,9 @@ use Rattle.std.proofs.lemmas.Bool.{true≢false}
 use Rattle.ipc_call.specs.declared.calls.SemOper.{SemOper}
 use Rattle.sem_set.specs.Trials.{undoes}
 use Rattle.sem_undo.specs.Entries.{Adjusted, Entries, adj_of, adjusted_cmp, with_adj}
-use Rattle.sem_undo.proofs.Entries.{entry_of, get_kept, get_with, get_with_apart, same_entries}
+use Rattle.sem_undo.proofs.Entries.{entry_of, get_kept, get_with, same_entries}
 use Rattle.ipc_model.specs.Semaphores.{lowered, lowered_by}
+use Rattle.ipc_model.proofs.Apart.{lowered-apart}
 
 abbrev pub key : ℕ → ℕ → ℕ → Adjusted
 key client set num = record { client = client; set = set; num = num }
@@ -38,18 +39,6 @@ put-same : (m n : Entries) (k q : Adjusted) (v w : ℤ) → v ≡ w → finite.g
 put-same m n k q v w value same = get_with m k q v ∙ (λ i. cond (eq_by_cmp adjusted_cmp q k) (entry_of (value i)) (same i)) ∙ sym (get_with n k q w)
 
 module _ (client id : ℕ) where
-  -- a semop writes entries on its set alone
-  step-apart : (o : SemOper) (m : Entries) (q : Adjusted) → (q.set ≡ id → ⊥) → finite.get (lowered_by m client id o) q ≡ finite.get m q
-  step-apart o m q ne = by (undoes o)
-    where
-      by : (b : Bool) → finite.get (if b then with_adj m (key client id o.num) (adj_of m client id o.num -ℤ o.op) else m) q ≡ finite.get m q
-      by true = get_with_apart m (key client id o.num) q (adj_of m client id o.num -ℤ o.op) (λ is. ne (ap (λ (k : Adjusted). k.set) is))
-      by false = refl
-
-  pub lowered-apart : (ops : List SemOper) (m : Entries) (q : Adjusted) → (q.set ≡ id → ⊥) → finite.get (lowered m client id ops) q ≡ finite.get m q
-  lowered-apart [] m q ne = refl
-  lowered-apart (o ∷ os) m q ne = lowered-apart os (lowered_by m client id o) q ne ∙ step-apart o m q ne
-
   -- of a set in sight
   module _ (hid : ℕ → Bool) (seen : hid id ≡ false) where
     step-same : (o : SemOper) (m n : Entries) → AreSame hid m n → AreSame hid (lowered_by m client id o) (lowered_by n client id o)
@@ -74,5 +63,5 @@ module _ (client id : ℕ) where
         by : (k : Adjusted) (b : Bool) → hid k.set ≡ b → cond (not (hid k.set)) (finite.get (lowered m client id ops) k) None ≡ finite.get (lowered kept client id ops) k
         by k true is =
             ap (λ b. cond (not b) (finite.get (lowered m client id ops) k) None) is
-            ∙ sym (lowered-apart ops kept k (λ here. true≢false (sym is ∙ ap hid here ∙ seen)) ∙ get_kept m (λ k. not (hid k.set)) k ∙ ap (λ b. cond (not b) (finite.get m k) None) is)
+            ∙ sym (lowered-apart client id ops kept k (λ here. true≢false (sym is ∙ ap hid here ∙ seen)) ∙ get_kept m (λ k. not (hid k.set)) k ∙ ap (λ b. cond (not b) (finite.get m k) None) is)
         by k false isnt = ap (λ b. cond (not b) (finite.get (lowered m client id ops) k) None) isnt ∙ lowered-same ops m kept (same-kept hid m) k isnt
