@@ -1,4 +1,5 @@
 pub mod Clients
+pub mod Covering
 pub mod Listed
 pub mod Objects
 pub mod Picking

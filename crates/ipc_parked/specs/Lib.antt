@@ -1,2 +1,3 @@
 pub mod Parked
+pub mod Touched
 pub mod Waits

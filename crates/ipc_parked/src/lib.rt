@@ -3,6 +3,8 @@
 #![tactic(auto)]
 
 mod parked;
+mod touched;
 mod waits;
 
 pub use parked::{Arrival, Parked, waits_at, waits_on};
+pub use touched::Touched;

@@ -1,0 +1,61 @@
+// The waiting calls that the grant of a call touches: no other can have become ready by it.
+
+ghost use Rattle.std.specs.Prelude.{◌≡◌, filter, slice_get};
+ghost use Rattle.std.specs.Option.{option_map};
+ghost use Rattle.ipc_call.specs.declared.replies.Waiting.{Waiting as WaitingCall};
+ghost use Rattle.ipc_parked.specs.Parked.{entry_of, waiting};
+ghost use Rattle.ipc_parked.specs.Touched.{Covers, is_touched};
+
+use crate::parked::{Arrival, Parked};
+use ipc_call::{Call, Kind};
+
+/// Where the calls wait that the grant of a call may make ready.
+#[derive(Clone, Copy, Debug)]
+pub enum Touched {
+    /// Nowhere.
+    Nothing,
+    /// On this object.
+    Object { kind: Kind, id: u32 },
+    /// On any object.
+    Anything,
+}
+
+impl Touched {
+    /// What the grant of the call touches. Of exit, which may undo something on many sets, it isn't found out on which.
+    pub fn by(call: &Call) -> Touched
+        ensures { Covers call.now result }
+    {
+        match call {
+            Call::MsgSnd { id, .. } | Call::MsgRcv { id, .. } => Touched::Object {
+                kind: Kind::Queue,
+                id: *id,
+            },
+            Call::SemOp { id, .. }
+            | Call::SemTimedOp { id, .. }
+            | Call::SetVal { id, .. }
+            | Call::SetAll { id, .. } => Touched::Object {
+                kind: Kind::Sems,
+                id: *id,
+            },
+            Call::IpcSet { kind, id, .. } | Call::IpcRmid { kind, id } => Touched::Object {
+                kind: *kind,
+                id: *id,
+            },
+            Call::Exit => Touched::Anything,
+            _ => Touched::Nothing,
+        }
+    }
+}
+
+impl Parked {
+    /// The call at an index, from 0, among those that were touched, in order of arrival, with its client. Takes no memory.
+    pub fn nth_touched(&self, touched: Touched, index: usize) -> Option<(u32, &Arrival)>
+        ensures { option_map {U = WaitingCall} (λ found. entry_of (found.0, found.1.now)) result ≡ slice_get (filter (is_touched touched) (waiting self.now)) index }
+    {
+        match touched {
+            Touched::Nothing => None,
+            Touched::Object { kind, id } => self.nth_on(kind, id, index),
+            Touched::Anything => self.nth(index),
+        }
+    }
+}
