@@ -6,5 +6,6 @@ pub mod Leaving
 pub mod Moving
 pub mod Own
 pub mod Parked
+pub mod Quiet
 pub mod Reserved
 pub mod Settling

@@ -1,12 +1,12 @@
 -- The waiting call of a client in the list: where it stands, and what is left without it.
-use Rattle.std.proofs.Common.{◌≡◌, ℕ, zero, suc, ◌+◌, Bool, true, false, List, [], ◌∷◌, ◌++◌, length, length-append, refl, sym, ap, subst, ◌∙◌, arith, ⊎_elim, Option, Some, None}
+use Rattle.std.proofs.Common.{◌≡◌, ℕ, zero, suc, ◌+◌, ◌≤◌, Bool, true, false, List, [], ◌∷◌, ◌++◌, length, length-append, refl, sym, ap, subst, ◌∙◌, arith, ⊎_elim, Option, Some, None}
 use Rattle.std.specs.Prelude.{◌==◌, not, filter, slice_get, IfSome, option_map, option_and_then}
 use Rattle.std.specs.List.{find, list_any, AllByRecursion}
 use Rattle.std.proofs.lemmas.Bool.{cases_Bool, eq-eqb, eqb-true, or_parts, false≢true}
 use Rattle.std.proofs.lemmas.Option.{none-some, same_Some}
 use Rattle.ipc_call.specs.declared.replies.Waiting.{Waiting}
 use Rattle.ipc_parked.specs.Parked.{AreApart}
-use Rattle.ipc_namespace.proofs.Parked.{turned}
+use Rattle.ipc_namespace.proofs.Parked.{apart-filter, turned}
 
 abbrev pub others : ℕ → List Waiting → List Waiting
 others client ws = filter (λ w. not (w.client == client)) ws
@@ -143,6 +143,36 @@ nth-own (v ∷ ws) zero w apart at = let own = eq-eqb v.client w.client (ap (λ 
 nth-own (v ∷ ws) (suc i) w apart at =
     let other : (v.client == w.client) ≡ false = turned w.client v.client (none-nth (λ u. u.client == v.client) ws i w apart.0 at) in
     rw other (nth-own ws i w apart.1 at)
+
+-- also among those that pass a test
+own-filtered : (test : Waiting → Bool) (ws : List Waiting) (w : Waiting) → AreApart ws → find (λ v. v.client == w.client) (filter test ws) ≡ Some w → find (λ v. v.client == w.client) ws ≡ Some w
+unfolding AreApart
+own-filtered test [] w apart found = absurd (none-some w found)
+own-filtered test (v ∷ ws) w apart found =
+    ⊎_elim
+    (λ (yes : test v ≡ true).
+    ⊎_elim
+    (λ (own : (v.client == w.client) ≡ true). let here : Some v ≡ Some w = rw (yes, own) at found in rw own here)
+    (λ (other : (v.client == w.client) ≡ false). let later : find (λ u. u.client == w.client) (filter test ws) ≡ Some w = rw (yes, other) at found in rw other (own-filtered test ws w apart.1 later))
+    (cases_Bool (v.client == w.client)))
+    (λ (no : test v ≡ false).
+    let later : find (λ u. u.client == w.client) (filter test ws) ≡ Some w = rw no at found in
+    let rest = own-filtered test ws w apart.1 later in
+    let other : (v.client == w.client) ≡ false = turned w.client v.client (none-found (λ u. u.client == v.client) (λ u. u.client == w.client) ws w apart.0 rest) in
+    rw other rest)
+    (cases_Bool (test v))
+
+pub nth-filtered : (test : Waiting → Bool) (ws : List Waiting) (i : ℕ) (w : Waiting) → AreApart ws → slice_get (filter test ws) i ≡ Some w → find (λ v. v.client == w.client) ws ≡ Some w
+nth-filtered test ws i w apart at = own-filtered test ws w apart (nth-own (filter test ws) i w (apart-filter test ws apart) at)
+
+-- they are no more
+pub few-filtered : (test : Waiting → Bool) (ws : List Waiting) → length (filter test ws) ≤ length ws
+few-filtered test [] = omega arith
+few-filtered test (w ∷ ws) =
+    ⊎_elim
+    (λ (yes : test w ≡ true). rw yes (let rest = few-filtered test ws in omega (arith, rest)))
+    (λ (no : test w ≡ false). rw no (let rest = few-filtered test ws in omega (arith, rest)))
+    (cases_Bool (test w))
 
 -- one call less
 pub length-others : (ws : List Waiting) (client : ℕ) (w : Waiting) → AreApart ws → find (λ v. v.client == client) ws ≡ Some w → w.client ≡ client → length (others client ws) + 1 ≡ length ws

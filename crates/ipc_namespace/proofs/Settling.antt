@@ -53,20 +53,25 @@ settled-over s ends = by (first_ready s) refl ends
 
 -- the calls are tried in turn: what is found from one on
 module _ (test : Waiting → Bool) where
-  pub find-next : (ws : List Waiting) (i : ℕ) → IfSome (slice_get ws i) (λ w. false ≡ test w) → find test (drop i ws) ≡ find test (drop (suc i) ws)
-  find-next [] zero fails = refl
-  find-next [] (suc i) fails = refl
-  find-next (w ∷ ws) zero fails = let no = sym fails in rw no refl
-  find-next (w ∷ ws) (suc i) fails = find-next ws i fails
+  pub find-next : (ws : List Waiting) (i : ℕ) (w : Waiting) → slice_get ws i ≡ Some w → test w ≡ false → find test (drop i ws) ≡ find test (drop (suc i) ws)
+  find-next [] i w there fails = absurd (none-some w there)
+  find-next (v ∷ ws) zero w there fails = let no : test v ≡ false = ap test (same_Some v w there) ∙ fails in rw no refl
+  find-next (v ∷ ws) (suc i) w there fails = find-next ws i w there fails
+
+  pub find-here : (ws : List Waiting) (i : ℕ) (w : Waiting) → slice_get ws i ≡ Some w → test w ≡ true → find test (drop i ws) ≡ Some w
+  find-here [] i w there passes = absurd (none-some w there)
+  find-here (v ∷ ws) zero w there passes = let yes : test v ≡ true = ap test (same_Some v w there) ∙ passes in rw yes there
+  find-here (v ∷ ws) (suc i) w there passes = find-here ws i w there passes
+
+  -- none is left
+  pub find-past : (ws : List Waiting) (i : ℕ) → slice_get ws i ≡ None → find test (drop i ws) ≡ None
+  find-past [] zero past = refl
+  find-past [] (suc i) past = refl
+  find-past (w ∷ ws) zero past = absurd (none-some w (sym past))
+  find-past (w ∷ ws) (suc i) past = find-past ws i past
 
   pub find-over : (ws : List Waiting) (i : ℕ) → length ws ≤ i → find test (drop i ws) ≡ None
   find-over ws i past = at_drop_all (find test) ws i past
-
-  pub find-here : {M : Type 0} (f : Waiting → M) (m : M) (ws : List Waiting) (i : ℕ) → i < length ws → IfSome (slice_get ws i) (λ w. true ≡ test w) → IfSome (slice_get ws i) (λ w. f w ≡ m)
-      → option_map f (find test (drop i ws)) ≡ Some m
-  find-here f m [] i within passes is = absurd (omega (arith, within))
-  find-here f m (w ∷ ws) zero within passes is = let yes = sym passes in rw yes (ap (λ x. Some x) is)
-  find-here f m (w ∷ ws) (suc i) within passes is = find-here f m ws i (omega (arith, within)) passes is
 
 found-last : (test : Waiting → Bool) (ws : List Waiting) (w : Waiting) → find test ws ≡ None → test w ≡ false → find test (ws ++ w ∷ []) ≡ None
 found-last test [] w none fails = rw fails refl

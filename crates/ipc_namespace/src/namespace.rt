@@ -23,7 +23,6 @@ ghost use Rattle.std.specs.Prelude.{
   Err,
   is_some,
   option_map,
-  slice_get,
   Some,
   None,
 };
@@ -33,6 +32,8 @@ ghost use Rattle.ipc_model.specs.Decision.{left_by, outcome_of};
 ghost use Rattle.ipc_model.specs.Decide.{decide_alive as decision_alive, decide_call as decision_made, deadline_of, is_reached, stands, waits_as};
 ghost use Rattle.std.specs.List.{find};
 ghost use Rattle.ipc_parked.specs.Parked.{AreApart};
+ghost use Rattle.ipc_parked.specs.Touched.{is_touched};
+ghost use Rattle.ipc_model.specs.Touched.{AreQuietBut};
 ghost use Rattle.ipc_model.specs.Waits.{AreNotReady};
 ghost use Rattle.ipc_model.specs.Step.{
   Moved as MovedTo,
@@ -55,7 +56,7 @@ use crate::reserving::{release_in, reserve_in, reserve_row, sent_to};
 use crate::semaphore_calls::Awaited;
 use ipc_call::{Answer, Call, Ended, Limits, Memory, Outcome, Rule, Settings};
 use ipc_creds::Creds;
-use ipc_parked::Parked;
+use ipc_parked::{Parked, Touched};
 use queue_calls::Queues;
 use segment_calls::Segments;
 use set_calls::Sets;
@@ -218,7 +219,7 @@ impl Namespace {
     {
         let own = self.act(client, place, call, ended)?;
         if is_granted(&own) {
-            self.settle(ended);
+            self.settle(Touched::by(call), ended);
         }
         Ok(own)
     }
@@ -431,45 +432,49 @@ impl Namespace {
         parked
     }
 
-    /// Ends the waiting calls that can proceed, the earliest first, until none can. There is room for each in the
-    /// list of those that ended.
-    fn settle(&mut self, ended: &mut Vec<Ended>)
-        requires { vec_len ended.old + length self.old.parked ≤ vec_capacity ended.old }
+    /// Ends the waiting calls that can proceed, the earliest first, until none can: at first only those that were touched
+    /// can, and a call that ends touches no others. There is room for each in the list of those that ended.
+    fn settle(&mut self, touched: Touched, ended: &mut Vec<Ended>)
+        requires quiet { AreQuietBut (is_touched touched) self.old }
+        requires room { vec_len ended.old + length self.old.parked ≤ vec_capacity ended.old }
         ensures state { self.new ≡ (settled self.old).state }
         ensures ended { ended.new.items ≡ ended.old.items ++ (settled self.old).ended }
         ensures few { vec_len ended.new ≤ vec_len ended.old + length self.old.parked }
     {
-        while let Some(completion) = self.complete_first() {
+        while let Some(completion) = self.complete_first(touched) {
             ended.push(completion).unwrap();
         }
     }
 
-    /// Ends the earliest waiting call that can proceed. None where none can.
-    fn complete_first(&mut self) -> Option<Ended>
+    /// Ends the earliest waiting call that can proceed. None where none can. Only those that were touched are tried.
+    fn complete_first(&mut self, touched: Touched) -> Option<Ended>
+        requires quiet { AreQuietBut (is_touched touched) self.old }
         ensures first { option_map (end_waiting self.old) (first_that_is_ready self.old) ≡ option_map {U = MovedTo} (λ ended. record { state = self.new; ended = ended ∷ [] }) result }
         ensures none { IfNone result (self.new ≡ self.old) }
         ensures shorter { IfSome result (λ _. length self.new.parked + 1 ≡ length self.old.parked) }
     {
         for index in 0..self.parked.len() {
-            if let Some(completion) = self.try_waiting(index) {
+            let (client, _) = self.parked.nth_touched(touched, index)?;
+            if let Some(completion) = self.try_waiting(client) {
                 return Some(completion);
             }
         }
         None
     }
 
-    /// Tries the waiting call at an index in order of arrival. Where it no longer waits it leaves the list, refused or
-    /// carried out. It takes no memory: what it needs was made when it began to wait.
+    /// Tries the client's waiting call. Where it no longer waits it leaves the list, refused or carried out. It takes no
+    /// memory: what it needs was made when it began to wait.
     #[tactic(auto, unfolding(ipc_model::specs::Decide::part_plan))]
-    fn try_waiting(&mut self, index: usize) -> Option<Ended>
-        ensures ready { IfSome (slice_get self.old.parked index) (λ w. is_some result ≡ is_ready self.old w) }
-        ensures ended { IfSome (slice_get self.old.parked index) (λ w. IfSome result (λ ended. end_waiting self.old w ≡ record { state = self.new; ended = ended ∷ [] })) }
+    fn try_waiting(&mut self, client: u32) -> Option<Ended>
+        requires { waits self.old client ≡ true }
+        ensures ready { IfSome (waiting_of self.old client) (λ w. is_some result ≡ is_ready self.old w) }
+        ensures ended { IfSome (waiting_of self.old client) (λ w. IfSome result (λ ended. end_waiting self.old w ≡ record { state = self.new; ended = ended ∷ [] })) }
         ensures none { IfNone result (self.new ≡ self.old) }
         ensures shorter { IfSome result (λ _. length self.new.parked + 1 ≡ length self.old.parked) }
     {
-        let (client, arrival) = self.parked.nth(index)?;
+        let call = self.parked.call_of(client);
         let who = caller_of(&self.clients, client, self.clock);
-        match &arrival.call {
+        match call {
             Call::MsgSnd {
                 id,
                 mtype,

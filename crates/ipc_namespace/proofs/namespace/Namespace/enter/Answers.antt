@@ -1,10 +1,29 @@
-use Rattle.std.proofs.Common.{◌≡◌, ◌++◌, append_assoc, refl, sym, ap, ◌∙◌}
+use Rattle.std.proofs.Common.{◌≡◌, ◌++◌, true, false, append_assoc, refl, sym, ap, subst, ◌∙◌}
+use Rattle.std.specs.Prelude.{◌==◌, is_none}
 use Rattle.ipc_call.specs.declared.replies.Ended.{Ended}
 use Rattle.std.proofs.Common.{Vec, Global}
-use Rattle.ipc_model.specs.Step.{after, expire, moved_by, settled}
+use Rattle.ipc_model.specs.State.{State, is_waiting}
+use Rattle.ipc_model.specs.Decision.{outcome_of}
+use Rattle.ipc_model.specs.Decide.{decide_call}
+use Rattle.ipc_model.specs.Step.{after, expire, expired, moved_by, settled}
+use Rattle.ipc_model.specs.Touched.{AreQuietBut}
+use Rattle.ipc_parked.specs.Touched.{is_touched}
+use Rattle.ipc_namespace.specs.Namespace.{is_grant}
+use Rattle.ipc_namespace.proofs.Parked.{list_any-filter}
+use Rattle.ipc_namespace.proofs.Quiet.{quiet-moved}
 use Rattle.ipc_namespace.proofs.Settling.{entered-granted, entered-still, quiet-expire}
 use Rattle.ipc_namespace.proofs.namespace.Namespace.enter.Goals as goal
 use Rattle.ipc_namespace.proofs.namespace.Namespace.enter.Goals.{then-is_granted, else-is_granted}
+
+pub settle-requires-clause-quiet : goal.settle-requires-clause-quiet
+settle-requires-clause-quiet c =
+    let s = c.args.self.now in
+    let t = (expire s).state in
+    let client = c.args.client in
+    let granted : is_grant (outcome_of (decide_call t client c.args.call.now)) ≡ true = ap is_grant (sym c.in_ok-own.ensures.own) ∙ sym c.is_granted.ensures ∙ c.if-is_granted.true in
+    let free : is_waiting t client ≡ false = list_any-filter (λ w. w.client == client) (λ w. is_none (expired s w)) s.parked c.requires.free in
+    subst (λ (u : State). AreQuietBut (is_touched c.by.result) u) (sym c.in_ok-own.ensures.state)
+    (quiet-moved t client c.args.call.now c.by.result c.by.ensures (quiet-expire s c.requires.quiet) free granted)
 
 pub returns-clause-ok : goal.returns-clause-ok
 returns-clause-ok c =

@@ -1,0 +1,127 @@
+-- No call is ready but on what was touched: after a granted call, and after each waiting call that ends.
+use Rattle.std.proofs.Common.{◌≡◌, ◌≢◌, ℕ, Bool, true, false, eqb, List, [], ◌∷◌, refl, sym, ap, subst, ◌∙◌, ⊎_elim, Option, Some, None}
+use Rattle.std.specs.Prelude.{◌==◌, filter, is_none, not, option_map, IfSome}
+use Rattle.std.specs.List.{find, list_any, AllByRecursion}
+use Rattle.std.proofs.lemmas.Bool.{cases_Bool, eqb-false, false≢true, or_parts, true≢false}
+use Rattle.std.proofs.lemmas.Option.{none-some, same_Some}
+use Rattle.ipc_call.specs.declared.calls.Call.{Call}
+use Rattle.ipc_call.specs.declared.calls.Kind.{Kind}
+use Rattle.ipc_call.specs.declared.replies.Answer.{Answer}
+use Rattle.ipc_call.specs.declared.replies.Ended.{Ended}
+use Rattle.ipc_call.specs.declared.replies.Waiting.{Waiting}
+use Rattle.ipc_model.specs.State.{State, is_waiting}
+use Rattle.ipc_model.specs.Decision.{Decision, Grant, Outcome, Refuse, Wait, outcome_of}
+use Rattle.ipc_model.specs.Decide.{decide, decide_call, is_late, unless_late}
+use Rattle.ipc_model.specs.Cancelled.{cancelled, waits_on}
+use Rattle.ipc_model.specs.Step.{Moved, end_waiting, ended_by, first_ready, is_ready, moved_as, moved_by, without}
+use Rattle.ipc_model.specs.Touched.{AreQuietBut, touches_place}
+use Rattle.ipc_model.proofs.Calls.{Keeps-decide, parked_alike}
+use Rattle.ipc_model.proofs.Growing.{Keeps}
+use Rattle.ipc_model.proofs.Turning.{event_quiet, turn_quiet}
+use Rattle.ipc_parked.specs.declared.touched.Touched.{Touched}
+use Rattle.ipc_parked.specs.declared.touched.Touched.TheVariants.{Anything, Nothing, Object}
+use Rattle.ipc_parked.specs.Touched.{Covers, is_touched}
+use Rattle.ipc_namespace.specs.Namespace.{is_grant}
+use Rattle.ipc_namespace.proofs.Own.{found-none, found-passes, others}
+use Rattle.ipc_namespace.proofs.Parked.{all-filter, all-found}
+
+-- those elsewhere are not ready, whatever the list
+abbrev AreQuietIn : (Waiting → Bool) → State → List Waiting → Type 0
+AreQuietIn touched s ws = AllByRecursion (λ w. touched w ≡ false → is_ready s w ≡ false) ws
+
+quiet-alike : (touched : Waiting → Bool) (s : State) (parked ws : List Waiting) → AreQuietIn touched s ws → AreQuietIn touched (record s { parked = parked }) ws
+quiet-alike touched s parked ws quiet =
+    subst (λ (ready : Waiting → Bool). AllByRecursion (λ w. touched w ≡ false → ready w ≡ false) ws) (sym (λ i (w : Waiting). parked_alike s parked w.client w.call i)) quiet
+
+-- a list of which none is of this client
+others-of : (client : ℕ) (ws : List Waiting) → list_any (λ w. w.client == client) ws ≡ false → AllByRecursion (λ w. w.client ≢ client) ws
+others-of client [] free = tt
+others-of client (w ∷ ws) free =
+    let parts = or_parts (w.client == client) (list_any (λ v. v.client == client) ws) free in
+    (λ e. eqb-false w.client client parts.0 e, others-of client ws parts.1)
+
+-- a grant is one whatever the deadline
+early : (late : Bool) (d : Decision State) (answer : Answer) (new : State) → unless_late late d ≡ Grant answer new → d ≡ Grant answer new
+early true (Refuse rule) answer new is = is
+early true Wait answer new is = cc
+early true (Grant other old) answer new is = is
+early false d answer new is = is
+
+-- what isn't among those that were touched isn't touched
+covered : (s new : State) (client : ℕ) (call : Call) (touched : Touched) → Covers call touched → (ws : List Waiting) → AllByRecursion (λ w. is_ready s w ≡ false) ws
+    → AllByRecursion (λ w. touches_place s client call w ≡ false → is_ready new w ≡ false) ws → AreQuietIn (is_touched touched) new ws
+covered s new client call touched covers [] waits quiet = tt
+covered s new client call touched covers (w ∷ ws) waits quiet =
+    (λ off. quiet.0 (by off (touches_place s client call w) refl), covered s new client call touched covers ws waits.1 quiet.1)
+  where
+    by : is_touched touched w ≡ false → (b : Bool) → touches_place s client call w ≡ b → b ≡ false
+    by off true on = absurd (false≢true (sym off ∙ covers s client w waits.0 on))
+    by off false on = refl
+
+-- after a granted call, where no call was ready before it
+pub quiet-moved : (s : State) (client : ℕ) (call : Call) (touched : Touched) → Covers call touched → first_ready s ≡ None → is_waiting s client ≡ false → is_grant (outcome_of (decide_call s client call)) ≡ true
+    → AreQuietBut (is_touched touched) (moved_by s client call).state
+quiet-moved s client call touched covers none free granted = by (decide_call s client call) refl granted
+  where
+    by : (d : Decision State) → decide_call s client call ≡ d → is_grant (outcome_of d) ≡ true → AreQuietBut (is_touched touched) (moved_as s client call d).state
+    by (Refuse rule) is granted = absurd (false≢true granted)
+    by Wait is granted = absurd (false≢true granted)
+    by (Grant answer new) is granted =
+        let so : decide s client call ≡ Grant answer new = early (is_late s call) (decide s client call) answer new is in
+        let same : new.parked ≡ s.parked = (subst (λ (d : Decision State). Keeps s d) so (Keeps-decide s client call)).0 in
+        let waits = found-none (is_ready s) s.parked none in
+        let quiet = covered s new client call touched covers s.parked waits (event_quiet s new client call answer so s.parked waits (others-of client s.parked free)) in
+        let kept = filter (λ w. is_none (cancelled new call w)) new.parked in
+        quiet-alike (is_touched touched) new kept kept
+        (all-filter (λ w. is_touched touched w ≡ false → is_ready new w ≡ false) (λ w. is_none (cancelled new call w)) new.parked (subst (λ ws. AreQuietIn (is_touched touched) new ws) (sym same) quiet))
+
+-- a waiting call ends that is the earliest that is ready
+module _ (s : State) (w : Waiting) (touched : Touched) (quiet : AreQuietBut (is_touched touched) s) where
+  abbrev rest : State
+  rest = without s w.client
+
+  quiet-rest : AreQuietBut (is_touched touched) rest
+  quiet-rest = quiet-alike (is_touched touched) s rest.parked rest.parked (all-filter (λ v. is_touched touched v ≡ false → is_ready s v ≡ false) (λ v. not (v.client == w.client)) s.parked quiet)
+
+  -- so it is one of those that were touched
+  was-touched : first_ready s ≡ Some w → is_touched touched w ≡ true
+  was-touched first = by (is_touched touched w) refl
+    where
+      ready : is_ready s w ≡ true
+      ready = subst (λ o. IfSome o (λ v. is_ready s v ≡ true)) first (found-passes (is_ready s) s.parked _ refl)
+      by : (b : Bool) → is_touched touched w ≡ b → b ≡ true
+      by true is = refl
+      by false is = absurd (true≢false (sym ready ∙ all-found (λ v. is_touched touched v ≡ false → is_ready s v ≡ false) (is_ready s) s.parked w quiet first is))
+
+  quiet-turn-on : (t : State) (answer : Answer) → decide rest w.client w.call ≡ Grant answer t → (u : Touched) → touched ≡ u → is_touched u w ≡ true → (vs : List Waiting) → AllByRecursion (λ v. v.client ≢ w.client) vs
+      → AreQuietIn (is_touched u) rest vs → AreQuietIn (is_touched u) t vs
+  quiet-turn-on t answer is Nothing same on vs others waits = absurd (false≢true on)
+  quiet-turn-on t answer is (Object kind id) same on [] others waits = tt
+  quiet-turn-on t answer is (Object kind id) same on (v ∷ vs) others waits =
+      (λ off. turn_quiet rest t w answer kind id on is v others.0 off (waits.0 off), quiet-turn-on t answer is (Object kind id) same on vs others.1 waits.1)
+  quiet-turn-on t answer is Anything same on [] others waits = tt
+  quiet-turn-on t answer is Anything same on (v ∷ vs) others waits = (λ off. absurd (true≢false off), quiet-turn-on t answer is Anything same on vs others.1 waits.1)
+
+  without-own : (ws : List Waiting) → AllByRecursion (λ v. v.client ≢ w.client) (others w.client ws)
+  without-own [] = tt
+  without-own (v ∷ ws) =
+      ⊎_elim
+      (λ (own : (v.client == w.client) ≡ true). rw own (without-own ws))
+      (λ (other : (v.client == w.client) ≡ false). rw other (λ e. eqb-false v.client w.client other e, without-own ws))
+      (cases_Bool (v.client == w.client))
+
+  quiet-ended : first_ready s ≡ Some w → (d : Decision State) → decide rest w.client w.call ≡ d → AreQuietBut (is_touched touched) (ended_by rest w.client d).state
+  quiet-ended first (Refuse rule) is = quiet-rest
+  quiet-ended first Wait is = quiet-rest
+  quiet-ended first (Grant answer t) is =
+      let same : t.parked ≡ rest.parked = (subst (λ (d : Decision State). Keeps rest d) is (Keeps-decide rest w.client w.call)).0 in
+      subst (λ ws. AreQuietIn (is_touched touched) t ws) (sym same) (quiet-turn-on t answer is touched refl (was-touched first) rest.parked (without-own s.parked) quiet-rest)
+
+pub quiet-turn : (s new : State) (e : Ended) (touched : Touched) → AreQuietBut (is_touched touched) s → option_map (end_waiting s) (first_ready s) ≡ Some (record { state = new; ended = e ∷ [] }) → AreQuietBut (is_touched touched) new
+quiet-turn s new e touched quiet ends = by (first_ready s) refl ends
+  where
+    by : (o : Option Waiting) → first_ready s ≡ o → option_map (end_waiting s) o ≡ Some (record { state = new; ended = e ∷ [] }) → AreQuietBut (is_touched touched) new
+    by None first ends = absurd (none-some {A = Moved} (record { state = new; ended = e ∷ [] }) ends)
+    by (Some w) first ends =
+        subst (λ (m : Moved). AreQuietBut (is_touched touched) m.state) (same_Some (end_waiting s w) (record { state = new; ended = e ∷ [] }) ends)
+        (quiet-ended s w touched quiet first (decide (without s w.client) w.client w.call) refl)
