@@ -1,6 +1,6 @@
 -- The calls on semaphores, and exit, on the sets with their undo entries and on their blur.
-use Rattle.std.proofs.Common.{◌≡◌, ℕ, suc, ◌+◌, ℤ, Bool, true, false, List, [], ◌∷◌, length, map, refl, sym, ap, ◌∙◌, subst, cond, eqb-true, Option, Some, None}
-use Rattle.std.specs.Prelude.{unwrap_or, option_map, ◌==◌, nat_le, nat_lt, pos, not, ◌&&◌, ◌||◌, slice_set, replicate}
+use Rattle.std.proofs.Common.{◌≡◌, ℕ, suc, ◌+◌, ℤ, Bool, true, false, List, [], ◌∷◌, length, map, refl, sym, ap, ◌∙◌, subst, eqb-true, Option, Some, None}
+use Rattle.std.specs.Prelude.{unwrap_or, option_map, ◌==◌, nat_le, nat_lt, pos, not, ◌||◌, slice_set, replicate}
 use Rattle.std.specs.List.{list_all, list_any}
 use Rattle.std.specs.Ordering.{int_eq}
 use Rattle.std.specs.FinMap as finite
@@ -22,7 +22,6 @@ use Rattle.sem_set.specs.Exits.{undone_from}
 use Rattle.sem_set.specs.Sets.{is_value, set_to, zeroed}
 use Rattle.sem_set.specs.Trials.{are_in, committed, left_from}
 use Rattle.sem_undo.specs.Entries.{Adjusted, Entries, adj_of, cleared, without_client}
-use Rattle.sem_undo.proofs.Entries.{get_kept}
 use Rattle.ipc_model.specs.State.{Caller, SemSet, Sems, pid_of}
 use Rattle.ipc_model.specs.Plan.{Needs, Passes, Grant, in_order}
 use Rattle.ipc_model.specs.Controls.{without_set}

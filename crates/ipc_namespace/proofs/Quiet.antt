@@ -1,18 +1,17 @@
 -- No call is ready but on what was touched: after a granted call, and after each waiting call that ends.
-use Rattle.std.proofs.Common.{◌≡◌, ◌≢◌, ℕ, Bool, true, false, eqb, List, [], ◌∷◌, refl, sym, ap, subst, ◌∙◌, ⊎_elim, Option, Some, None}
+use Rattle.std.proofs.Common.{◌≡◌, ◌≢◌, ℕ, Bool, true, false, List, [], ◌∷◌, refl, sym, subst, ◌∙◌, ⊎_elim, Option, Some, None}
 use Rattle.std.specs.Prelude.{◌==◌, filter, is_none, not, option_map, IfSome}
-use Rattle.std.specs.List.{find, list_any, AllByRecursion}
+use Rattle.std.specs.List.{list_any, AllByRecursion}
 use Rattle.std.proofs.lemmas.Bool.{cases_Bool, eqb-false, false≢true, or_parts, true≢false}
 use Rattle.std.proofs.lemmas.Option.{none-some, same_Some}
 use Rattle.ipc_call.specs.declared.calls.Call.{Call}
-use Rattle.ipc_call.specs.declared.calls.Kind.{Kind}
 use Rattle.ipc_call.specs.declared.replies.Answer.{Answer}
 use Rattle.ipc_call.specs.declared.replies.Ended.{Ended}
 use Rattle.ipc_call.specs.declared.replies.Waiting.{Waiting}
 use Rattle.ipc_model.specs.State.{State, is_waiting}
-use Rattle.ipc_model.specs.Decision.{Decision, Grant, Outcome, Refuse, Wait, outcome_of}
+use Rattle.ipc_model.specs.Decision.{Decision, Grant, Refuse, Wait, outcome_of}
 use Rattle.ipc_model.specs.Decide.{decide, decide_call, is_late, unless_late}
-use Rattle.ipc_model.specs.Cancelled.{cancelled, waits_on}
+use Rattle.ipc_model.specs.Cancelled.{cancelled}
 use Rattle.ipc_model.specs.Step.{Moved, end_waiting, ended_by, first_ready, is_ready, moved_as, moved_by, without}
 use Rattle.ipc_model.specs.Touched.{AreQuietBut, touches_place}
 use Rattle.ipc_model.proofs.Calls.{Keeps-decide, parked_alike}
@@ -89,6 +88,7 @@ module _ (s : State) (w : Waiting) (touched : Touched) (quiet : AreQuietBut (is_
     where
       ready : is_ready s w ≡ true
       ready = subst (λ o. IfSome o (λ v. is_ready s v ≡ true)) first (found-passes (is_ready s) s.parked _ refl)
+
       by : (b : Bool) → is_touched touched w ≡ b → b ≡ true
       by true is = refl
       by false is = absurd (true≢false (sym ready ∙ all-found (λ v. is_touched touched v ≡ false → is_ready s v ≡ false) (is_ready s) s.parked w quiet first is))

@@ -1,6 +1,6 @@
 -- The waiting calls that can proceed: the code ends the first until none is left, the definition counts its turns down.
-use Rattle.std.proofs.Common.{◌≡◌, ℕ, zero, suc, ◌+◌, ◌<◌, ◌≤◌, Bool, true, false, List, [], ◌∷◌, ◌++◌, length, refl, sym, ap, ◌∙◌, arith, ⊎_elim, Option, Some, None, Err}
-use Rattle.std.specs.Prelude.{IfSome, drop, filter, is_none, option_map, slice_get}
+use Rattle.std.proofs.Common.{◌≡◌, ℕ, zero, suc, ◌+◌, ◌≤◌, Bool, true, false, List, [], ◌∷◌, ◌++◌, length, refl, sym, ap, ◌∙◌, arith, ⊎_elim, Option, Some, None, Err}
+use Rattle.std.specs.Prelude.{drop, filter, is_none, option_map, slice_get}
 use Rattle.std.specs.List.{find, AllByRecursion}
 use Rattle.std.proofs.lemmas.Bool.{cases_Bool, true≢false}
 use Rattle.std.proofs.lemmas.List.{at_drop_all}

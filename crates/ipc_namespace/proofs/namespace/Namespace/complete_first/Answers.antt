@@ -1,4 +1,4 @@
-use Rattle.std.proofs.Common.{◌≡◌, ℕ, ◌+◌, ◌≤◌, ◌∷◌, [], true, false, suc, length, refl, sym, ap, ◌∙◌, subst, arith, List, Option, Some, None}
+use Rattle.std.proofs.Common.{◌≡◌, ◌+◌, ◌≤◌, ◌∷◌, [], true, false, suc, length, refl, sym, ap, ◌∙◌, subst, arith, Some, None}
 use Rattle.std.specs.Prelude.{◌==◌, drop, filter, option_map, slice_get, IfSome}
 use Rattle.std.specs.List.{find}
 use Rattle.ipc_call.specs.declared.replies.Waiting.{Waiting}

@@ -1,6 +1,6 @@
 use Rattle.std.proofs.Common.{◌≡◌, ℕ, ◌<◌, ◌∷◌, [], List, true, false, length, refl, sym, ap, ◌∙◌, subst, Option, Some, w64, rules}
 use mir.Val.{SFits}
-use Rattle.std.specs.Prelude.{◌==◌, is_some, slice_get, IfSome, IsSome}
+use Rattle.std.specs.Prelude.{◌==◌, is_some, IfSome, IsSome}
 use Rattle.std.specs.List.{find, list_any}
 use Rattle.std.proofs.lemmas.Int.{to_z-of_z}
 use Rattle.ipc_call.specs.declared.calls.Call.{Call}
@@ -20,9 +20,9 @@ use Rattle.ipc_model.specs.Step.{end_waiting, is_ready, without}
 use Rattle.ipc_parked.specs.Parked.{waiting}
 use Rattle.ipc_parked.proofs.Listed.{any_waiting, waiting_at}
 use Rattle.ipc_namespace.specs.Namespace.{HasRowFor, sent_to}
-use Rattle.ipc_namespace.proofs.Calling.{IfSome-at, alive-decides, answered-some, ends-so, left-waits, outcome-some, put_in, put_sems, sets-left, sets-outcome, receive-left, receive-outcome, receive-proceeds, send-answered, send-proceeds}
+use Rattle.ipc_namespace.proofs.Calling.{alive-decides, answered-some, ends-so, left-waits, outcome-some, put_in, put_sems, sets-left, sets-outcome, receive-left, receive-outcome, receive-proceeds, send-answered, send-proceeds}
 use Rattle.ipc_namespace.proofs.Held.{IsHeld, held-found, held-same}
-use Rattle.ipc_namespace.proofs.Parked.{apart-parked, parked_found}
+use Rattle.ipc_namespace.proofs.Parked.{parked_found}
 use Rattle.ipc_namespace.proofs.Reserved.{no_other}
 use Rattle.ipc_namespace.proofs.namespace.Namespace.try_waiting.Goals as goal
 use Rattle.ipc_namespace.proofs.namespace.Namespace.try_waiting.Goals.{After-caller_of-who, After-deref}
