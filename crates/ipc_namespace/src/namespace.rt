@@ -454,7 +454,7 @@ impl Namespace {
         ensures shorter { IfSome result (λ _. length self.new.parked + 1 ≡ length self.old.parked) }
     {
         for index in 0..self.parked.len() {
-            let (client, _) = self.parked.nth_touched(touched, index)?;
+            let client = self.parked.nth_touched(touched, index)?;
             if let Some(completion) = self.try_waiting(client) {
                 return Some(completion);
             }

@@ -1,6 +1,6 @@
 -- The waiting calls that the grant of a call touches.
-use Rattle.std.proofs.Common.{◌≡◌, ℕ, ℤ, true, false, List, [], ◌∷◌, refl, sym, ap, ◌∙◌, ⊎_elim, Option, Some, None}
-use Rattle.std.specs.Prelude.{filter, option_map, slice_get, unwrap_or}
+use Rattle.std.proofs.Common.{◌≡◌, ℕ, zero, suc, ℤ, Bool, true, false, List, [], ◌∷◌, refl, sym, ap, ◌∙◌, ⊎_elim, Option, Some, None}
+use Rattle.std.specs.Prelude.{filter, map, option_map, slice_get, unwrap_or}
 use Rattle.std.proofs.lemmas.Bool.{cases_Bool, false≢true}
 use Rattle.ipc_call.specs.declared.calls.Call.{Call}
 use Rattle.ipc_call.specs.declared.calls.Call.TheVariants.{MsgGet, MsgSnd, MsgRcv, SemGet, SemOp, SemTimedOp, SetVal, SetAll, IpcSet, IpcRmid, Exit}
@@ -15,7 +15,7 @@ use Rattle.ipc_model.specs.Touched.{touches_place}
 use Rattle.ipc_model.proofs.Turning.{msgget-touches, semget-touches}
 use Rattle.ipc_parked.specs.declared.parked.Arrival.{Arrival}
 use Rattle.ipc_parked.specs.declared.touched.Touched.TheVariants.{Anything, Nothing, Object}
-use Rattle.ipc_parked.specs.Parked.{entry_of, on_object, waiting}
+use Rattle.ipc_parked.specs.Parked.{clients_on, entry_of, on_object, waiting}
 use Rattle.ipc_parked.specs.Touched.{is_touched}
 
 pub filter-none : (ws : List Waiting) → filter (λ w. false) ws ≡ []
@@ -34,15 +34,23 @@ waiting-on kind id (e ∷ es) =
     (λ (off : waits_on kind id e.1.call ≡ false). rw off (waiting-on kind id es))
     (cases_Bool (waits_on kind id e.1.call))
 
--- the call at an index among those that were touched
-pub touched-none : (ws : List Waiting) (i : ℕ) → slice_get (filter (is_touched Nothing) ws) i ≡ None
-touched-none ws i = ap (λ (vs : List Waiting). slice_get vs i) (filter-none ws)
+-- the client at an index among those that were touched
+abbrev pub client_at : (Waiting → Bool) → List Waiting → ℕ → Option ℕ
+client_at touched ws i = option_map (λ w. w.client) (slice_get (filter touched ws) i)
 
-pub touched-object : (kind : Kind) (id : ℕ) (es : List (ℕ × Arrival)) (i : ℕ) → slice_get (filter (is_touched (Object kind id)) (waiting es)) i ≡ slice_get (waiting (on_object kind id es)) i
-touched-object kind id es i = ap (λ (vs : List Waiting). slice_get vs i) (sym (waiting-on kind id es))
+pub client-none : (ws : List Waiting) (i : ℕ) → client_at (is_touched Nothing) ws i ≡ None
+client-none ws i = ap (λ (vs : List Waiting). option_map (λ w. w.client) (slice_get vs i)) (filter-none ws)
 
-pub touched-all : (ws : List Waiting) (i : ℕ) → slice_get (filter (is_touched Anything) ws) i ≡ slice_get ws i
-touched-all ws i = ap (λ (vs : List Waiting). slice_get vs i) (filter-all ws)
+pub client-all : (ws : List Waiting) (i : ℕ) → client_at (is_touched Anything) ws i ≡ option_map (λ w. w.client) (slice_get ws i)
+client-all ws i = ap (λ (vs : List Waiting). option_map (λ w. w.client) (slice_get vs i)) (filter-all ws)
+
+clients-at : (es : List (ℕ × Arrival)) (i : ℕ) → slice_get (map (λ e. e.0) es) i ≡ option_map (λ w. w.client) (slice_get (waiting es) i)
+clients-at [] i = refl
+clients-at (e ∷ es) zero = refl
+clients-at (e ∷ es) (suc i) = clients-at es i
+
+pub client-on : (kind : Kind) (id : ℕ) (es : List (ℕ × Arrival)) (i : ℕ) → client_at (is_touched (Object kind id)) (waiting es) i ≡ slice_get (clients_on kind id es) i
+client-on kind id es i = ap (λ (vs : List Waiting). option_map (λ w. w.client) (slice_get vs i)) (sym (waiting-on kind id es)) ∙ sym (clients-at (on_object kind id es) i)
 
 -- a call of none of these names touches nothing on which a call waits
 nowhere : (place : Option (Kind × ℕ)) → unwrap_or (option_map (λ at. false) place) false ≡ true → ⊥

@@ -157,7 +157,7 @@ impl Parked {
     }
 
     /// Its client alone.
-    fn client_on(&self, kind: Kind, id: u32, index: usize) -> Option<u32>
+    pub(super) fn client_on(&self, kind: Kind, id: u32, index: usize) -> Option<u32>
         ensures { result ≡ slice_get (clients_on kind id self.now) index }
     {
         match kind {

@@ -2,11 +2,10 @@
 
 ghost use Rattle.std.specs.Prelude.{◌≡◌, filter, slice_get};
 ghost use Rattle.std.specs.Option.{option_map};
-ghost use Rattle.ipc_call.specs.declared.replies.Waiting.{Waiting as WaitingCall};
-ghost use Rattle.ipc_parked.specs.Parked.{entry_of, waiting};
+ghost use Rattle.ipc_parked.specs.Parked.{waiting};
 ghost use Rattle.ipc_parked.specs.Touched.{Covers, is_touched};
 
-use crate::parked::{Arrival, Parked};
+use crate::parked::Parked;
 use ipc_call::{Call, Kind};
 
 /// Where the calls wait that the grant of a call may make ready.
@@ -48,14 +47,18 @@ impl Touched {
 }
 
 impl Parked {
-    /// The call at an index, from 0, among those that were touched, in order of arrival, with its client. Takes no memory.
-    pub fn nth_touched(&self, touched: Touched, index: usize) -> Option<(u32, &Arrival)>
-        ensures { option_map {U = WaitingCall} (λ found. entry_of (found.0, found.1.now)) result ≡ slice_get (filter (is_touched touched) (waiting self.now)) index }
+    /// The client of the call at an index, from 0, in order of arrival among those that were touched. Those that wait
+    /// elsewhere cost nothing. Takes no memory.
+    pub fn nth_touched(&self, touched: Touched, index: usize) -> Option<u32>
+        ensures { result ≡ option_map (λ w. w.client) (slice_get (filter (is_touched touched) (waiting self.now)) index) }
     {
         match touched {
             Touched::Nothing => None,
-            Touched::Object { kind, id } => self.nth_on(kind, id, index),
-            Touched::Anything => self.nth(index),
+            Touched::Object { kind, id } => self.client_on(kind, id, index),
+            Touched::Anything => {
+                let (client, _) = self.nth(index)?;
+                Some(client)
+            }
         }
     }
 }

@@ -1,11 +1,12 @@
-use Rattle.std.proofs.Common.{◌≡◌, ◌+◌, ◌≤◌, ◌∷◌, [], true, false, suc, length, refl, sym, ap, ◌∙◌, subst, arith, Some, None}
+use Rattle.std.proofs.Common.{◌≡◌, ℕ, ◌+◌, ◌≤◌, ◌∷◌, [], true, false, suc, length, refl, sym, ap, ◌∙◌, subst, arith, Option, Some, None}
 use Rattle.std.specs.Prelude.{◌==◌, drop, filter, option_map, slice_get, IfSome}
 use Rattle.std.specs.List.{find}
+use Rattle.std.proofs.lemmas.Option.{none-some, same_Some}
 use Rattle.ipc_call.specs.declared.replies.Waiting.{Waiting}
 use Rattle.ipc_model.specs.State.{State, is_waiting, waiting_of}
 use Rattle.ipc_model.specs.Step.{Moved, end_waiting, is_ready}
 use Rattle.ipc_model.proofs.Touched.{ready_touched}
-use Rattle.ipc_parked.specs.Parked.{entry_of, waiting}
+use Rattle.ipc_parked.specs.Parked.{AreApart, waiting}
 use Rattle.ipc_parked.specs.Touched.{is_touched}
 use Rattle.ipc_parked.proofs.Listed.{length-waiting}
 use Rattle.ipc_namespace.proofs.Calling.{IfSome-at}
@@ -18,28 +19,41 @@ use Rattle.ipc_namespace.proofs.namespace.Namespace.complete_first.Goals.{In_ok-
 pub loop-index-init : goal.loop-index-init
 loop-index-init c = record { same = refl; first = ready_touched (is_touched c.args.touched) c.args.self.now c.requires.quiet }
 
--- the call that is tried
+-- the call that is tried, at the index among those that were touched
+there : (client : ℕ) (o : Option Waiting) → Some client ≡ option_map (λ w. w.client) o → (w : Waiting) × (o ≡ Some w) × (w.client ≡ client)
+there client None is = absurd (none-some client (sym is))
+there client (Some w) is = (w, refl, sym (same_Some client w.client is))
+
+abbrev at : (c : In_ok-client) → (w : Waiting) × (slice_get (filter (is_touched c.args.touched) c.args.self.now.parked) c.loop-index.index ≡ Some w) × (w.client ≡ c.in_ok-client.client)
+at c =
+    let i = c.loop-index.index in
+    there c.in_ok-client.client (slice_get (filter (is_touched c.args.touched) c.args.self.now.parked) i)
+    (c.in_ok-client.ensures ∙ ap (λ (s : State). option_map (λ (w : Waiting). w.client) (slice_get (filter (is_touched c.args.touched) s.parked) i)) (c.self-in-loop-index.view_is ∙ c.loop-index.invariant.same))
+
 abbrev tried : In_ok-client → Waiting
-tried c = entry_of (c.in_ok-client.client, c.in_ok-client.field-0-1.now)
+tried c = (at c).0
 
--- stands at the index among those that were touched
 at_index : (c : In_ok-client) → slice_get (filter (is_touched c.args.touched) c.args.self.now.parked) c.loop-index.index ≡ Some (tried c)
-at_index c =
-    sym (ap (λ (s : State). slice_get (filter (is_touched c.args.touched) s.parked) c.loop-index.index) (c.self-in-loop-index.view_is ∙ c.loop-index.invariant.same))
-    ∙ sym c.in_ok-client.ensures
+at_index c = (at c).1
 
--- and is its client's own
+-- it is its client's own
 is_own : (c : In_ok-client) → waiting_of c.args.self.now c.in_ok-client.client ≡ Some (tried c)
 is_own c =
+    let s = c.args.self.now in
     let n = c.self-in-loop-index.inside in
-    sym (ap (λ (s : State). waiting_of s c.in_ok-client.client) (c.self-in-loop-index.view_is ∙ c.loop-index.invariant.same))
-    ∙ nth-filtered (is_touched c.args.touched) (waiting n.parked) c.loop-index.index (tried c) (apart-parked (length n.clients.items) (waiting n.parked) c.self-in-loop-index.invariant.1) (sym c.in_ok-client.ensures)
+    let apart = subst (λ (t : State). AreApart t.parked) (c.self-in-loop-index.view_is ∙ c.loop-index.invariant.same) (apart-parked (length n.clients.items) (waiting n.parked) c.self-in-loop-index.invariant.1) in
+    ap (λ client. waiting_of s client) (sym (at c).2) ∙ nth-filtered (is_touched c.args.touched) s.parked c.loop-index.index (tried c) apart (at_index c)
 
 pub try_waiting-requires : goal.try_waiting-requires
 try_waiting-requires c =
     let b = (goal.at.try_waiting-requires c).In_ok-client in
-    subst (λ (s : State). is_waiting s c.in_ok-client.client ≡ true) (sym c.loop-index.invariant.same)
-    (found-there (λ w. w.client == c.in_ok-client.client) c.args.self.now.parked (tried b) (is_own b))
+    let s = c.args.self.now in
+    subst (λ (t : State). is_waiting t c.in_ok-client.client ≡ true) (sym c.loop-index.invariant.same)
+    (subst (λ client. is_waiting s client ≡ true) (at b).2 (found-there (λ w. w.client == (tried b).client) s.parked (tried b) (ap (λ client. waiting_of s client) (at b).2 ∙ is_own b)))
+
+none-at : (o : Option Waiting) → None ≡ option_map (λ w. w.client) o → o ≡ None
+none-at None is = refl
+none-at (Some w) is = absurd (none-some w.client is)
 
 pub returns-in_err-client-clause-first : goal.returns-in_err-client-clause-first
 returns-in_err-client-clause-first c =
@@ -47,7 +61,7 @@ returns-in_err-client-clause-first c =
     let i = c.loop-index.index in
     let inv = c.loop-index.invariant in
     let past : slice_get (filter (is_touched c.args.touched) s.parked) i ≡ None =
-    sym (ap (λ (t : State). slice_get (filter (is_touched c.args.touched) t.parked) i) (c.self-in-loop-index.view_is ∙ inv.same)) ∙ sym c.in_err-client.ensures in
+    none-at _ (c.in_err-client.ensures ∙ ap (λ (t : State). option_map (λ (w : Waiting). w.client) (slice_get (filter (is_touched c.args.touched) t.parked) i)) (c.self-in-loop-index.view_is ∙ inv.same)) in
     rw c.from_residual.ensures (ap (option_map (end_waiting s)) (inv.first ∙ find-past (is_ready s) (filter (is_touched c.args.touched) s.parked) i past))
 
 pub returns-in-Some-clause-first : goal.returns-in-Some-clause-first
