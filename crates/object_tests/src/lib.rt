@@ -22,3 +22,5 @@ mod queues;
 mod semaphores;
 #[cfg(test)]
 mod undo;
+#[cfg(test)]
+mod waits;

@@ -22,6 +22,8 @@ enum Step {
     AtQueue(u32, u32),
     /// The earliest that waits at a semaphore set.
     AtSet(u32),
+    /// The client at an index among those that wait at a queue.
+    NthAtQueue(u32, usize),
     /// The earliest whose deadline is reached at a second of the clock.
     Due(u64),
 }
@@ -64,6 +66,11 @@ fn at_object(parked: &Parked, kind: Kind, id: u32, least: u32) -> Option<u32> {
     parked.on_object(kind, id, |client, _| least <= client)
 }
 
+fn nth_at(parked: &Parked, kind: Kind, id: u32, index: usize) -> Option<u32> {
+    let (client, _) = parked.nth_on(kind, id, index)?;
+    Some(client)
+}
+
 /// What a step tells that changes nothing.
 fn seen(parked: &Parked, step: Step) -> Option<u64> {
     let client = match step {
@@ -72,6 +79,7 @@ fn seen(parked: &Parked, step: Step) -> Option<u64> {
         }
         Step::AtQueue(id, least) => at_object(parked, Kind::Queue, id, least),
         Step::AtSet(id) => at_object(parked, Kind::Sems, id, 0),
+        Step::NthAtQueue(id, index) => nth_at(parked, Kind::Queue, id, index),
         Step::Due(clock) => parked.due(clock),
         Step::PlaceOf(client) if parked.is_waiting(client) => return Some(parked.place_of(client)),
         _ => None,
@@ -133,6 +141,11 @@ fn the_earliest_that_passes_is_told(rt: HostRuntime) -> Result<(), Fail> {
         (Step::AtQueue(8, 4), Some(9)),
         (Step::AtQueue(9, 0), None),
         (Step::AtSet(8), None),
+        (Step::NthAtQueue(8, 0), Some(0)),
+        (Step::NthAtQueue(8, 1), Some(9)),
+        (Step::NthAtQueue(8, 2), None),
+        (Step::NthAtQueue(7, 0), Some(5)),
+        (Step::NthAtQueue(9, 0), None),
     ];
     follow(&rt, &mut parked, &steps)
 }

@@ -1,0 +1,292 @@
+// Random lists of calls that wait, beside a list without an index, which goes over all calls for each answer: both
+// answer the same.
+
+use indexmap::IndexMap;
+use ipc_call::{Call, Items, Kind};
+use ipc_parked::{Arrival, Parked, waits_on};
+use std::alloc::{AllocError, Global};
+use std::process::Abort;
+use std::test::Fail;
+
+/// The clients of a random list are below this number.
+const CLIENTS: u32 = 8;
+
+/// How many steps each list takes.
+const STEPS: u64 = 40;
+
+/// The calls that wait, by client and in order of arrival.
+#[derive(Drop)]
+struct Listed {
+    arrivals: IndexMap<u32, Arrival>,
+}
+
+impl Listed {
+    fn nth(&self, index: usize) -> Option<(u32, &Arrival)> {
+        let (client, arrival) = self.arrivals.get_index(index)?;
+        Some((*client, arrival))
+    }
+
+    fn nth_on(&self, kind: Kind, id: u32, index: usize) -> Option<(u32, &Arrival)> {
+        let mut passed = index;
+        for (client, arrival) in self.arrivals.iter() {
+            if waits_on(kind, id, &arrival.call) {
+                if passed == 0 {
+                    return Some((*client, arrival));
+                }
+                passed -= 1;
+            }
+        }
+        None
+    }
+
+    /// The earliest client, from one on, that waits at an object.
+    fn on_object(&self, kind: Kind, id: u32, least: u32) -> Option<u32> {
+        for (client, arrival) in self.arrivals.iter() {
+            if waits_on(kind, id, &arrival.call) && least <= *client {
+                return Some(*client);
+            }
+        }
+        None
+    }
+
+    /// The earliest client from one on.
+    fn earliest(&self, least: u32) -> Option<u32> {
+        for (client, _) in self.arrivals.iter() {
+            if least <= *client {
+                return Some(*client);
+            }
+        }
+        None
+    }
+
+    fn due(&self, clock: u64) -> Option<u32> {
+        for (client, arrival) in self.arrivals.iter() {
+            if arrival.deadline.is_some_and(|deadline| deadline <= clock) {
+                return Some(*client);
+            }
+        }
+        None
+    }
+}
+
+/// The random numbers of a seed, by a linear congruence.
+#[derive(Drop)]
+struct Random {
+    state: u64,
+}
+
+impl Random {
+    /// A number below a bound, 0 where that is 0.
+    fn below(&mut self, bound: u32) -> u32 {
+        self.state = self
+            .state
+            .wrapping_mul(6_364_136_223_846_793_005)
+            .wrapping_add(1_442_695_040_888_963_407);
+        let number = u32::try_from(self.state >> 33).unwrap_or(0);
+        number.checked_rem(bound).unwrap_or(0)
+    }
+
+    fn kind(&mut self) -> Kind {
+        match self.below(7) {
+            0 => Kind::Segment,
+            number if number < 4 => Kind::Sems,
+            _ => Kind::Queue,
+        }
+    }
+
+    /// The lowest, the highest and other identifiers.
+    fn id(&mut self) -> u32 {
+        match self.below(4) {
+            0 => 0,
+            1 => 7,
+            2 => u32::MAX - 1,
+            _ => u32::MAX,
+        }
+    }
+
+    /// A call that waits on a queue, on a set, or on no object.
+    fn call(&mut self, alloc: Global) -> Call {
+        let id = self.id();
+        match self.below(5) {
+            0 => Call::MsgSnd {
+                id,
+                mtype: 1,
+                text: Items::new(Vec::new(alloc)),
+                flags: 0,
+            },
+            1 => Call::MsgRcv {
+                id,
+                size: 10,
+                msgtyp: 0,
+                flags: 0,
+            },
+            2 => Call::SemOp {
+                id,
+                ops: Items::new(Vec::new(alloc)),
+            },
+            3 => Call::SemTimedOp {
+                id,
+                ops: Items::new(Vec::new(alloc)),
+                timeout: 5,
+            },
+            _ => Call::IpcRmid {
+                kind: Kind::Queue,
+                id,
+            },
+        }
+    }
+
+    fn deadline(&mut self) -> Option<u64> {
+        match self.below(12) {
+            0 => Some(u64::MAX),
+            second if second < 6 => Some(u64::from(second)),
+            _ => None,
+        }
+    }
+}
+
+/// Both lists, and the random numbers that change them.
+#[derive(Drop)]
+struct Both {
+    parked: Parked,
+    listed: Listed,
+    random: Random,
+}
+
+fn is_same(found: Option<(u32, &Arrival)>, wanted: Option<(u32, &Arrival)>) -> bool {
+    match (found, wanted) {
+        (None, None) => true,
+        (Some((client, arrival)), Some((other, wanted))) => {
+            client == other
+                && arrival.place == wanted.place
+                && arrival.deadline == wanted.deadline
+                && arrival.call == wanted.call
+        }
+        _ => false,
+    }
+}
+
+impl Both {
+    fn new(alloc: Global, seed: u64) -> Both {
+        Both {
+            parked: Parked::new(alloc),
+            listed: Listed {
+                arrivals: IndexMap::new(alloc),
+            },
+            random: Random { state: seed },
+        }
+    }
+
+    /// The call of a client leaves both lists, and is the same.
+    fn finish(&mut self, client: u32) -> bool {
+        if !self.parked.is_waiting(client) {
+            return false;
+        }
+        let place = self.parked.place_of(client);
+        let told = self.parked.call_of(client).copy();
+        let call = self.parked.finish(client);
+        match self.listed.arrivals.shift_remove(&client) {
+            None => false,
+            Some(arrival) => {
+                place == arrival.place && call == arrival.call && told.is_ok_and(|it| it == call)
+            }
+        }
+    }
+
+    /// A random call of a client comes to both lists, or to neither where the first has no memory.
+    fn park(&mut self, alloc: Global, client: u32, place: u64) -> Result<(), AllocError> {
+        let call = self.random.call(alloc);
+        let deadline = self.random.deadline();
+        let arrival = Arrival {
+            place,
+            call: call.copy()?,
+            deadline,
+        };
+        if !self.parked.is_waiting(client)
+            && self.parked.park(client, place, call, deadline).is_ok()
+        {
+            self.listed.arrivals.insert(client, arrival)?;
+        }
+        Ok(())
+    }
+
+    /// The call of a random client leaves the lists, or one comes where it has none. Tells whether what left is the same.
+    fn change(&mut self, alloc: Global, place: u64) -> Result<bool, AllocError> {
+        let client = self.random.below(CLIENTS);
+        if self.parked.is_waiting(client) {
+            return Ok(self.finish(client));
+        }
+        self.park(alloc, client, place)?;
+        Ok(true)
+    }
+
+    /// What is told of the calls on an object.
+    fn agree_on(&self, kind: Kind, id: u32) -> bool {
+        for index in 0..9 {
+            if !is_same(
+                self.parked.nth_on(kind, id, index),
+                self.listed.nth_on(kind, id, index),
+            ) {
+                return false;
+            }
+        }
+        for least in 0..=CLIENTS {
+            let found = self.parked.on_object(kind, id, |client, _| least <= client);
+            if found != self.listed.on_object(kind, id, least) {
+                return false;
+            }
+        }
+        true
+    }
+
+    /// What is told of all calls.
+    fn agree_on_all(&self) -> bool {
+        for index in 0..9 {
+            if !is_same(self.parked.nth(index), self.listed.nth(index)) {
+                return false;
+            }
+        }
+        for least in 0..=CLIENTS {
+            let found = self.parked.earliest(|client, _| least <= client);
+            if found != self.listed.earliest(least) {
+                return false;
+            }
+        }
+        self.parked.len() == self.listed.arrivals.len()
+    }
+
+    fn agree_on_deadlines(&self) -> bool {
+        for clock in [0, 1, 2, 3, 4, 5, 6, u64::MAX - 1, u64::MAX] {
+            if self.parked.due(clock) != self.listed.due(clock) {
+                return false;
+            }
+        }
+        true
+    }
+
+    /// What is told of a random object and of all calls.
+    fn agree(&mut self) -> bool {
+        let kind = self.random.kind();
+        let id = self.random.id();
+        self.agree_on(kind, id) && self.agree_on_all() && self.agree_on_deadlines()
+    }
+}
+
+/// Whether both lists answer the same after each of the changes of a seed.
+fn agrees(alloc: Global, seed: u64) -> Result<bool, AllocError> {
+    let mut both = Both::new(alloc, seed);
+    for place in 1..=STEPS {
+        if !both.change(alloc, place)? || !both.agree() {
+            return Ok(false);
+        }
+    }
+    Ok(true)
+}
+
+#[test]
+fn the_index_answers_as_the_list(rt: HostRuntime) -> Result<(), Fail> {
+    for seed in 0..1000 {
+        assert!(rt; agrees(rt.alloc(), seed)?, "{seed}");
+    }
+    Ok(())
+}
