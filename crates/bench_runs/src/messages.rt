@@ -1,6 +1,6 @@
 //! Measurements of messages and of calls that wait for them, through a whole namespace and its journal.
 
-use crate::measuring::{BATCH, KEPT, Run, unanswered};
+use crate::measuring::{KEPT, Numbers, Run, unanswered};
 use crate::spaces::{answer, answer_in, done, effects, msgget, opened, wait};
 use ipc_call::{Answer, Call, IPC_NOWAIT, Items};
 use ipc_space::{Effects, Space};
@@ -194,54 +194,55 @@ fn filled_queue(alloc: Global, space: &mut Space, messages: u32) -> io::Result<u
     Ok(id)
 }
 
-/// A batch of queues, each with so many messages.
-fn filled_queues(alloc: Global, space: &mut Space, messages: u32) -> io::Result<Vec<u32>> {
-    let mut ids = Vec::new(alloc);
-    for _ in 0..BATCH {
-        ids.push(filled_queue(alloc, space, messages)?)?;
+/// Makes a queue with a message of each of so many types, from that of the last on.
+fn queue_of_types(alloc: Global, space: &mut Space, types: u32) -> io::Result<u32> {
+    let id = msgget(space, 0, 0o600)?;
+    for number in 0..types {
+        let mtype = LAST + i64::from(number);
+        send(space, id, mtype, Items::new(Vec::new(alloc)))?;
     }
-    Ok(ids)
+    Ok(id)
 }
 
-/// Receives the last message of each queue.
-fn receive_from_each(space: &mut Space, ids: &[u32]) -> io::Result<()> {
-    for id in ids {
-        receive(space, *id, LAST)?;
-    }
-    Ok(())
-}
-
-/// Sends it to each queue again.
-fn send_to_each(alloc: Global, space: &mut Space, run: &mut Run, ids: &[u32]) -> io::Result<()> {
-    for id in ids {
-        send(space, *id, LAST, Items::new(Vec::new(alloc)))?;
-        run.add_answer(*id);
-    }
-    Ok(())
-}
-
-/// Receives the last message of each queue of a batch, and sends it again.
-fn receive_batches<R: Clock + AllocGlobal>(
+/// Receives a message of one of so many types from a queue and sends it again: the two calls count as one.
+fn receive_and_send<R: Clock>(
     rt: &R,
     space: &mut Space,
-    messages: u32,
+    id: u32,
+    types: u32,
     calls: u32,
 ) -> io::Result<Run> {
-    let ids = filled_queues(rt.alloc(), space, messages)?;
-    let mut run = Run::new(calls / BATCH * BATCH);
-    for _ in 0..calls / BATCH {
-        let start = Instant::now(rt)?;
-        receive_from_each(space, ids.as_slice())?;
-        run.add_time(rt, start)?;
-        send_to_each(rt.alloc(), space, &mut run, ids.as_slice())?;
+    let mut numbers = Numbers::new();
+    let mut run = Run::new(calls);
+    let start = Instant::now(rt)?;
+    for _ in 0..calls {
+        let mtype = LAST + i64::from(numbers.below(types));
+        let text = receive(space, id, mtype)?;
+        send(space, id, mtype, text)?;
+        run.add_answer(id);
     }
+    run.add_time(rt, start)?;
     Ok(run)
 }
 
-/// Receives the last of so many messages, which alone has the type that is asked for.
+/// Receives the last of so many messages, which alone has the type that is asked for, and sends it again.
 pub fn receive_last<R: Clock + AllocGlobal>(rt: &R, messages: u32, calls: u32) -> io::Result<Run> {
     let mut space = opened(rt.alloc(), 1)?;
-    let run = receive_batches(rt, &mut space, messages, calls);
+    let run = match filled_queue(rt.alloc(), &mut space, messages) {
+        Ok(id) => receive_and_send(rt, &mut space, id, 1, calls),
+        Err(error) => Err(error),
+    };
+    drop(space);
+    run
+}
+
+/// Receives a message of one of so many types, of which a queue has one each, and sends it again.
+pub fn receive_among<R: Clock + AllocGlobal>(rt: &R, types: u32, calls: u32) -> io::Result<Run> {
+    let mut space = opened(rt.alloc(), 1)?;
+    let run = match queue_of_types(rt.alloc(), &mut space, types) {
+        Ok(id) => receive_and_send(rt, &mut space, id, types, calls),
+        Err(error) => Err(error),
+    };
     drop(space);
     run
 }

@@ -1,22 +1,25 @@
-//! A whole namespace: its clients, their calls and the answers, and what a msgget and a listing of them take.
+//! A whole namespace: its clients, their calls and the answers, and what a msgget, an IPC_STAT, a denied call and a
+//! listing take.
 
 ghost use Rattle.std.specs.Prelude.{IsTrue};
 ghost use Rattle.ipc_call.specs.Limits.{are_in_range};
 
 use crate::measuring::{Numbers, Run, key_of, unanswered};
 use bitflags::Flags;
-use ipc_call::{Answer, Call, IPC_CREAT, Kind, Limit, Limits, Reply};
+use ipc_call::{Answer, Call, IPC_CREAT, IPC_NOWAIT, Kind, Limit, Limits, Reply};
 use ipc_creds::{Caps, Creds};
 use ipc_space::{Effects, Space};
 use std::alloc::{AllocError, Global};
 use std::io;
 use std::time::{Clock, Instant};
 
-/// The default limits, but for as many slots as there may be.
+/// The default limits, but for as many slots, and as many messages in a queue, as there may be.
 pub fn limits() -> Limits
     ensures { IsTrue (are_in_range result) }
 {
-    Limits::default().with_limit(Limit::Slots, Limit::Slots.most())
+    Limits::default()
+        .with_limit(Limit::Slots, Limit::Slots.most())
+        .with_limit(Limit::MsgMnb, Limit::MsgMnb.most())
 }
 
 /// So many clients of one user.
@@ -123,6 +126,60 @@ pub fn get_of_a_key<R: Clock + AllocGlobal>(rt: &R, size: u32, calls: u32) -> io
     let run = get_each(rt, &mut space, size, calls);
     drop(space);
     run
+}
+
+/// What is asked of one queue again and again.
+#[derive(Clone, Copy, Debug)]
+pub enum Asked {
+    /// Its status: IPC_STAT.
+    Status,
+    /// A message, of a queue whose permission bits deny it to its owner.
+    Denied,
+}
+
+impl Asked {
+    fn mode(self) -> u32 {
+        match self {
+            Asked::Status => 0o600,
+            Asked::Denied => 0,
+        }
+    }
+
+    fn call(self, id: u32) -> Call {
+        match self {
+            Asked::Status => Call::IpcStat {
+                kind: Kind::Queue,
+                id,
+            },
+            Asked::Denied => Call::MsgRcv {
+                id,
+                size: u64::MAX,
+                msgtyp: 0,
+                flags: IPC_NOWAIT,
+            },
+        }
+    }
+
+    /// Asks it so many times.
+    fn ask_each<R: Clock>(self, rt: &R, space: &mut Space, calls: u32) -> io::Result<Run> {
+        let id = msgget(space, 0, self.mode())?;
+        let mut run = Run::new(calls);
+        let start = Instant::now(rt)?;
+        for _ in 0..calls {
+            let is_answered = answer(space, self.call(id))?.is_some();
+            run.add_answer(u32::from(is_answered));
+        }
+        run.add_time(rt, start)?;
+        Ok(run)
+    }
+
+    /// Asks it so many times in a namespace of its own.
+    pub fn ask<R: Clock + AllocGlobal>(self, rt: &R, calls: u32) -> io::Result<Run> {
+        let mut space = opened(rt.alloc(), 1)?;
+        let run = self.ask_each(rt, &mut space, calls);
+        drop(space);
+        run
+    }
 }
 
 /// How many queues client 0 is shown.

@@ -1,6 +1,9 @@
-//! Measures single calls on the machine that it runs on. Its word is how many calls each measurement makes,
+//! Measures single calls on the machine that it runs on. Its argument is how many calls each measurement makes,
 //! 1,000 where it has none. The times go to standard error, and what the calls answered to standard output,
 //! which is the same on every run with as many calls.
+//!
+//! With the argument `names` it lists the measurements, a line each: its number, a size, what the size counts, and its
+//! name. With the arguments CALLS NUMBER SIZE it makes one of them once, so that its instructions can be counted.
 #![tactic(auto)]
 
 mod combining;
@@ -9,6 +12,7 @@ use bench_runs::measuring::Run;
 use bench_runs::messages::Way;
 use bench_runs::segments::Access;
 use bench_runs::semops::AtExit;
+use bench_runs::spaces::Asked;
 use bench_runs::{keys, measuring, messages, segments, semops, slots, spaces};
 use std::process::ExitCode;
 use std::{env, io};
@@ -20,16 +24,19 @@ const OBJECTS: [u32; 3] = [16, 1_000, 30_000];
 const BYTES: [u32; 4] = [0, 64, 1_024, 8_192];
 
 /// How many messages a queue holds.
-const MESSAGES: [u32; 3] = [1, 100, 1_000];
+const MESSAGES: [u32; 4] = [1, 100, 1_000, 30_000];
 
-/// How many clients wait.
-const WAITING: [u32; 3] = [1, 16, 63];
+/// Of how many types a queue holds a message.
+const TYPES: [u32; 3] = [1, 100, 1_000];
+
+/// How many clients wait on another queue.
+const WAITING: [u32; 4] = [0, 1, 16, 62];
 
 /// How many operations a semop has.
 const SEMOPS: [u32; 4] = [1, 2, 10, 500];
 
 /// How many clients wait on another set.
-const WAITING_BESIDE: [u32; 2] = [16, 63];
+const WAITING_BESIDE: [u32; 3] = [0, 16, 62];
 
 /// How many bytes a segment has.
 const SEGMENTS: [u32; 4] = [1, 64, 4_096, 65_536];
@@ -55,9 +62,11 @@ enum Operation {
     NextId,
     RemoveAndInsert,
     ApplyGet,
+    Ask(Asked),
     List,
     Pass(Way),
     ReceiveLast,
+    ReceiveAmong,
     WhileOthersWait,
     Operate(AtExit),
     OperateBesideWaiting,
@@ -70,16 +79,19 @@ enum Operation {
     OneOf,
 }
 
-const OPERATIONS: [Operation; 22] = [
+const OPERATIONS: [Operation; 25] = [
     Operation::Find,
     Operation::UnbindAndBind,
     Operation::Get,
     Operation::NextId,
     Operation::RemoveAndInsert,
     Operation::ApplyGet,
+    Operation::Ask(Asked::Status),
+    Operation::Ask(Asked::Denied),
     Operation::List,
     Operation::Pass(Way::Queue),
     Operation::ReceiveLast,
+    Operation::ReceiveAmong,
     Operation::Pass(Way::Receiver),
     Operation::WhileOthersWait,
     Operation::Operate(AtExit::Keeps),
@@ -115,9 +127,12 @@ impl Operation {
             Operation::NextId => &["Slots::next_id"],
             Operation::RemoveAndInsert => &["Slots::remove", "Slots::try_insert"],
             Operation::ApplyGet => &["Space::apply, msgget of a key"],
+            Operation::Ask(Asked::Status) => &["Space::apply, IPC_STAT"],
+            Operation::Ask(Asked::Denied) => &["Space::apply, a denied msgrcv"],
             Operation::List => &["Space::apply, a listing"],
             Operation::Pass(Way::Queue) => &["Space::apply, msgsnd and msgrcv"],
             Operation::ReceiveLast => &["Space::apply, msgrcv of the last"],
+            Operation::ReceiveAmong => &["Space::apply, msgrcv of any type"],
             Operation::Pass(Way::Receiver) => &["Space::apply, a waiting receiver"],
             Operation::WhileOthersWait => &["Space::apply, while others wait"],
             Operation::Operate(AtExit::Keeps) => &["Space::apply, semop"],
@@ -139,12 +154,14 @@ impl Operation {
         match self {
             Operation::Pass(_) => (&BYTES, "bytes"),
             Operation::ReceiveLast => (&MESSAGES, "messages"),
+            Operation::ReceiveAmong => (&TYPES, "types"),
             Operation::WhileOthersWait => (&WAITING, "waiting"),
             Operation::Operate(_) => (&SEMOPS, "operations"),
             Operation::OperateBesideWaiting => (&WAITING_BESIDE, "waiting"),
             Operation::Copy | Operation::Reach(_) => (&SEGMENTS, "bytes"),
             Operation::AttachAndDetach => (&ATTACHMENTS, "attached"),
             Operation::Readings | Operation::EachStep | Operation::Alone => (&ONE, "clients"),
+            Operation::Ask(_) => (&ONE, "queues"),
             Operation::OneOf => (&CLIENTS, "clients"),
             _ => (&OBJECTS, "objects"),
         }
@@ -159,9 +176,11 @@ impl Operation {
             Operation::NextId => alone(rt, slots::next_id(rt, size, calls)?),
             Operation::RemoveAndInsert => listed(rt, &slots::remove_and_insert(rt, size, calls)?),
             Operation::ApplyGet => alone(rt, spaces::get_of_a_key(rt, size, calls)?),
+            Operation::Ask(asked) => alone(rt, asked.ask(rt, calls)?),
             Operation::List => alone(rt, spaces::list(rt, size, calls)?),
             Operation::Pass(way) => alone(rt, messages::pass(rt, way, size, calls)?),
             Operation::ReceiveLast => alone(rt, messages::receive_last(rt, size, calls)?),
+            Operation::ReceiveAmong => alone(rt, messages::receive_among(rt, size, calls)?),
             Operation::WhileOthersWait => alone(rt, messages::while_others_wait(rt, size, calls)?),
             Operation::Operate(at_exit) => alone(rt, semops::operate(rt, at_exit, size, calls)?),
             Operation::OperateBesideWaiting => alone(rt, semops::beside_waiting(rt, size, calls)?),
@@ -232,23 +251,95 @@ fn print_row(
     println!(rt; "{name}, {size} {unit}: {}", run.sum)
 }
 
-/// The number of calls that the program's word asks for.
-fn calls_asked(rt: &HostRuntime) -> io::Result<u32> {
-    let mut words = env::args(rt)?.skip(1);
-    match words.next() {
-        None => Ok(CALLS),
-        Some(word) => match word.as_str().parse::<u32>() {
-            Ok(calls) => Ok(calls),
-            Err(_) => Err(io::Error::from(io::ErrorKind::InvalidInput)),
-        },
+/// What the program's arguments ask for.
+#[derive(Clone, Copy, Debug)]
+enum Request {
+    /// The table of all measurements, each of so many calls.
+    Table {
+        calls: u32,
+    },
+    /// The list of the measurements.
+    Names,
+    /// One measurement, made once.
+    One {
+        calls: u32,
+        number: usize,
+        size: u32,
+    },
+}
+
+/// A number that stands as an argument.
+fn number_in(word: Option<&String>) -> io::Result<u32> {
+    match word.and_then(|word| word.as_str().parse::<u32>().ok()) {
+        Some(number) => Ok(number),
+        None => Err(io::Error::from(io::ErrorKind::InvalidInput)),
+    }
+}
+
+/// What the arguments ask for, without the program's own name.
+fn request_of(words: &[String]) -> io::Result<Request> {
+    if words.is_empty() {
+        return Ok(Request::Table { calls: CALLS });
+    }
+    if words.len() == 1 && words[0].as_str() == "names" {
+        return Ok(Request::Names);
+    }
+    let calls = number_in(words.get(0))?;
+    if words.len() == 1 {
+        return Ok(Request::Table { calls });
+    }
+    Ok(Request::One {
+        calls,
+        number: number_in(words.get(1))? as usize,
+        size: number_in(words.get(2))?,
+    })
+}
+
+/// The table of all measurements.
+fn print_table(rt: &HostRuntime, calls: u32) -> io::Result<()> {
+    eprintln!(rt; "operation                             size            ns a call      ratio")?;
+    for operation in OPERATIONS {
+        print_rows(rt, operation, calls)?;
+    }
+    Ok(())
+}
+
+/// The list of the measurements.
+fn print_names(rt: &HostRuntime) -> io::Result<()> {
+    for (number, operation) in OPERATIONS.iter().enumerate() {
+        let (sizes, unit) = operation.sizes();
+        let names = operation.names();
+        for size in sizes {
+            println!(rt;
+                "{number} {size} {unit} {}",
+                names.first().copied().unwrap_or("")
+            )?;
+        }
+    }
+    Ok(())
+}
+
+/// Makes one measurement once.
+fn measure_one(rt: &HostRuntime, number: usize, size: u32, calls: u32) -> io::Result<()> {
+    match OPERATIONS.get(number) {
+        Some(operation) => {
+            operation.run(rt, size, calls)?;
+            Ok(())
+        }
+        None => Err(io::Error::from(io::ErrorKind::InvalidInput)),
     }
 }
 
 fn main(rt: HostRuntime) -> io::Result<ExitCode> {
-    let calls = calls_asked(&rt)?;
-    eprintln!(rt; "operation                             size            ns a call      ratio")?;
-    for operation in OPERATIONS {
-        print_rows(&rt, operation, calls)?;
+    let words: Vec<String> = env::args(&rt)?.skip(1).collect(rt.alloc())?;
+    match request_of(words.as_slice())? {
+        Request::Table { calls } => print_table(&rt, calls)?,
+        Request::Names => print_names(&rt)?,
+        Request::One {
+            calls,
+            number,
+            size,
+        } => measure_one(&rt, number, size, calls)?,
     }
     Ok(ExitCode::SUCCESS)
 }
