@@ -1,5 +1,5 @@
 -- The calls that wait, as one list of clients with their calls, in order of arrival. The list is the project's own.
-use Rattle.std.specs.Prelude.{◌≡◌, ℕ, ◌==◌, ◌&&◌, ◌⊎◌, Bool, true, false, not, nat_lt, List, [], ◌∷◌, map, filter, Option, Some, None}
+use Rattle.std.specs.Prelude.{◌≡◌, ℕ, ◌==◌, ◌&&◌, ◌⊎◌, ◌<◌, Bool, true, false, not, nat_lt, List, [], ◌∷◌, length, map, filter, Option, Some, None, slice_index_or}
 use Rattle.std.specs.List.{find, list_any, AllByRecursion}
 use Rattle.std.specs.Option.{option_map, unwrap_or}
 use Rattle.std.specs.Borrow.{Bor}
@@ -21,6 +21,10 @@ waiting es = map entry_of es
 -- a call of the client waits
 abbrev pub is_there : ℕ → List (ℕ × Arrival) → Bool
 is_there client es = list_any (λ e. e.0 == client) es
+
+-- each client that has a mark is marked by whether a call of it waits
+abbrev pub AreMarks : List Bool → List (ℕ × Arrival) → Type 0
+AreMarks marks es = (client : ℕ) → client < length marks → slice_index_or marks client false ≡ is_there client es
 
 -- the call of the client, with its place
 abbrev pub arrival_of : ℕ → List (ℕ × Arrival) → Option Arrival

@@ -2,6 +2,7 @@
 //! memory.
 #![tactic(auto)]
 
+mod marks;
 mod parked;
 mod touched;
 mod waits;

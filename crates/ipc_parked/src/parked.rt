@@ -24,6 +24,7 @@ ghost use Rattle.ipc_parked.specs.Parked.{
 };
 ghost use Rattle.ipc_parked.specs.Waits.{clients_at, without_first};
 
+use crate::marks::Marks;
 use crate::waits::Waits;
 use indexmap::IndexMap;
 use ipc_call::{Call, Kind, Memory};
@@ -47,6 +48,8 @@ pub struct Arrival {
 #[derive(Debug, Drop)]
 pub struct Parked {
     arrivals: IndexMap<u32, Arrival>,
+    /// Of which clients a call waits, for most of those that ask.
+    marks: Marks,
     /// No deadline is before this one. None where no call has a deadline.
     soonest: Option<u64>,
     /// The clients whose calls wait on queues, by queue.
@@ -59,13 +62,13 @@ impl Model for Parked {
     ghost use Rattle.std.specs.Prelude.{ℕ, List};
     ghost use Rattle.ipc_parked.specs.declared.parked.Arrival.{Arrival};
     ghost use Rattle.ipc_call.specs.declared.calls.Kind.TheVariants.{Queue, Sems};
-    ghost use Rattle.ipc_parked.specs.Parked.{AreDistinct, IsIndex, NoneBefore};
+    ghost use Rattle.ipc_parked.specs.Parked.{AreDistinct, AreMarks, IsIndex, NoneBefore};
 
     ghost Value = { List (ℕ × Arrival) };
 
     ghost view = { λ p. p.arrivals.entries };
 
-    ghost invariant = { λ p. AreDistinct p.arrivals.entries × NoneBefore p.soonest p.arrivals.entries × IsIndex Queue p.queues.rows p.arrivals.entries × IsIndex Sems p.sets.rows p.arrivals.entries };
+    ghost invariant = { λ p. AreDistinct p.arrivals.entries × NoneBefore p.soonest p.arrivals.entries × IsIndex Queue p.queues.rows p.arrivals.entries × IsIndex Sems p.sets.rows p.arrivals.entries × AreMarks p.marks p.arrivals.entries };
 }
 
 impl Parked {
@@ -75,6 +78,7 @@ impl Parked {
     {
         Parked {
             arrivals: IndexMap::new(alloc),
+            marks: Marks::none(),
             soonest: None,
             queues: Waits::new(alloc),
             sets: Waits::new(alloc),
@@ -105,6 +109,7 @@ impl Parked {
             },
         )?;
         add_row(&mut self.queues, &mut self.sets, at, client);
+        self.marks.set(client, true);
         self.soonest = sooner(self.soonest, deadline);
         Ok(())
     }
@@ -116,11 +121,15 @@ impl Parked {
         self.arrivals.len()
     }
 
-    /// Whether a call of the client waits. Takes no memory.
+    /// Whether a call of the client waits. Of the clients below 64 this is known without a look-up. Takes no memory.
+    #[inline]
     pub fn is_waiting(&self, client: u32) -> bool
         ensures { result ≡ is_there client self.now }
     {
-        self.arrivals.contains_key(&client)
+        match self.marks.get(client) {
+            Some(waits) => waits,
+            None => self.arrivals.contains_key(&client),
+        }
     }
 
     /// The place of the event that brought the client's call, which waits. Takes no memory.
@@ -222,6 +231,7 @@ impl Parked {
         let arrival = self.arrivals.shift_remove(&client).unwrap();
         let at = waits_at(&arrival.call);
         remove_row(&mut self.queues, &mut self.sets, at, client);
+        self.marks.set(client, false);
         if arrival.deadline.is_some() {
             self.soonest = soonest_of(&self.arrivals);
         }

@@ -1,10 +1,11 @@
-use Rattle.std.proofs.Common.{ap, subst, sym, ◌∙◌, ◌≡◌, ℕ, List, Option, Some}
+use Rattle.std.proofs.Common.{ap, set, subst, sym, ◌∙◌, ◌≡◌, ℕ, Bool, false, List, Option, Some}
 use Rattle.std.specs.Option.{option_map, is_some}
 use Rattle.ipc_call.specs.declared.calls.Call.{Call}
 use Rattle.ipc_call.specs.declared.calls.Kind.TheVariants as kinds
 use Rattle.ipc_parked.specs.declared.parked.Arrival.{Arrival}
-use Rattle.ipc_parked.specs.Parked.{is_there, arrival_of, others, AreDistinct, IsIndex, NoneBefore}
+use Rattle.ipc_parked.specs.Parked.{is_there, arrival_of, others, AreDistinct, AreMarks, IsIndex, NoneBefore}
 use Rattle.ipc_parked.proofs.Clients.{lookup_there, lookup_arrival, removed_others, AreDistinct-others}
+use Rattle.ipc_parked.proofs.Marking.{marks-others}
 use Rattle.ipc_parked.proofs.Objects.{index-others}
 use Rattle.ipc_parked.proofs.Sooner.{none-before-others}
 use Rattle.ipc_parked.proofs.parked.Parked.finish.Goals as goal
@@ -31,6 +32,9 @@ found c =
 called : (c : After-unwrap-arrival) → option_map (λ a. a.call) (arrival_of c.args.client c.args.self.now) ≡ Some c.unwrap-arrival.result.call
 called c = subst (λ (es : List (ℕ × Arrival)). option_map (λ a. a.call) (arrival_of c.args.client es) ≡ Some c.unwrap-arrival.result.call) c.self.view_is (found c)
 
+marks : (c : After-unwrap-arrival) → AreMarks (set c.self.inside.marks c.args.client false) c.shift_remove.new.self.entries
+marks c = subst (λ (es : List (ℕ × Arrival)). AreMarks (set c.self.inside.marks c.args.client false) es) (sym (left c)) (marks-others c.self.inside.marks c.args.client c.self.inside.arrivals.entries c.self.invariant.4)
+
 rest : (c : After-unwrap-arrival) → c.shift_remove.new.self.entries ≡ others c.args.client c.args.self.now
 rest c = left c ∙ ap (λ (es : List (ℕ × Arrival)). others c.args.client es) c.self.view_is
 
@@ -43,6 +47,7 @@ invariant_of-self c =
           (index-others kinds.Queue c.self.inside.queues.rows c.remove_row.new.queues.rows c.waits_at-at.result c.args.client c.unwrap-arrival.result.call c.self.inside.arrivals.entries c.self.invariant.0 (found b) c.self.invariant.2 c.waits_at-at.ensures c.remove_row.ensures.queues),
       subst (λ (es : List (ℕ × Arrival)). IsIndex kinds.Sems c.remove_row.new.sets.rows es) (sym (left b))
           (index-others kinds.Sems c.self.inside.sets.rows c.remove_row.new.sets.rows c.waits_at-at.result c.args.client c.unwrap-arrival.result.call c.self.inside.arrivals.entries c.self.invariant.0 (found b) c.self.invariant.3 c.waits_at-at.ensures c.remove_row.ensures.sets),
+      subst (λ (marks : List Bool). AreMarks marks c.shift_remove.new.self.entries) (sym c.set.ensures) (marks b),
     )
 
 pub invariant_of-self-else-is_some : goal.invariant_of-self-else-is_some
@@ -54,6 +59,7 @@ invariant_of-self-else-is_some c =
           (index-others kinds.Queue c.self.inside.queues.rows c.remove_row.new.queues.rows c.waits_at-at.result c.args.client c.unwrap-arrival.result.call c.self.inside.arrivals.entries c.self.invariant.0 (found b) c.self.invariant.2 c.waits_at-at.ensures c.remove_row.ensures.queues),
       subst (λ (es : List (ℕ × Arrival)). IsIndex kinds.Sems c.remove_row.new.sets.rows es) (sym (left b))
           (index-others kinds.Sems c.self.inside.sets.rows c.remove_row.new.sets.rows c.waits_at-at.result c.args.client c.unwrap-arrival.result.call c.self.inside.arrivals.entries c.self.invariant.0 (found b) c.self.invariant.3 c.waits_at-at.ensures c.remove_row.ensures.sets),
+      subst (λ (marks : List Bool). AreMarks marks c.shift_remove.new.self.entries) (sym c.set.ensures) (marks b),
     )
 
 pub returns-then-is_some-clause-call : goal.returns-then-is_some-clause-call

@@ -1,5 +1,6 @@
 use Rattle.ipc_call.specs.declared.calls.Kind.TheVariants as kinds
 use Rattle.ipc_parked.proofs.Clients.{AreDistinct-none}
+use Rattle.ipc_parked.proofs.Marking.{marks-none}
 use Rattle.ipc_parked.proofs.Objects.{index-none}
 use Rattle.ipc_parked.proofs.Sooner.{none-before-nil}
 use Rattle.ipc_parked.proofs.parked.Parked.new.Goals as goal
@@ -10,4 +11,5 @@ invariant_of-result c = (
   none-before-nil _ _ c.new.ensures.empty,
   index-none kinds.Queue _ _ c.new-2.ensures c.new.ensures.empty,
   index-none kinds.Sems _ _ c.new-3.ensures c.new.ensures.empty,
+  marks-none _ _ c.none.ensures c.new.ensures.empty,
 )

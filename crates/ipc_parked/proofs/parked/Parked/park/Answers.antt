@@ -1,9 +1,10 @@
-use Rattle.std.proofs.Common.{ap, subst, sym, ◌∙◌, ℕ, eqb, List, [], ◌∷◌, ◌++◌, ◌≡◌}
+use Rattle.std.proofs.Common.{ap, set, subst, sym, ◌∙◌, ℕ, Bool, eqb, true, List, [], ◌∷◌, ◌++◌, ◌≡◌}
 use Rattle.indexmap.proofs.CallerLemmas.{insert_entry-new}
 use Rattle.ipc_call.specs.declared.calls.Kind.TheVariants as kinds
 use Rattle.ipc_parked.specs.declared.parked.Arrival.{Arrival}
-use Rattle.ipc_parked.specs.Parked.{is_there, AreDistinct, IsIndex, NoneBefore}
+use Rattle.ipc_parked.specs.Parked.{is_there, AreDistinct, AreMarks, IsIndex, NoneBefore}
 use Rattle.ipc_parked.proofs.Clients.{lookup_free, AreDistinct-push}
+use Rattle.ipc_parked.proofs.Marking.{marks-push}
 use Rattle.ipc_parked.proofs.Objects.{index-push}
 use Rattle.ipc_parked.proofs.Sooner.{none-before, none-before-push}
 use Rattle.ipc_parked.proofs.parked.Parked.park.Goals as goal
@@ -30,6 +31,8 @@ invariant_of-self-2 c =
           (index-push kinds.Queue c.self.inside.queues.rows c.reserve_row.new.queues.rows c.add_row.new.queues.rows c.waits_at-at.result before came c.self.invariant.2 c.reserve_row.ensures.queues c.waits_at-at.ensures c.add_row.ensures.queues),
       subst (λ (es : List (ℕ × Arrival)). IsIndex kinds.Sems c.add_row.new.sets.rows es) (sym (entries b))
           (index-push kinds.Sems c.self.inside.sets.rows c.reserve_row.new.sets.rows c.add_row.new.sets.rows c.waits_at-at.result before came c.self.invariant.3 c.reserve_row.ensures.sets c.waits_at-at.ensures c.add_row.ensures.sets),
+      subst (λ (marks : List Bool). AreMarks marks c.insert.new.self.entries) (sym c.set.ensures)
+          (subst (λ (es : List (ℕ × Arrival)). AreMarks (set c.self.inside.marks c.args.client true) es) (sym (entries b)) (marks-push c.self.inside.marks before came c.self.invariant.4)),
     )
 
 pub returns-clause-ok : goal.returns-clause-ok
