@@ -25,13 +25,13 @@ is_serve (decisions.Refuse rule) = false
 is_serve decisions.Wait = false
 is_serve (decisions.Grant answer new) = true
 
-abbrev refusal : {X : Type 0} → Decision X → Option Rule
+abbrev pub refusal : {X : Type 0} → Decision X → Option Rule
 refusal (decisions.Refuse rule) = Some rule
 refusal decisions.Wait = None
 refusal (decisions.Grant answer new) = None
 
 -- a rule that is no denial isn't the denial
-other-rule : (r rule : Rule) → IsPlain r → is_denial rule ≡ true → Some r ≡ Some rule → ⊥
+pub other-rule : (r rule : Rule) → IsPlain r → is_denial rule ≡ true → Some r ≡ Some rule → ⊥
 other-rule r rule plain denies same = subst (λ b. T (not b)) (ap is_denial (same_Some r rule same) ∙ denies) plain
 
 abbrev head_or : Check → List Check → Check
@@ -78,7 +78,7 @@ module _ {X : Type 0} (c : Credentials) where
   met-need need rest None same is met = (sym same, met is)
   met-need need rest (Some rule) same is met = absurd (true≢false (sym is))
 
-  met : (plan : Plan X) → is_serve (decision c plan) ≡ true → AreMet c (needs_in plan)
+  pub met : (plan : Plan X) → is_serve (decision c plan) ≡ true → AreMet c (needs_in plan)
   met (Passes true rule plain ⨾ rest) is = met rest is
   met (Passes false rule plain ⨾ rest) is = absurd (true≢false (sym is))
   met (Needs need ⨾ rest) is = met-need need rest (denial c need) refl is (met rest)
@@ -93,7 +93,7 @@ module _ {X : Type 0} (c : Credentials) where
   denied-need need rest rule None same is denied = later c (Needs need) (checks_in rest) rule (ap (λ o. is_none o) (sym same)) (denied is)
   denied-need need rest rule (Some r) same is denied = record { before = []; need = need; after = checks_in rest; split = refl; passed = tt; fails = sym same ∙ is }
 
-  denied : (plan : Plan X) (rule : Rule) → is_denial rule ≡ true → refusal (decision c plan) ≡ Some rule → IsDenied c (checks_in plan) rule
+  pub denied : (plan : Plan X) (rule : Rule) → is_denial rule ≡ true → refusal (decision c plan) ≡ Some rule → IsDenied c (checks_in plan) rule
   denied (Passes true r plain ⨾ rest) rule denies is = later c (Passes true r plain) (checks_in rest) rule refl (denied rest rule denies is)
   denied (Passes false r plain ⨾ rest) rule denies is = absurd (other-rule r rule plain denies is)
   denied (Needs need ⨾ rest) rule denies is = denied-need need rest rule (denial c need) refl is (denied rest rule denies)
@@ -122,12 +122,12 @@ module _ {X : Type 0} (c : Credentials) where
   decides Wait before after need rule split passed fails = absurd (ended before after (Needs need) split)
   decides (Grant answer new) before after need rule split passed fails = absurd (ended before after (Needs need) split)
 
-served : (d : Decision State) (answer : Answer) → outcome_of d ≡ Some (Ok answer) → is_serve d ≡ true
+pub served : (d : Decision State) (answer : Answer) → outcome_of d ≡ Some (Ok answer) → is_serve d ≡ true
 served (decisions.Refuse rule) answer is = absurd (true≢false (ap is_ok_own (sym is)))
 served decisions.Wait answer is = absurd (none-some (Ok answer) is)
 served (decisions.Grant other new) answer is = refl
 
-refused : (d : Decision State) (rule : Rule) → outcome_of d ≡ Some (Err rule) → refusal d ≡ Some rule
+pub refused : (d : Decision State) (rule : Rule) → outcome_of d ≡ Some (Err rule) → refusal d ≡ Some rule
 refused (decisions.Refuse other) rule is = ap rule_of_own is
 refused decisions.Wait rule is = absurd (none-some (Err rule) is)
 refused (decisions.Grant answer new) rule is = absurd (true≢false (ap is_ok_own is))

@@ -1,3 +1,4 @@
 pub mod Access
 pub mod Naming
+pub mod Rights
 pub mod Runs

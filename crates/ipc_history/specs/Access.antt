@@ -1,11 +1,14 @@
--- Who is granted, and who is denied.
-use Rattle.std.specs.Prelude.{◌≡◌, true, List, ◌∷◌, ◌++◌, Some, None}
+-- Who is granted, and who is denied: the caller of an event, and those whose wait it ends.
+use Rattle.std.specs.Prelude.{◌≡◌, true, List, ◌∷◌, ◌++◌, Some, None, Ok, Err}
 use Rattle.std.specs.List.{AllByRecursion}
+use Rattle.ipc_call.specs.declared.replies.Ended.{Ended}
+use Rattle.ipc_call.specs.declared.replies.Waiting.{Waiting}
 use Rattle.ipc_call.specs.declared.rules.Rule.{Rule}
 use Rattle.ipc_creds.specs.Credentials.{Credentials}
 use Rattle.ipc_perm.specs.Access.{Need, denial}
-use Rattle.ipc_model.specs.Plan.{Check, Needs, checks_in, does_pass}
-use Rattle.ipc_model.specs.State.{creds_at}
+use Rattle.ipc_model.specs.Decision.{Outcome}
+use Rattle.ipc_model.specs.Plan.{Check, Needs, checks_in, does_pass, is_denial}
+use Rattle.ipc_model.specs.State.{State, creds_at, waiting_of}
 use Rattle.ipc_model.specs.Decide.{needs, plan}
 use Rattle.ipc_model.specs.Step.{Event, begun}
 use Rattle.ipc_history.specs.History.{History, run}
@@ -32,3 +35,17 @@ needs_of h e = needs (begun (run h) e.now) e.client e.call
 
 abbrev pub checks_of : History → Event → List Check
 checks_of h e = checks_in (plan (begun (run h) e.now) e.client e.call)
+
+-- a waiting call ends by the rights of its client in this state: a granted one has every need met, and of one that is
+-- denied a need fails by the rule, and every check before it passes
+abbrev pub IsByRights : State → Waiting → Outcome → Type 0
+IsByRights s w (Ok answer) = AreMet (creds_at s w.client) (needs s w.client w.call)
+IsByRights s w (Err rule) =
+    is_denial rule ≡ true → IsDenied (creds_at s w.client) (checks_in (plan s w.client w.call)) rule
+
+-- a client whose wait ended between two states had a call that waited in the first, which ended by its rights in the
+-- second
+pub record EndedByRights (before after : State) (told : Ended) : Type 0 where
+  pub call : Waiting
+  pub waited : waiting_of before told.client ≡ Some call
+  pub by_rights : IsByRights after call told.outcome

@@ -7,3 +7,4 @@ pub mod Longest
 pub mod Once
 pub mod Permitted
 pub mod Quiet
+pub mod Waited

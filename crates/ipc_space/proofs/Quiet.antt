@@ -24,7 +24,7 @@ use Rattle.ipc_model.specs.Decide.{decide_call}
 abbrev pub IsQuiet : State → Type 0
 IsQuiet s = first_ready s ≡ None
 
-kept-ended_by : (s : State) (client : ℕ) (d : Decision State) → Keeps s d → (ended_by s client d).state.parked ≡ s.parked
+pub kept-ended_by : (s : State) (client : ℕ) (d : Decision State) → Keeps s d → (ended_by s client d).state.parked ≡ s.parked
 kept-ended_by s client (Refuse rule) keeps = refl
 kept-ended_by s client Wait keeps = refl
 kept-ended_by s client (Grant answer new) keeps = keeps.0

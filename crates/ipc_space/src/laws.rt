@@ -7,7 +7,7 @@ ghost use Rattle.ipc_call.specs.Limits.{are_in_range};
 ghost use Rattle.ipc_call.specs.declared.calls.Kind.{Kind as KindOf};
 ghost use Rattle.ipc_call.specs.declared.rules.Rule.{Rule as RuleOf};
 ghost use Rattle.ipc_call.specs.declared.replies.Answer.{Answer as AnswerOf};
-ghost use Rattle.ipc_history.specs.Access.{AreMet, IsDenied, caller_of, checks_of, needs_of};
+ghost use Rattle.ipc_history.specs.Access.{AreMet, EndedByRights, IsDenied, caller_of, checks_of, needs_of};
 ghost use Rattle.ipc_model.specs.Decide.{can_wait};
 ghost use Rattle.ipc_model.specs.Plan.{is_denial};
 ghost use Rattle.ipc_model.specs.Step.{Event, Stepped, at_time, begun, expire};
@@ -54,10 +54,12 @@ pub fn marked_segments_are_attached()
 {}
 
 /// A granted call's needs were met, and a denial is answered exactly where every check before it passed and its need
-/// failed.
+/// failed. So it is of a waiting call that an event ends, by the permissions and the credentials that the event leaves: its
+/// needs are met where it is granted, and where it is denied its need fails and every check before it passes.
 pub fn access()
     ensures granted { (h : History) (e : Event) (answer : AnswerOf) → IsLegal h → (next_step h e).own ≡ Some (Ok answer) → AreMet (caller_of h e) (needs_of h e) }
     ensures denied { (h : History) (e : Event) (rule : RuleOf) → IsLegal h → is_denial rule ≡ true → ((next_step h e).own ≡ Some (Err rule)) ↔ IsDenied (caller_of h e) (checks_of h e) rule }
+    ensures waited { (h : History) (e : Event) → IsLegal h → All (λ told. EndedByRights (run h) (next_step h e).state told) (next_step h e).ended }
 {}
 
 /// A client has as many calls as it has replies, and one more where its last call waits.
