@@ -87,8 +87,8 @@ module _ {g : Ghosts Shared Entry (ℕ × Call) Reply} (list : Records) (u w : J
     seen = did.1.4;
     heard = did.2.0;
     passed = did.2.1;
-    begun = let more = did.0.0 in omega arith;
-    met = λ r is. subst (IsOn r) (sym did.0.1) is;
+    begun = let more = did.0.begun in omega arith;
+    met = λ r is. subst (IsOn r) (sym did.0.met) is;
   }
   combined (Busy c) did = subst (λ z. IsFurther (work u) z) (sym did.2) (met_one (work u) c)
 

@@ -63,10 +63,11 @@ module _ {g : Ghosts Shared Entry (ℕ × Call) Reply} (list : Records) where
       ap (λ z. z.work.holds) t.5 ∙ is.1,
       (λ i. own (t.5 i).work.seen (same i)) ∙ (shows is.0).0 ∙ sym has_learnt.far.2,
       (λ i. replies (t.5 i).work.seen (same i)) ∙ (shows is.0).1 ∙ sym has_learnt.far.3,
+      has_learnt.is_legal,
     )
 
     pub asking_still : IsInFlight v → IsInFlight w
-    asking_still is = (ap (λ s. is_asking s) has_learnt.far.0 ∙ is.0, ap (λ z. z.work.holds) did.3.5 ∙ is.1)
+    asking_still is = (ap (λ s. is_asking s) has_learnt.far.0 ∙ is.0, ap (λ z. z.work.holds) did.3.5 ∙ is.1, has_learnt.is_legal)
 
   pub idle_as_was : (old new : Joined Shared Entry (ℕ × Call) Reply g) → IsIdle old → IsSame old new → view new ≡ view old → IsIdle new
   idle_as_was old new is same still = (
@@ -74,7 +75,8 @@ module _ {g : Ghosts Shared Entry (ℕ × Call) Reply} (list : Records) where
     ap (λ z. z.work.holds) still ∙ is.1,
     (λ i. own (still i).work.seen (same.0 i)) ∙ is.2 ∙ sym (ap (λ z. z.work.entered) still),
     (λ i. replies (still i).work.seen (same.0 i)) ∙ is.3 ∙ sym (ap (λ z. z.work.got) still),
+    subst (λ z. legal z.work.seen) (sym still) is.4,
   )
 
   pub asking_as_was : (old new : Joined Shared Entry (ℕ × Call) Reply g) → IsInFlight old → view new ≡ view old → IsInFlight new
-  asking_as_was old new is still = (ap (λ z. is_asking z.work.stage) still ∙ is.0, ap (λ z. z.work.holds) still ∙ is.1)
+  asking_as_was old new is still = (ap (λ z. is_asking z.work.stage) still ∙ is.0, ap (λ z. z.work.holds) still ∙ is.1, subst (λ z. legal z.work.seen) (sym still) is.2)

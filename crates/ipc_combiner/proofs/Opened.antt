@@ -1,7 +1,13 @@
 -- The clients of a service, by their records.
-use Rattle.std.proofs.Common.{◌≡◌, ℕ, zero, suc, List, [], ◌∷◌, ◌++◌, map, refl, ap, IfSome, All}
+use Rattle.std.proofs.Common.{◌≡◌, ℕ, zero, suc, List, [], ◌∷◌, ◌++◌, map, refl, sym, ap, subst, IfSome, All}
 use Rattle.std.specs.List.{slice_get}
 use Rattle.std.proofs.lemmas.List.Elements.{All-nil, All-cons, All-head, All-tail}
+use Rattle.ipc_model.specs.State.{opening}
+use Rattle.ipc_model.specs.Step.{Event}
+use Rattle.ipc_history.specs.History.{AreLegalFrom}
+use Rattle.ipc_combiner.specs.Entries.{entries_of, legal}
+use Rattle.ipc_combiner.specs.Laws.{is_legal}
+use Rattle.ipc_combiner.specs.States.{IsOpened, Records, opened}
 
 module _ {X Y : Type 0} (f : X → Y) where
   -- one more is mapped
@@ -17,3 +23,8 @@ module _ {X Y : Type 0} (f : X → Y) where
   pub all_of : (P : Y → Type 0) (xs : List X) → All P (map f xs) → All (λ x. P (f x)) xs
   all_of P [] h = All-nil (λ x. P (f x))
   all_of P (x ∷ xs) h = All-cons (λ x. P (f x)) x xs (All-head P (f x) (map f xs) h) (all_of P xs (All-tail P (f x) (map f xs) h))
+
+-- a history to which nobody has called is legal
+pub opening_is_legal : (list : Records) → IsOpened list → legal (entries_of (opened list))
+opening_is_legal list is = let h = opened list in
+    is_legal h (subst (λ (es : List Event). AreLegalFrom (opening h.limits h.clients) es) (sym is.1) tt)

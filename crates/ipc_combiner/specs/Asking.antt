@@ -13,7 +13,7 @@ use Rattle.pub_list.specs.declared.joined.Joined.{Joined}
 use Rattle.pub_list.specs.declared.records.WordState.{WordState}
 use Rattle.pub_list.specs.declared.records.WordState.TheVariants as words
 use Rattle.pub_list.specs.Clients.{view, work, told}
-use Rattle.pub_list.specs.Passing.{HasPassed, IsAsFar, KeepsMarks}
+use Rattle.pub_list.specs.Passing.{HasPassed, HasToldGate, IsAsFar, KeepsMarks}
 use Rattle.pub_list.specs.Records.{number_of, Shows}
 use Rattle.ipc_combiner.specs.declared.entries.Entry.{Entry}
 use Rattle.ipc_combiner.specs.declared.shared.Shared.{Shared}
@@ -71,11 +71,11 @@ module _ {g : Ghosts Shared Entry (ℕ × Call) Reply} where
   IsPolled list v (Still flight seen) = IsOf list flight.joined × (flight.joined.client ≡ v.client)
       × IsStill v.client (work v) (work flight.joined) seen
 
-  -- It passed: it dealt with each post that it had heard of, and with its own call, and sees a legal history. Or
-  -- another client combined, and nothing else has changed
+  -- It passed: it visited each record on the list once, so dealt with each post that it had heard of and with its own
+  -- call, and sees a legal history. Or another client combined, and nothing else has changed
   abbrev pub HasCombined : Records → Joined Shared Entry (ℕ × Call) Reply g → Joined Shared Entry (ℕ × Call) Reply g
       → Pass → Type 0
-  HasCombined list v w Passed = HasPassed v.client (view v) (view w) × IsAsFar (view v) (view w)
+  HasCombined list v w Passed = HasPassed list.clients v.client (view v) (view w) × IsAsFar (view v) (view w)
       × KeepsMarks (view v) (view w) × (told w ≡ told v) × legal (work w).seen
   HasCombined list v w (Busy c) = (c < list.clients) × (c ≢ v.client) × (work w ≡ meeting c (work v))
       × (told w ≡ told v)
@@ -84,3 +84,8 @@ module _ {g : Ghosts Shared Entry (ℕ × Call) Reply} where
   abbrev pub HasTried : Records → Joined Shared Entry (ℕ × Call) Reply g → Joined Shared Entry (ℕ × Call) Reply g → Pass
       → Type 0
   HasTried list v w pass = IsOf list w × (w.client ≡ v.client) × HasCombined list v w pass
+
+  -- where it passed, it told the gate of each record on the list but the last
+  abbrev pub GateIsTold : (ℕ → ℕ → Type 0) → Records → Joined Shared Entry (ℕ × Call) Reply g → Pass → Type 0
+  GateIsTold was_told list w Passed = HasToldGate was_told list.clients (view w)
+  GateIsTold was_told list w (Busy c) = Unit {0}

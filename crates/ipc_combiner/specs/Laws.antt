@@ -3,8 +3,11 @@ use Rattle.std.proofs.Common.{◌≡◌, ◌≢◌, ◌⊎◌, ℕ, ◌+◌, ◌
 use Rattle.std.proofs.Common.{refl, sym, ap, ◌∙◌, subst, inl, inr, arith, append-nil, eq-eqb, ne_eqb, ⊎_elim}
 use Rattle.std.specs.Prelude.{◌==◌}
 use Rattle.ipc_call.specs.declared.replies.Reply.{Reply}
-use Rattle.ipc_model.specs.Step.{Event}
-use Rattle.ipc_history.specs.History.{History, IsLegal, with_event}
+use Rattle.std.proofs.Props.{props}
+use Rattle.std.specs.Coded.{×_prop, Unit-prop}
+use Rattle.ipc_model.specs.State.{State, opening}
+use Rattle.ipc_model.specs.Step.{Event, step}
+use Rattle.ipc_history.specs.History.{AreLegalFrom, History, IsLegal, IsLegalAt, with_event}
 use Rattle.ipc_history.specs.History as model
 use Rattle.ipc_space.specs.Telling.{told_of, replies_in}
 use Rattle.ipc_space.proofs.Balance.{own_push, replies_push, told_once, no_more_replies}
@@ -125,3 +128,14 @@ pub stays : (n : ℕ) (h k : List Entry) → GoesOn h k → has_clients n h → 
 stays n [] k more is = absurd is
 stays n (Opened limits clients ∷ es) k more is = subst (has_clients n) (sym more.1) is
 stays n (Called client now call ∷ es) k more is = absurd is
+
+-- that a history is legal can't be so in two ways
+IsLegalAt-prop : (s : State) (e : Event) → IsProp (IsLegalAt s e)
+IsLegalAt-prop s e = hlevel props
+
+AreLegal-prop : (s : State) (es : List Event) → IsProp (AreLegalFrom s es)
+AreLegal-prop s [] = Unit-prop
+AreLegal-prop s (e ∷ es) = ×_prop (IsLegalAt-prop s e) (AreLegal-prop (step s e).state es)
+
+pub IsLegal-prop : (h : History) → IsProp (IsLegal h)
+IsLegal-prop h = AreLegal-prop (opening h.limits h.clients) h.events

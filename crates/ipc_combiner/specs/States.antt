@@ -14,7 +14,7 @@ use Rattle.pub_list.specs.Opening.{opening_of}
 use Rattle.ipc_history.specs.History.{History}
 use Rattle.ipc_combiner.specs.declared.entries.Entry.{Entry}
 use Rattle.ipc_combiner.specs.declared.shared.Shared.{Shared}
-use Rattle.ipc_combiner.specs.Entries.{entries_of, own, replies}
+use Rattle.ipc_combiner.specs.Entries.{entries_of, legal, own, replies}
 
 -- the list of a service
 abbrev pub Records : Type 0
@@ -34,15 +34,16 @@ is_asking (Asking client call) = true
 is_asking _ = false
 
 module _ {g : Ghosts Shared Entry (ℕ × Call) Reply} where
-  -- it asks nothing and doesn't combine, and the history that it sees has just the calls that it entered and the
-  -- replies that it got
+  -- it asks nothing and doesn't combine, and the history that it sees is legal, and has just the calls that it entered
+  -- and the replies that it got
   abbrev pub IsIdle : Joined Shared Entry (ℕ × Call) Reply g → Type 0
   IsIdle j = ((work j).stage ≡ Free j.client) × ((work j).holds ≡ false)
       × (own (work j).seen j.client ≡ (work j).entered) × (replies (work j).seen j.client ≡ (work j).got)
+      × legal (work j).seen
 
-  -- its call is in flight, and it doesn't combine
+  -- its call is in flight, and it doesn't combine, and the history that it sees is legal
   abbrev pub IsInFlight : Joined Shared Entry (ℕ × Call) Reply g → Type 0
-  IsInFlight j = (is_asking (work j).stage ≡ true) × ((work j).holds ≡ false)
+  IsInFlight j = (is_asking (work j).stage ≡ true) × ((work j).holds ≡ false) × legal (work j).seen
 
   -- it is a client of this service, and sees a history that goes on from its opening
   abbrev pub IsOf : Records → Joined Shared Entry (ℕ × Call) Reply g → Type 0

@@ -4,7 +4,7 @@ ghost use Rattle.pub_rule.specs.declared.work.Stage.TheVariants.{Free};
 ghost use Rattle.pub_rule.specs.WorkSteps.{asking};
 ghost use Rattle.pub_rule.specs.WorkSplits.{starting};
 ghost use Rattle.pub_list.specs.Clients.{first_seen, tries, work};
-ghost use Rattle.ipc_combiner.specs.Asking.{IsPolled, HasTried};
+ghost use Rattle.ipc_combiner.specs.Asking.{IsPolled, GateIsTold, HasTried};
 ghost use Rattle.ipc_combiner.specs.States.{IsOf, IsUnjoinedOf};
 
 use crate::states::{Idle, InFlight, Service, Unjoined};
@@ -86,10 +86,11 @@ impl Idle {
         self.combine_with(service, &OpenGate)
     }
 
-    /// The same, with a gate between two records.
+    /// The same, and calls this gate between two records.
     pub fn combine_with<G: PassGate>(&mut self, service: &Service, gate: &G) -> Pass
         requires { IsOf service.now.list self.old.joined }
-        ensures { HasTried service.now.list self.old.joined self.new.joined result }
+        ensures tried { HasTried service.now.list self.old.joined self.new.joined result }
+        ensures gate { GateIsTold (G.was_told gate.now) service.now.list self.new.joined result }
     {
         let own = self.joined.client();
         match self.joined.combine_with(&service.list, gate) {
@@ -133,10 +134,11 @@ impl InFlight {
         self.combine_with(service, &OpenGate)
     }
 
-    /// The same, with a gate between two records.
+    /// The same, and calls this gate between two records.
     pub fn combine_with<G: PassGate>(&mut self, service: &Service, gate: &G) -> Pass
         requires { IsOf service.now.list self.old.joined }
-        ensures { HasTried service.now.list self.old.joined self.new.joined result }
+        ensures tried { HasTried service.now.list self.old.joined self.new.joined result }
+        ensures gate { GateIsTold (G.was_told gate.now) service.now.list self.new.joined result }
     {
         match self.joined.combine_with(&service.list, gate) {
             Ok(()) => Pass::Passed,

@@ -1,5 +1,7 @@
 //! The service, and what a client of it is: it hasn't joined, asks nothing, or has a call in flight.
 ghost use Rattle.std.specs.Prelude.{◌≡◌};
+ghost use Rattle.std.proofs.Props.{props};
+ghost use Rattle.ipc_combiner.specs.Laws.{IsLegal-prop};
 ghost use Rattle.ipc_combiner.specs.States.{IsIdle, IsInFlight, IsOpened};
 
 use crate::shared::Shared;
@@ -22,12 +24,12 @@ pub struct Unjoined {
 #[derive(Drop)]
 pub struct Idle {
     pub(crate) joined: Joined<Shared>,
-    ghost own: { IsIdle joined },
+    ghost own: { IsIdle joined } by { Prim.hlevel (props, IsLegal-prop) },
 }
 
 /// A client with a call in flight.
 #[derive(Drop)]
 pub struct InFlight {
     pub(crate) joined: Joined<Shared>,
-    ghost own: { IsInFlight joined },
+    ghost own: { IsInFlight joined } by { Prim.hlevel (props, IsLegal-prop) },
 }

@@ -1,6 +1,6 @@
 -- What a pass deals with.
-use Rattle.std.proofs.Common.{◌≡◌, ◌⊎◌, ℕ, Bool, true, false, List, [], ◌∷◌, ◌++◌, cond, eqb, if◌then◌else◌, ⊎_elim, sym, refl, ap, ◌∙◌, subst, inl, inr, eq-eqb}
-use Rattle.std.proofs.lemmas.Bool.{eqb-true, true≢false, cases_Bool}
+use Rattle.std.proofs.Common.{◌≡◌, ◌⊎◌, ℕ, ◌+◌, ◌<◌, ◌≤◌, Bool, true, false, List, [], ◌∷◌, ◌++◌, cond, eqb, if◌then◌else◌, ⊎_elim, sym, refl, ap, ◌∙◌, subst, inl, inr, arith, eq-eqb}
+use Rattle.std.proofs.lemmas.Bool.{eqb-true, true≢false, cases_Bool, cases_lt}
 use Rattle.std.specs.Prelude.{◌==◌, ◌||◌}
 use Rattle.pub_rule.specs.declared.walk.View.{View}
 use Rattle.pub_rule.specs.declared.work.Work.{Work}
@@ -8,7 +8,7 @@ use Rattle.pub_rule.specs.Lists.{IsOn}
 use Rattle.pub_rule.specs.Work.{GoesOn, IsMarked}
 use Rattle.pub_rule.specs.WorkSteps.{marks_of, is_own}
 use Rattle.pub_list.specs.Joined.{is_on}
-use Rattle.pub_list.specs.Passing.{HasDealt, KeepsMarks}
+use Rattle.pub_list.specs.Passing.{HasDealt, KeepsMarks, passed_by}
 
 -- who is on a list
 pub on_by : (c : ℕ) (l : List ℕ) → is_on c l ≡ true → IsOn c l
@@ -47,21 +47,44 @@ stays_past : (b past : Bool) → past ≡ true → (if b then true else past) �
 stays_past true past e = refl
 stays_past false past e = e
 
+-- after the visits
+kept_by : (r k : ℕ) (visits : List ℕ) (heard passed : List (ℕ × ℕ)) → IsMarked r k passed → IsMarked r k (passed_by visits heard passed)
+kept_by r k [] heard passed m = m
+kept_by r k (c ∷ cs) heard passed m = kept_by r k cs heard (marks_of c heard ++ passed) (marked_behind r k (marks_of c heard) passed m)
+
+pub marked_by : (r k : ℕ) (visits : List ℕ) (heard passed : List (ℕ × ℕ)) → IsOn r visits → IsMarked r k heard → IsMarked r k (passed_by visits heard passed)
+marked_by r k [] heard passed on m = absurd on
+marked_by r k (c ∷ cs) heard passed on m = ⊎_elim
+    (λ (here : r ≡ c). kept_by r k cs heard (marks_of c heard ++ passed) (subst (λ q. IsMarked r k (marks_of q heard ++ passed)) here (marked_on r k heard passed m)))
+    (λ (there : IsOn r cs). marked_by r k cs heard (marks_of c heard ++ passed) there m)
+    on
+
+-- after one visit more
+pub passed_last : (x : ℕ) (visits : List ℕ) (heard passed : List (ℕ × ℕ)) → passed_by (visits ++ x ∷ []) heard passed ≡ marks_of x heard ++ passed_by visits heard passed
+passed_last x [] heard passed = refl
+passed_last x (c ∷ cs) heard passed = passed_last x cs heard (marks_of c heard ++ passed)
+
+-- one call of the gate more, or none before the first record
+pub told_more : (was_told : ℕ → ℕ → Type 0) (n visited : ℕ) → ((k : ℕ) → 1 ≤ k → k < visited → was_told k n) → (1 ≤ visited → was_told visited n)
+    → (k : ℕ) → 1 ≤ k → k < visited + 1 → was_told k n
+told_more was_told n visited before now k least below = ⊎_elim
+    (λ (less : k < visited). before k least less)
+    (λ (more : visited ≤ k). let same : visited ≡ k = omega arith in subst (λ j. was_told j n) same (now (omega arith)))
+    (cases_lt k visited)
+
 module _ {E C R : Type 0} where
-  -- a combiner that knew v, and of the clients met so far, knows now what it has to
-  abbrev pub HasPassedOn : List ℕ → View (Work E C R) → View (Work E C R) → Type 0
-  HasPassedOn met v w = (r k : ℕ) → IsOn r met → IsMarked r k v.work.heard → IsMarked r k w.work.passed
+  -- what a combiner that knew v, and visited these clients so far, knows now to be passed
+  abbrev pub HasVisited : List ℕ → View (Work E C R) → View (Work E C R) → Type 0
+  HasVisited visits v w = w.work.passed ≡ passed_by visits v.work.heard v.work.passed
 
   abbrev pub HasServed : ℕ → View (Work E C R) → List ℕ → View (Work E C R) → Type 0
   HasServed client v met w = IsOn client met → is_own client v.work.stage ≡ true → w.work.past ≡ true
 
   -- after one record more
   module _ (x : ℕ) (met : List ℕ) (v u w : View (Work E C R)) (did : HasDealt x u w) where
-    pub passed_more : HasPassedOn met v u → u.work.heard ≡ v.work.heard → HasPassedOn (met ++ x ∷ []) v w
-    passed_more before same r k on heard = subst (IsMarked r k) (sym did.0) (⊎_elim
-        (λ (old : IsOn r met). marked_behind r k (marks_of x u.work.heard) u.work.passed (before r k old heard))
-        (λ (new : r ≡ x). subst (λ q. IsMarked r k (marks_of q u.work.heard ++ u.work.passed)) new (marked_on r k u.work.heard u.work.passed (subst (IsMarked r k) (sym same) heard)))
-        (on_last r x met on))
+    pub visited_more : HasVisited met v u → u.work.heard ≡ v.work.heard → HasVisited (met ++ x ∷ []) v w
+    visited_more before same = did.0 ∙ ap (λ h. marks_of x h ++ u.work.passed) same
+        ∙ ap (λ l. marks_of x v.work.heard ++ l) before ∙ sym (passed_last x met v.work.heard v.work.passed)
 
     pub served_more : (client : ℕ) → HasServed client v met u → u.work.stage ≡ v.work.stage → HasServed client v (met ++ x ∷ []) w
     served_more client served same on own = did.1 ∙ ⊎_elim

@@ -51,5 +51,9 @@ moves_on n list again count c at next i is same e = let t = after_drop list coun
   here = e ∙ (ap (λ (l : List ℕ). head_of (after c l)) same ∙ ap head_of t.2);
 }
 
+-- and all of them were visited
+pub count_at_end : (n : ℕ) (list : List ℕ) (count : ℕ) (at : Option ℕ) → IsAt n list count at → at ≡ None → count ≡ length list
+count_at_end n list count at i is = let few = i.few in let size = length-drop count list in let left = none_left (drop count list) (sym is ∙ i.here) in omega arith
+
 pub at_end : (n : ℕ) (list : List ℕ) (count : ℕ) (at : Option ℕ) → IsAt n list count at → at ≡ None → take count list ≡ list
 at_end n list count at i is = let few = i.few in let size = length-drop count list in let left = none_left (drop count list) (sym is ∙ i.here) in take_all count list (omega arith)

@@ -1,11 +1,18 @@
 -- What a combiner keeps while it passes over the records of a list. It knows v before a step, and w after it.
-use Rattle.std.specs.Prelude.{◌≡◌, ℕ, true, ◌+◌, ◌<◌, List, ◌++◌, length, if◌then◌else◌}
+use Rattle.std.specs.Prelude.{◌≡◌, ℕ, true, ◌+◌, ◌<◌, ◌≤◌, List, [], ◌∷◌, ◌++◌, length, if◌then◌else◌}
 use Rattle.pub_rule.specs.declared.walk.View.{View}
 use Rattle.pub_rule.specs.declared.work.Work.{Work}
 use Rattle.pub_rule.specs.declared.work.Serving.TheVariants.{Posted}
+use Rattle.pub_rule.specs.Lists.{IsListOf}
 use Rattle.pub_rule.specs.Work.{GoesOn, IsMarked}
 use Rattle.pub_rule.specs.WorkSteps.{marks_of, is_own}
 use Rattle.pub_list.specs.Combining.{IsCombining, OwesNothing}
+
+-- the posts that are passed, of those that were heard of, after one visit to the record of each of these clients, in
+-- this order
+abbrev pub passed_by : List ℕ → List (ℕ × ℕ) → List (ℕ × ℕ) → List (ℕ × ℕ)
+passed_by [] heard passed = passed
+passed_by (c ∷ cs) heard passed = passed_by cs heard (marks_of c heard ++ passed)
 
 -- What of its own a combiner keeps or learns in a pass.
 module _ {E C R : Type 0} where
@@ -27,12 +34,20 @@ module _ {E C R : Type 0} where
   KeepsMarks v w = (w.work.heard ≡ v.work.heard) × ((r k : ℕ) → IsMarked r k v.work.passed → IsMarked r k w.work.passed)
       × (v.work.past ≡ true → w.work.past ≡ true)
 
-  -- it passed: it began to combine once more, met nobody, and dealt with each post that it had heard of, and with its
-  -- own call
-  abbrev pub HasPassed : ℕ → View (Work E C R) → View (Work E C R) → Type 0
-  HasPassed client v w = (w.work.begun ≡ v.work.begun + 1) × (w.work.met ≡ v.work.met)
-      × ((r k : ℕ) → IsMarked r k v.work.heard → IsMarked r k w.work.passed)
-      × (is_own client v.work.stage ≡ true → w.work.past ≡ true)
+  -- It passed: it began to combine once more, and met nobody. It loaded the list, of distinct clients below n, and
+  -- visited the record of each of them once, in the list's order. So it dealt with each post that it had heard of, and
+  -- with its own call
+  pub record HasPassed (n client : ℕ) (v w : View (Work E C R)) : Type 0 where
+    pub begun : w.work.begun ≡ v.work.begun + 1
+    pub met : w.work.met ≡ v.work.met
+    pub listed : IsListOf n w.walk.list
+    pub visited : w.work.passed ≡ passed_by w.walk.list v.work.heard v.work.passed
+    pub heard : (r k : ℕ) → IsMarked r k v.work.heard → IsMarked r k w.work.passed
+    pub own : is_own client v.work.stage ≡ true → w.work.past ≡ true
+
+-- it told the gate of each record of the list but the last, by how many were visited and how many clients there are
+abbrev pub HasToldGate : {W : Type 0} → (ℕ → ℕ → Type 0) → ℕ → View W → Type 0
+HasToldGate was_told n w = (k : ℕ) → 1 ≤ k → k < length w.walk.list → was_told k n
 
 -- How it stands to the state between two records, and as a call is served.
 module _ {E C R S : Type 0} (history : S → List E) (legal : List E → Type 0) (replies : List E → ℕ → List R) where

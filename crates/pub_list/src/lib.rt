@@ -1,7 +1,8 @@
 //! A publication list: clients join it without waiting, and each walks the records of those that joined.
 //!
 //! It follows flat combining (Hendler, Incze, Shavit, Tzafrir 2010) over the rule of `pub_rule`. No call
-//! waits for another thread, and none but `List::new` takes memory.
+//! waits for another thread, and only `List::new` can fail for want of memory. Of the others `combine_with`
+//! allocates where the state does as it serves a call.
 #![tactic(auto)]
 
 mod asking;

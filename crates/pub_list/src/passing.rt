@@ -2,7 +2,7 @@
 ghost use Rattle.std.specs.Prelude.{◌≡◌, ℕ, List as Sequence, ◌<◌, ◌≤◌, false, OnOk, IfErr};
 ghost use Rattle.pub_list.specs.Clients.{view, work, told, BelongsTo, IsSame};
 ghost use Rattle.pub_list.specs.Combining.{HasMet};
-ghost use Rattle.pub_list.specs.Passing.{IsAsFar, HasDealt, KeepsMarks, HasPassed, IsServing, HasTaken, Stays};
+ghost use Rattle.pub_list.specs.Passing.{IsAsFar, HasDealt, KeepsMarks, HasPassed, HasToldGate, IsServing, HasTaken, Stays};
 
 use crate::combining::Took;
 use crate::joined::Joined;
@@ -37,16 +37,23 @@ pub trait Serves: Served {
 
 /// What happens between two records of a pass. It is for tests, in which a combiner stands still inside one.
 pub trait PassGate {
-    /// Is called after `visited` records of a pass, at least one, and before the next.
-    fn between(&self, visited: u32)
-        requires { (1 ≤ visited) × (visited < 64) };
+    // it was called after so many records of a list of so many clients; `between` alone tells this
+    ghost was_told: { Self → ℕ → ℕ → Type 0 };
+
+    /// Is called after `visited` records of a pass over the list of so many `clients`, at least one, and before the
+    /// next.
+    fn between(&self, visited: u32, clients: u32)
+        requires { (1 ≤ visited) × (visited < clients) × (clients ≤ 64) }
+        ensures { was_told self.now visited clients };
 }
 
 /// Nothing happens between two records.
 pub struct OpenGate;
 
 impl PassGate for OpenGate {
-    fn between(&self, _visited: u32) {}
+    ghost was_told = { λ gate visited clients. Unit {0} };
+
+    fn between(&self, _visited: u32, _clients: u32) {}
 }
 
 impl<S: Serves> Joined<S> {
@@ -62,8 +69,9 @@ impl<S: Serves> Joined<S> {
         ensures far { IsAsFar (view self.old) (view self.new) }
         ensures marks { KeepsMarks (view self.old) (view self.new) }
         ensures told { told self.new ≡ told self.old }
-        ensures passed { OnOk result (HasPassed self.old.client (view self.old) (view self.new)) }
+        ensures passed { OnOk result (HasPassed list.now.clients self.old.client (view self.old) (view self.new)) }
         ensures legal { OnOk result (S.legal (work self.new).seen) }
+        ensures gate { OnOk result (HasToldGate (G.was_told gate.now) list.now.clients (view self.new)) }
         ensures busy { IfErr result (λ c. HasMet list.now.clients self.old.client c (view self.old) (view self.new)) }
     {
         let mut state = self.seize(list)?;
@@ -71,7 +79,7 @@ impl<S: Serves> Joined<S> {
         let mut at = self.first(list);
         while let Some(client) = at {
             if visited > 0 {
-                gate.between(visited);
+                gate.between(visited, list.clients);
             }
             state = self.visit(list, client, state);
             visited += 1;

@@ -1,5 +1,5 @@
 // Clients of one service, alone and in threads.
-ghost use Rattle.std.specs.Prelude.{◌≡◌, ◌≤◌, vec_len, All, IfOk};
+ghost use Rattle.std.specs.Prelude.{◌≡◌, ◌≤◌, ⊤, vec_len, All, IfOk};
 ghost use Rattle.ipc_combiner.specs.Closing.{IsClientOf};
 ghost use Rattle.ipc_combiner.specs.States.{IsOf, IsUnjoinedOf};
 
@@ -477,7 +477,9 @@ struct Gate {
 }
 
 impl PassGate for Gate {
-    fn between(&self, _visited: u32) {
+    ghost was_told = { λ gate visited clients. ⊤ };
+
+    fn between(&self, _visited: u32, _clients: u32) {
         self.inside.store(1, Ordering::SeqCst);
         wait_for(&self.open);
     }
@@ -562,5 +564,46 @@ fn who_stands_still_in_a_pass_leaves_the_others_busy(rt: HostRuntime) -> Result<
     assert_eq!(rt; bob.busy, Some(2));
     let (_, got) = ended(&rt, &service, carol);
     assert!(rt; has_ended(got, Ok(Answer::Id(0))));
+    Ok(())
+}
+
+/// A gate of passes over three records, which counts its calls, and those of them that come in turn.
+#[derive(Drop)]
+struct Turns {
+    calls: AtomicU64,
+    in_turn: AtomicU64,
+}
+
+impl PassGate for Turns {
+    ghost was_told = { λ gate visited clients. ⊤ };
+
+    fn between(&self, visited: u32, clients: u32) {
+        let before = self.calls.fetch_add(1, Ordering::SeqCst);
+        if clients == 3 && u64::from(visited) == before % 2 + 1 {
+            self.in_turn.fetch_add(1, Ordering::SeqCst);
+        }
+    }
+}
+
+/// The gate was called so often, each time in turn.
+fn check_turns(rt: &impl Abort, gate: &Turns, calls: u64) {
+    assert_eq!(rt; gate.calls.load(Ordering::SeqCst), calls);
+    assert_eq!(rt; gate.in_turn.load(Ordering::SeqCst), calls);
+}
+
+#[test]
+fn a_pass_calls_its_own_gate_after_one_record_and_after_two(rt: HostRuntime) -> Result<(), Fail> {
+    let (service, clients) = service_for(&rt, 3)?;
+    let mut idles = joined(&rt, &service, clients)?;
+    let mut idle = one_of(&rt, &service, &mut idles);
+    let gate = Turns {
+        calls: AtomicU64::new(0),
+        in_turn: AtomicU64::new(0),
+    };
+    assert!(rt; has_passed(idle.combine_with(&service, &gate)));
+    check_turns(&rt, &gate, 2);
+    let mut flight = idle.post(&service, 0, get(5));
+    assert!(rt; has_passed(flight.combine_with(&service, &gate)));
+    check_turns(&rt, &gate, 4);
     Ok(())
 }
