@@ -113,6 +113,7 @@ reads_no_byte_more() {
 
 check_memory() {
     with_program attempt 'refused allocations' bears_refusals
+    with_program attempt 'refused allocations of threads' threads_bear_refusals
     attempt 'refused allocations of queues' queues_bear_refusals
 }
 
@@ -163,6 +164,44 @@ bears_refusals() {
     why="with no allocation refused: status $status"
     [ "$status" = 0 ] || return 1
     same 'its output' examples/first-run.out "$scratch/out"
+}
+
+# The first run in threads, in which each client makes one call, with one allocation refused: it stopped for want of memory
+# before a row; or each client's call is in its row, counted as failed for want of memory or not.
+threads_bore_refusal() {
+    case "$1:$(cat "$scratch/err")" in
+    '2:refused
+ipcsh: no memory') [ ! -s "$scratch/out" ] ;;
+    0:refused)
+        ! grep -q ' memory ' "$scratch/out" || failed_calls=$((failed_calls + 1))
+        sed 's/ calls 0 refused 0 memory 1$/ once/; s/ calls 1 refused [01]$/ once/' "$scratch/out" | grep -v '^q ' |
+            tr '\n' ' ' >"$scratch/clients"
+        [ "$(cat "$scratch/clients")" = 'alice once bob once ' ]
+        ;;
+    *) return 1 ;;
+    esac
+}
+
+# Each allocation of the first run in threads is refused in turn.
+threads_bear_refusals() {
+    refuser || return 1
+    number=0
+    failed_calls=0
+    while :; do
+        number=$((number + 1))
+        status=0
+        timeout 60 env REFUSE="$number" LD_PRELOAD="$scratch/refuse.so" "$(program_of ipcsh_cli)" threads \
+            <examples/first-run.ipcsh >"$scratch/out" 2>"$scratch/err" || status=$?
+        [ -s "$scratch/err" ] || break
+        why="allocation $number refused: status $status, standard error and rows as shown"
+        cat "$scratch/err" "$scratch/out" >"$scratch/shown"
+        threads_bore_refusal "$status" || return 1
+    done
+    : >"$scratch/shown"
+    why='no call was counted for which an allocation failed'
+    [ "$failed_calls" -gt 0 ] || return 1
+    why="with no allocation refused: status $status"
+    [ "$status" = 0 ]
 }
 
 # Each second, third, .. allocation of the random lists of calls on queues is refused: they answer as plain lists do.

@@ -71,21 +71,19 @@ of_client k (t ∷ ts) = count-cons (is_refusal_of k) (answered_row t) (map answ
 pub counted_refusals : (h : History) (k : ℕ) → count_by (is_refusal_of k) (rows_of h) ≡ count_by is_refusal (replies h k)
 counted_refusals h k = refusals_from k 1 (opening h.limits h.clients) h.events ∙ of_client k (answers h)
 
--- a list of the numbers of clients 0, 1, ..: none, and one more
-abbrev pub AreCounted : (ℕ → ℕ × ℕ) → List (ℕ × ℕ) → Type 0
-AreCounted f counts = (k : ℕ) → IfSome (slice_get counts k) (λ c. c ≡ f k)
+-- a list of what is known of clients 0, 1, ..: of none, and of one more
+module _ {X : Type 0} where
+  abbrev pub AreCounted : (ℕ → X → Type 0) → List X → Type 0
+  AreCounted P counts = (k : ℕ) → IfSome (slice_get counts k) (P k)
 
-pub none_counted : (f : ℕ → ℕ × ℕ) (counts : List (ℕ × ℕ)) → counts ≡ [] → AreCounted f counts
-none_counted f counts none = subst (AreCounted f) (sym none) (λ k. tt)
+  pub none_counted : (P : ℕ → X → Type 0) (counts : List X) → counts ≡ [] → AreCounted P counts
+  none_counted P counts none = subst (AreCounted P) (sym none) (λ k. tt)
 
-one_more_from : (f : ℕ → ℕ × ℕ) (counts : List (ℕ × ℕ)) (x : ℕ × ℕ) → x ≡ f (length counts) → AreCounted f counts → AreCounted f (counts ++ x ∷ [])
-one_more_from f [] x is are zero = is
-one_more_from f [] x is are (suc k) = tt
-one_more_from f (c ∷ counts) x is are zero = are zero
-one_more_from f (c ∷ counts) x is are (suc k) = one_more_from (λ j. f (suc j)) counts x is (λ j. are (suc j)) k
+  one_more_from : (P : ℕ → X → Type 0) (counts : List X) (x : X) → P (length counts) x → AreCounted P counts → AreCounted P (counts ++ x ∷ [])
+  one_more_from P [] x is are zero = is
+  one_more_from P [] x is are (suc k) = tt
+  one_more_from P (c ∷ counts) x is are zero = are zero
+  one_more_from P (c ∷ counts) x is are (suc k) = one_more_from (λ j. P (suc j)) counts x is (λ j. are (suc j)) k
 
-pub one_counted : (f : ℕ → ℕ × ℕ) (counts new : List (ℕ × ℕ)) (x : ℕ × ℕ) → new ≡ counts ++ x ∷ [] → x ≡ f (length counts) → AreCounted f counts → AreCounted f new
-one_counted f counts new x more is are = subst (AreCounted f) (sym more) (one_more_from f counts x is are)
-
-pub pair_is : (a b m n : ℕ) → a ≡ m → b ≡ n → ◌≡◌ {A = ℕ × ℕ} (a, b) (m, n)
-pair_is a b m n p q = cc
+  pub one_counted : (P : ℕ → X → Type 0) (counts new : List X) (x : X) → new ≡ counts ++ x ∷ [] → P (length counts) x → AreCounted P counts → AreCounted P new
+  one_counted P counts new x more is are = subst (AreCounted P) (sym more) (one_more_from P counts x is are)

@@ -1,5 +1,6 @@
 -- The calls of jobs, one after another, each with the reply to it.
-use Rattle.std.specs.Prelude.{◌≡◌, ℕ, Bool, true, false, List, [], ◌∷◌, ◌++◌, map, filter, flat_map, Option, Some, None}
+use Rattle.std.specs.Prelude.{◌≡◌, ℕ, ◌+◌, ◌-◌, ◌^◌, Bool, true, false, List, [], ◌∷◌, ◌++◌, map, filter, flat_map}
+use Rattle.std.specs.Prelude.{Option, Some, None, count_by, min}
 use Rattle.ipc_call.specs.declared.calls.Call.{Call}
 use Rattle.ipc_call.specs.declared.calls.Call.TheVariants.{IpcRmid}
 use Rattle.ipc_call.specs.declared.calls.Kind.{Kind}
@@ -49,7 +50,7 @@ AreCallsOf [] parts = parts ≡ []
 AreCallsOf (c ∷ cs) [] = ⊥
 AreCallsOf (c ∷ cs) (p ∷ parts) = (c.0 ≡ (p.0, first_call p.1)) × AreCallsOf cs (rest_of p c.1 ++ parts)
 
--- those that entered: memory wasn't refused to them
+-- those that entered: no allocation failed for them
 abbrev pub has_entered : Reply → Bool
 has_entered (Entered place turn outcome) = true
 has_entered Memory = false
@@ -62,3 +63,21 @@ calls_in cs = map (λ c. c.0) (entered cs)
 
 abbrev pub replies_in : List Replied → List Reply
 replies_in cs = map (λ c. c.1) (entered cs)
+
+-- an allocation failed for the call
+abbrev pub has_failed : Reply → Bool
+has_failed Memory = true
+has_failed (Entered place turn outcome) = false
+
+-- for how many of these calls one did
+abbrev pub failures : List Replied → ℕ
+failures cs = count_by (λ c. has_failed c.1) cs
+
+-- a number as a u64 counts it: it stays at the largest
+abbrev pub capped : ℕ → ℕ
+capped n = min n (2 ^ 64 - 1)
+
+-- that number after one more reply
+abbrev pub counted_with : ℕ → Reply → ℕ
+counted_with n Memory = capped (n + 1)
+counted_with n (Entered place turn outcome) = n

@@ -14,39 +14,47 @@ use Rattle.ipc_combiner.specs.States.{IsOf, Records}
 use Rattle.ipc_commands.specs.declared.jobs.Job.{Job}
 use Rattle.ipc_jobs.specs.declared.working.Ended.{Ended}
 use Rattle.ipc_jobs.specs.declared.working.Worker.{Worker}
-use Rattle.ipc_jobs.specs.Calls.{AreCallsOf, Replied, Timed, calls_in, replies_in}
-use Rattle.ipc_jobs.specs.Courses.{Course, IsCourse, is_held}
+use Rattle.ipc_jobs.specs.Calls.{AreCallsOf, Replied, Timed, calls_in, capped, failures, replies_in}
+use Rattle.ipc_jobs.specs.Courses.{Course, IsCourse, failures_of, is_held}
 
--- it made these calls, each by one post, and has entered those to which memory wasn't refused
-pub record HasMade (cs : List Replied) (v w : Work Entry (ℕ × Call) Reply) : Type 0 where
+-- what a client knows
+abbrev pub Known : Type 0
+Known = Work Entry (ℕ × Call) Reply
+
+-- it made these calls, each by one post, has entered those for which no allocation failed, and counts the others: it
+-- had counted m, and has counted n
+pub record HasMade (cs : List Replied) (v w : Known) (m n : ℕ) : Type 0 where
   pub posts : w.posts ≡ v.posts + length cs
   pub entered : w.entered ≡ v.entered ++ calls_in cs
   pub got : w.got ≡ v.got ++ replies_in cs
+  pub counted : (before : ℕ) → m ≡ capped before → n ≡ capped (before + failures cs)
 
 -- it made a call, and this is the identifier that it was answered
-abbrev pub HasAsked : ℕ × Call → Option ℕ → Work Entry (ℕ × Call) Reply → Work Entry (ℕ × Call) Reply → Type 0
-HasAsked call id v w = (reply : Reply) × (id ≡ id_in reply) × HasMade ((call, reply) ∷ []) v w
+abbrev pub HasAsked : ℕ × Call → Option ℕ → Known → Known → ℕ → ℕ → Type 0
+HasAsked call id v w m n = (reply : Reply) × (id ≡ id_in reply) × HasMade ((call, reply) ∷ []) v w m n
 
 -- it made the calls of these parts, and knew v before and w after them
-abbrev pub HasDone : List Timed → Work Entry (ℕ × Call) Reply → Work Entry (ℕ × Call) Reply → Type 0
-HasDone parts v w = (cs : List Replied) × AreCallsOf cs parts × HasMade cs v w
+abbrev pub HasDone : List Timed → Known → Known → ℕ → ℕ → Type 0
+HasDone parts v w m n = (cs : List Replied) × AreCallsOf cs parts × HasMade cs v w m n
 
--- the worker's client went so: it posted each of its calls, and no other
-abbrev pub IsEndOf : (ℕ → ℕ → Type 0) → Records → Worker → Ended → Type 0
-IsEndOf may_hold list worker ended = IsOf list ended.idle.joined
-    × (ended.idle.joined.client ≡ worker.client.fresh.client)
-    × (c : Course)
-    × IsCourse may_hold worker.client.fresh.client worker.jobs.items (work ended.idle.joined).entered
-    (work ended.idle.joined).got c
-    × ((work ended.idle.joined).posts ≡ length c.calls)
-    × (ended.held ≡ is_held c)
+-- How the clients of workers went, by what a gate may do and was told.
+module _ (may_hold was_told : ℕ → ℕ → Type 0) (list : Records) where
+  -- the worker's client went so: it posted each of its calls, and no other
+  abbrev pub IsEndOf : Worker → Ended → Type 0
+  IsEndOf worker ended = IsOf list ended.caller.idle.joined
+      × (ended.caller.idle.joined.client ≡ worker.client.fresh.client)
+      × (c : Course)
+      × IsCourse may_hold was_told worker.client.fresh.client worker.jobs.items (work ended.caller.idle.joined).entered
+      (work ended.caller.idle.joined).got c
+      × ((work ended.caller.idle.joined).posts ≡ length c.calls)
+      × (ended.held ≡ is_held c) × (ended.caller.memory ≡ failures_of c)
 
--- the workers' clients went so, each its own way
-abbrev pub AreEnds : (ℕ → ℕ → Type 0) → Records → List Worker → List Ended → Type 0
-AreEnds may_hold list [] [] = Unit {0}
-AreEnds may_hold list [] (e ∷ es) = ⊥
-AreEnds may_hold list (w ∷ ws) [] = ⊥
-AreEnds may_hold list (w ∷ ws) (e ∷ es) = IsEndOf may_hold list w e × AreEnds may_hold list ws es
+  -- the workers' clients went so, each its own way
+  abbrev pub AreEnds : List Worker → List Ended → Type 0
+  AreEnds [] [] = Unit {0}
+  AreEnds [] (e ∷ es) = ⊥
+  AreEnds (w ∷ ws) [] = ⊥
+  AreEnds (w ∷ ws) (e ∷ es) = IsEndOf w e × AreEnds ws es
 
 -- a client with its jobs
 abbrev pub worker_of : Unjoined × Vec Job → Worker
@@ -54,4 +62,4 @@ worker_of pair = record { client = pair.0; jobs = pair.1 }
 
 -- a client that has done its work, to be handed in
 abbrev pub client_of : Ended → Client
-client_of ended = Idle ended.idle
+client_of ended = Idle ended.caller.idle

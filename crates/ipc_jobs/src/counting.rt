@@ -1,29 +1,48 @@
-//! How many calls and refusals each client has in a journal.
-ghost use Rattle.std.specs.Prelude.{◌≡◌, count_by, IfOk};
-ghost use Rattle.ipc_jobs.specs.Courses.{AreCounts, counts_in as client_counts};
+//! What became of each client's calls.
+ghost use Rattle.std.specs.Prelude.{◌≡◌, count_by, length, map, IfOk};
+ghost use Rattle.ipc_jobs.specs.Courses.{AreCounts, IsCountOf};
 ghost use Rattle.ipc_jobs.specs.Rows.{is_call_of as calls, is_refusal_of as refuses};
 
 use ipc_call::{JournalRow, Memory};
 use ipc_space::Space;
 use std::alloc::Global;
 
-/// The numbers of each client's calls and of the refusals among the replies to it. It goes through the journal twice
-/// for each client.
-pub(crate) fn counts_of(alloc: Global, space: &Space) -> Result<Vec<(u64, u64)>, Memory>
-    ensures { IfOk result (λ counts. AreCounts space.now counts.items) }
+/// How many calls of a client ended in which way.
+#[derive(Clone, Copy, Debug, PartialEq, Eq)]
+pub struct Counts {
+    /// Its calls in the journal.
+    pub calls: u64,
+    /// The refusals among the replies to it, those to calls that waited too.
+    pub refusals: u64,
+    /// Its calls for which an allocation failed, which aren't in the journal. It stays at the largest number that it
+    /// holds.
+    pub memory: u64,
+}
+
+/// The counts of each client, by the journal and by the numbers of calls for which an allocation failed. It goes through
+/// the journal twice for each client.
+pub(crate) fn counts_of(alloc: Global, space: &Space, memory: &[u64]) -> Result<Vec<Counts>, Memory>
+    requires { length memory.now ≡ length space.now.clients }
+    ensures counts { IfOk result (λ counts. AreCounts space.now counts.items) }
+    ensures memory { IfOk result (λ counts. map (λ n. n.memory) counts.items ≡ memory.now) }
 {
     let mut counts = Vec::new(alloc);
     for client in 0..space.clients() {
-        counts.push(counts_in(space, client))?;
+        counts.push(counts_in(space, client, memory[client as usize]))?;
     }
     Ok(counts)
 }
 
-fn counts_in(space: &Space, client: u32) -> (u64, u64)
-    ensures { result ≡ client_counts space.now client }
+fn counts_in(space: &Space, client: u32, memory: u64) -> Counts
+    ensures counts { IsCountOf space.now client result }
+    ensures memory { result.memory ≡ memory }
 {
     let rows = space.journal();
-    (count_calls(rows, client), count_refusals(rows, client))
+    Counts {
+        calls: count_calls(rows, client),
+        refusals: count_refusals(rows, client),
+        memory,
+    }
 }
 
 fn count_calls(rows: &[JournalRow], client: u32) -> u64

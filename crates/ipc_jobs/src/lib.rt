@@ -7,6 +7,7 @@ mod gates;
 mod threads;
 mod working;
 
+pub use counting::Counts;
 pub use gates::{Gate, OpenGate};
 pub use ipc_commands::Job;
 pub use threads::{ThreadsEnd, run_threads};

@@ -7,7 +7,7 @@ ghost use Rattle.ipc_combiner.specs.States.{IsUnjoinedOf};
 ghost use Rattle.ipc_jobs.specs.Courses.{AreCounts, HaveGone};
 ghost use Rattle.ipc_jobs.specs.Working.{AreEnds, IsEndOf, client_of, worker_of};
 
-use crate::counting::counts_of;
+use crate::counting::{Counts, counts_of};
 use crate::gates::Gate;
 use crate::working::{Ended, Worker, work};
 use ipc_call::{Limits, Memory};
@@ -25,18 +25,17 @@ use std::thread::Threads;
 pub struct ThreadsEnd {
     /// The namespace, with the journal of all calls.
     pub space: Space,
-    /// For each client the number of its calls in the journal, and that of the refusals among the replies to it, those
-    /// to calls that waited too. A call to which memory was refused is in neither.
-    pub counts: Vec<(u64, u64)>,
+    /// How many calls of each client ended in which way.
+    pub counts: Vec<Counts>,
     /// How many clients the gate stopped.
     pub held: u32,
 }
 
 /// Opens a service, with limits as for `Service::start` and a list of jobs for each client; lets each client do its jobs
 /// in a thread of its own, one call after another; joins the threads and closes the service. Where no more threads can
-/// be started, the threads that there are do the jobs of several clients, one client after another. Memory (ENOMEM) is
-/// for an allocation that was refused outside the calls; the threads that were started are joined first. It may never
-/// return: a call that waits ends by another client's call alone.
+/// be started, those that run do the jobs of several clients, one client after another. Memory (ENOMEM) is for an
+/// allocation that fails outside the calls; the threads that were started are joined first. It may never return: a call
+/// that waits ends by another client's call alone.
 pub fn run_threads<R: Threads + Sync + Wait, G: Gate + Sync>(
     rt: &R,
     alloc: Global,
@@ -51,23 +50,26 @@ pub fn run_threads<R: Threads + Sync + Wait, G: Gate + Sync>(
     requires jobs { vec_len jobs ≡ vec_len creds }
     ensures opening { IfOk result (λ end. (end.space.limits ≡ limits) × (end.space.clients ≡ creds.items)) }
     ensures legal { IfOk result (λ end. IsLegal end.space) }
-    ensures courses { IfOk result (λ end. HaveGone (G.may_hold gate.now) end.space (map (λ own. own.items) jobs.items) end.held) }
+    ensures courses { IfOk result (λ end. HaveGone (G.may_hold gate.now) (G.was_told gate.now) end.space (map (λ own. own.items) jobs.items) end.held end.counts.items) }
     ensures counts { IfOk result (λ end. AreCounts end.space end.counts.items) }
 {
     let (service, clients) = Service::start(alloc, limits, creds)?;
     let workers = workers_of(alloc, clients, jobs)?;
     let ended = work_all(rt, &service, gate, workers)?;
     let held = count_held(&ended);
+    let memory = memory_of(alloc, &ended)?;
     let space = service.close(clients_of(alloc, ended)?);
-    counted(alloc, space, held)
+    counted(alloc, space, memory.as_slice(), held)
 }
 
 // The namespace with what each client has in its journal.
-fn counted(alloc: Global, space: Space, held: u32) -> Result<ThreadsEnd, Memory>
+fn counted(alloc: Global, space: Space, memory: &[u64], held: u32) -> Result<ThreadsEnd, Memory>
+    requires { length memory.now ≡ length space.clients }
     ensures same { IfOk result (λ end. (end.space ≡ space) × (end.held ≡ held)) }
     ensures counts { IfOk result (λ end. AreCounts end.space end.counts.items) }
+    ensures memory { IfOk result (λ end. map (λ n. n.memory) end.counts.items ≡ memory.now) }
 {
-    match counts_of(alloc, &space) {
+    match counts_of(alloc, &space, memory) {
         Ok(counts) => Ok(ThreadsEnd {
             space,
             counts,
@@ -103,14 +105,14 @@ fn work_all<R: Threads + Sync + Wait, G: Gate + Sync>(
     workers: Vec<Worker>,
 ) -> Result<Vec<Ended>, Memory>
     requires { All (λ w. IsUnjoinedOf service.now.list w.client.fresh) workers.items }
-    ensures { IfOk result (λ ended. AreEnds (G.may_hold gate.now) service.now.list workers.items ended.items) }
+    ensures { IfOk result (λ ended. AreEnds (G.may_hold gate.now) (G.was_told gate.now) service.now.list workers.items ended.items) }
 {
     thread::map_vec(
         rt,
         workers,
         &|worker: Worker| -> Ended
             requires { IsUnjoinedOf service.now.list worker.client.fresh }
-            ensures { IsEndOf (G.may_hold gate.entry.now) service.entry.now.list worker result }
+            ensures { IsEndOf (G.may_hold gate.entry.now) (G.was_told gate.entry.now) service.entry.now.list worker result }
         { work(rt, service, gate, worker) },
     )
 }
@@ -128,12 +130,23 @@ fn count_held(ended: &[Ended]) -> u32
     held
 }
 
+// For how many calls of each client an allocation failed.
+fn memory_of(alloc: Global, ended: &[Ended]) -> Result<Vec<u64>, Memory>
+    ensures { IfOk result (λ memory. memory.items ≡ map (λ e. e.caller.memory) ended.now) }
+{
+    let mut memory = Vec::new(alloc);
+    for client in ended {
+        memory.push(client.caller.memory)?;
+    }
+    Ok(memory)
+}
+
 // The clients, to be handed in as the service is closed.
 fn clients_of(alloc: Global, ended: Vec<Ended>) -> Result<Vec<Client>, Memory>
     ensures { IfOk result (λ clients. clients.items ≡ map client_of ended.items) }
 {
     ended
         .into_iter()
-        .map(|client| Client::Idle(client.idle))
+        .map(|client| Client::Idle(client.caller.idle))
         .collect(alloc)
 }

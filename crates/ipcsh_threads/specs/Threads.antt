@@ -5,6 +5,7 @@ use Rattle.ipc_call.specs.declared.limits.Limits.{Limits}
 use Rattle.ipc_call.specs.Limits.{are_in_range}
 use Rattle.ipc_commands.specs.declared.jobs.Job.{Job}
 use Rattle.ipc_creds.specs.Credentials.{Credentials}
+use Rattle.ipc_jobs.specs.declared.counting.Counts.{Counts}
 use Rattle.ipc_jobs.specs.Courses.{AreCounts, HaveGone}
 use Rattle.ipc_history.specs.History.{History, IsLegal, run}
 use Rattle.ipc_model.specs.Listings.{lines_of as lines_in}
@@ -46,21 +47,22 @@ pub record CanRun (plan : Plan) : Type 0 where
   pub jobs : length plan.jobs.items ≡ length plan.clients.items
   pub names : length plan.names.items ≡ length plan.clients.items
 
--- the clients made the calls of their jobs, each all of its own in their order, and the history is legal
-pub record IsRun (s : Setup) (h : History) (counts : List (ℕ × ℕ)) : Type 0 where
+-- The clients made the calls of their jobs, each all of its own in their order, and the history is legal. It has all of
+-- them but those for which an allocation failed, and these are counted
+pub record IsRun (s : Setup) (h : History) (counts : List Counts) : Type 0 where
   pub limits : h.limits ≡ s.limits
   pub clients : h.clients ≡ s.clients
   pub legal : IsLegal h
-  pub whole : HaveGone (λ client nth. ⊥) h s.jobs 0
+  pub whole : HaveGone (λ client nth. ⊥) (λ client nth. Unit {0}) h s.jobs 0 counts
   pub counted : AreCounts h counts
 
 -- the rows at the end: each client's counts, and all objects
-abbrev pub end_rows : Setup → History → List (ℕ × ℕ) → List ℕ
+abbrev pub end_rows : Setup → History → List Counts → List ℕ
 end_rows s h counts = count_rows s.names counts ++ object_lines (lines_in (run h))
 
 -- some such history was made, and these are its rows and the number of its calls
 abbrev pub Makes : Setup → List ℕ → ℕ → Type 0
-Makes s rows events = (h : History) × (counts : List (ℕ × ℕ)) × IsRun s h counts
+Makes s rows events = (h : History) × (counts : List Counts) × IsRun s h counts
     × (rows ≡ end_rows s h counts) × (events ≡ length h.events)
 
 abbrev pub EndsSo : Setup → Ending → Type 0

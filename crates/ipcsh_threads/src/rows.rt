@@ -4,14 +4,15 @@ ghost use Rattle.std.specs.Prelude.{◌≡◌, ◌≤◌, ◌++◌, OnOk, length
 ghost use Rattle.ipcsh_threads.specs.Rows.{count_row, count_rows, object_lines, object_line};
 
 use ipc_call::{Memory, Row};
+use ipc_jobs::Counts;
 use ipc_text::{Name, print_object};
 use std::fmt::Write;
 
-/// A row for each client: its name, and how many calls and refusals it has.
+/// A row for each client: its name and its counts.
 pub(crate) fn print_counts(
     rows: &mut String,
     names: &[Name],
-    counts: &[(u64, u64)],
+    counts: &[Counts],
 ) -> Result<(), Memory>
     requires { length names.now ≤ length counts.now }
     ensures { OnOk result (string_bytes rows.new ≡ string_bytes rows.old ++ count_rows names.now counts.now) }
@@ -22,11 +23,19 @@ pub(crate) fn print_counts(
     Ok(())
 }
 
-fn print_count(rows: &mut String, name: &str, count: (u64, u64)) -> Result<(), Memory>
-    ensures { OnOk result (string_bytes rows.new ≡ string_bytes rows.old ++ count_row (name.now, count)) }
+fn print_count(rows: &mut String, name: &str, counts: Counts) -> Result<(), Memory>
+    ensures { OnOk result (string_bytes rows.new ≡ string_bytes rows.old ++ count_row (name.now, counts)) }
 {
-    let (calls, refused) = count;
-    write!(rows, "{name} calls {calls} refused {refused}\n")
+    let Counts {
+        calls,
+        refusals,
+        memory,
+    } = counts;
+    write!(rows, "{name} calls {calls} refused {refusals}")?;
+    if memory > 0 {
+        write!(rows, " memory {memory}")?;
+    }
+    write!(rows, "\n")
 }
 
 /// The lines of all objects.

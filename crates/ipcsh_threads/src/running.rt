@@ -18,9 +18,9 @@ use std::thread::Threads;
 
 /// Reads a script in the language of `docs/LANGUAGE.md`, the project's own, to its end, and writes the rows of its bad
 /// lines. Where a client has a call, it then makes the calls of each client, in the order of its lines, in a thread of
-/// its own; when all have ended it writes for each client how many calls it made and how many were refused, and the
-/// lines of all objects. It may never return: a call that waits ends by another client's call alone. After `Read` and
-/// `TooMuch` nothing was written.
+/// its own. When all have ended it writes for each client how many calls it made and how many were refused, and for how
+/// many an allocation failed if for any; then the lines of all objects. It may never return: a call that waits ends by
+/// another client's call alone. After `Read` and `TooMuch` nothing was written.
 pub fn threads<R: Threads + Sync + Wait, I: Read, W: Write>(
     rt: &R,
     alloc: Global,

@@ -1,10 +1,10 @@
 // Sixty-four clients, each with a hundred calls of every kind, none of which waits.
 
-use crate::jobs::{creds_of, end_of, job};
+use crate::jobs::{counted, creds_of, end_of, job};
 use ipc_call::{
     Call, IPC_CREAT, IPC_NOWAIT, Items, JournalRow, Kind, Limits, SEM_UNDO, SHM_RDONLY, SemOper,
 };
-use ipc_jobs::{Job, OpenGate, ThreadsEnd};
+use ipc_jobs::{Counts, Job, OpenGate, ThreadsEnd};
 use ipc_space::{Replayed, Space, replay};
 use std::alloc::{AllocError, Global};
 use std::process::Abort;
@@ -158,7 +158,7 @@ fn jobs_of(alloc: Global, client: u32) -> Result<Vec<Job>, AllocError> {
 }
 
 /// How many calls and how many refusals the client has in the journal.
-fn counted(space: &Space, number: u32) -> (u64, u64) {
+fn counts_in(space: &Space, number: u32) -> (u64, u64) {
     let mut calls: u64 = 0;
     let mut refusals: u64 = 0;
     for row in space.journal() {
@@ -199,9 +199,10 @@ fn check_replay(rt: &(impl Abort + AllocGlobal), space: &Space) -> Result<(), Fa
 }
 
 /// The client has its hundred calls in the journal, with as many refusals as were counted.
-fn check_client(rt: &impl Abort, space: &Space, client: u32, counts: (u64, u64)) {
-    assert_eq!(rt; counts, counted(space, client), "of client {client}");
-    assert_eq!(rt; counts.0, u64::from(CALLS), "of client {client}");
+fn check_client(rt: &impl Abort, space: &Space, client: u32, counts: Counts) {
+    let (calls, refusals) = counts_in(space, client);
+    assert_eq!(rt; counts, counted(calls, refusals), "of client {client}");
+    assert_eq!(rt; calls, u64::from(CALLS), "of client {client}");
 }
 
 /// Each client has its calls in the journal, and none is held.

@@ -5,7 +5,7 @@ use bitflags::Flags;
 use ipc_call::{Call, Items, JournalRow, Kind, Limits, Listed, Mode, Row, Rule, SemOper};
 use ipc_commands::Part;
 use ipc_creds::{Caps, Creds};
-use ipc_jobs::{Gate, Job, OpenGate, ThreadsEnd, run_threads};
+use ipc_jobs::{Counts, Gate, Job, OpenGate, ThreadsEnd, run_threads};
 use ipc_space::Space;
 use std::alloc::{AllocError, Global};
 use std::process::Abort;
@@ -66,12 +66,21 @@ fn check_calls(rt: &impl Abort, space: &Space, number: u32, wanted: u64) {
     assert_eq!(rt; count, wanted, "of client {number}");
 }
 
-/// So many clients are held, and each has so many calls, at the times of its jobs, and so many refusals.
-fn check_counts(rt: &impl Abort, end: &ThreadsEnd, held: u32, wanted: &[(u64, u64)]) {
+/// What is counted of a client for each of whose calls there was memory.
+pub(crate) fn counted(calls: u64, refusals: u64) -> Counts {
+    Counts {
+        calls,
+        refusals,
+        memory: 0,
+    }
+}
+
+/// So many clients are held, and each has these counts, and its calls at the times of its jobs.
+fn check_counts(rt: &impl Abort, end: &ThreadsEnd, held: u32, wanted: &[Counts]) {
     assert_eq!(rt; end.held, held);
     assert_eq!(rt; end.counts.as_slice(), wanted);
     for (client, counts) in (0..64).zip(wanted) {
-        check_calls(rt, &end.space, client, counts.0);
+        check_calls(rt, &end.space, client, counts.calls);
     }
 }
 
@@ -140,7 +149,17 @@ fn check_set(rt: &impl Abort, space: &Space, values: &[u16]) -> Result<(), Fail>
 
 /// Four clients have made a hundred additions each.
 fn check_sum(rt: &impl Abort, end: &ThreadsEnd) -> Result<(), Fail> {
-    check_counts(rt, end, 0, &[(101, 0), (101, 0), (101, 0), (101, 0)]);
+    check_counts(
+        rt,
+        end,
+        0,
+        &[
+            counted(101, 0),
+            counted(101, 0),
+            counted(101, 0),
+            counted(101, 0),
+        ],
+    );
     for client in 0..4 {
         assert_eq!(rt; semops_of(&end.space, client), 100);
     }
@@ -193,6 +212,10 @@ struct Meeting {
 impl Gate for Meeting {
     ghost may_hold = { λ gate client nth. ⊤ };
 
+    ghost may_pass = { λ gate client nth. ⊤ };
+
+    ghost was_told = { λ gate client nth. ⊤ };
+
     fn before(&self, client: u32, nth: u64) -> bool {
         match (client, nth) {
             (0, 1) => {
@@ -237,7 +260,7 @@ fn place_of(space: &Space, number: u32, time: u64) -> Option<usize> {
 
 /// Client 1 called first before client 0 called for the second time.
 fn check_meeting(rt: &impl Abort, end: &ThreadsEnd) {
-    check_counts(rt, end, 0, &[(3, 0), (2, 0)]);
+    check_counts(rt, end, 0, &[counted(3, 0), counted(2, 0)]);
     let first = place_of(&end.space, 1, 1).expect(rt, "client 1 called");
     let second = place_of(&end.space, 0, 2).expect(rt, "client 0 called twice");
     assert!(rt; first < second);
@@ -268,6 +291,10 @@ struct TwoStopped {
 impl Gate for TwoStopped {
     ghost may_hold = { λ gate client nth. ⊤ };
 
+    ghost may_pass = { λ gate client nth. ⊤ };
+
+    ghost was_told = { λ gate client nth. ⊤ };
+
     fn before(&self, client: u32, nth: u64) -> bool {
         self.asked.fetch_add(1, Ordering::SeqCst);
         !matches!((client, nth), (1, 2) | (2, 1))
@@ -285,7 +312,7 @@ fn a_gate_stops_two_of_three(rt: HostRuntime) -> Result<(), Fail> {
         told: AtomicU64::new(0),
     };
     let end = end_of(&rt, gets_of(rt.alloc(), &[3, 3, 3])?, &gate)?;
-    check_counts(&rt, &end, 2, &[(3, 0), (1, 0), (0, 0)]);
+    check_counts(&rt, &end, 2, &[counted(3, 0), counted(1, 0), counted(0, 0)]);
     drop(end);
     assert_eq!(rt; gate.asked.load(Ordering::SeqCst), 6);
     assert_eq!(rt; gate.told.load(Ordering::SeqCst), 4);
@@ -295,7 +322,7 @@ fn a_gate_stops_two_of_three(rt: HostRuntime) -> Result<(), Fail> {
 #[test]
 fn a_client_without_jobs(rt: HostRuntime) -> Result<(), Fail> {
     let end = end_of(&rt, gets_of(rt.alloc(), &[2, 0, 3])?, &OpenGate)?;
-    check_counts(&rt, &end, 0, &[(2, 0), (0, 0), (3, 0)]);
+    check_counts(&rt, &end, 0, &[counted(2, 0), counted(0, 0), counted(3, 0)]);
     drop(end);
     Ok(())
 }
@@ -367,7 +394,7 @@ fn answers(space: &Space) -> (u64, u64) {
 
 /// Every call has ended, some of them later than they came.
 fn check_rounds(rt: &impl Abort, end: &ThreadsEnd) {
-    check_counts(rt, end, 0, &[(402, 0), (402, 0)]);
+    check_counts(rt, end, 0, &[counted(402, 0), counted(402, 0)]);
     let (count, late) = answers(&end.space);
     assert_eq!(rt; count, 804);
     assert!(rt; late > 0, "no call of four hundred waits");
@@ -439,7 +466,7 @@ fn rows_of_removals(alloc: Global) -> Result<Vec<JournalRow>, AllocError> {
 /// Of four calls one is refused, and the journal has these rows.
 fn check_removals(rt: &impl Abort, end: &ThreadsEnd, rows: &[JournalRow]) {
     assert_eq!(rt; end.held, 0);
-    assert!(rt; end.counts.as_slice() == [(4, 1)].as_slice());
+    assert_eq!(rt; end.counts.as_slice(), [counted(4, 1)].as_slice());
     assert!(rt; end.space.journal() == rows);
 }
 

@@ -1,7 +1,7 @@
-use Rattle.std.proofs.Common.{◌≡◌, ℕ, length, IfSome}
-use Rattle.std.specs.List.{slice_get}
-use Rattle.ipc_jobs.specs.Courses.{counts_in}
+use Rattle.std.proofs.Common.{◌≡◌, length, map, take}
+use Rattle.ipc_jobs.specs.Courses.{IsCountOf}
+use Rattle.ipc_jobs.proofs.Counted.{AreCounted}
 use Rattle.ipc_jobs.proofs.counting.counts_of.Given as goal
 
 abbrev pub invariant-loop-client : goal.invariant-loop-client
-invariant-loop-client l = (length l.counts.items ≡ l.client) × ((k : ℕ) → IfSome (slice_get l.counts.items k) (λ c. c ≡ counts_in l.space k))
+invariant-loop-client l = (length l.counts.items ≡ l.client) × AreCounted (IsCountOf l.space) l.counts.items × (map (λ n. n.memory) l.counts.items ≡ take l.client l.memory)

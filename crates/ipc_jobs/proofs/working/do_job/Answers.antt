@@ -9,16 +9,16 @@ loop-part-init g c = (
   c.requires,
   refl,
   [],
-  made_none (work c.args.idle.joined),
+  made_none (work c.args.caller.idle.joined) c.args.caller.memory,
   λ more are. subst (λ xs. AreCallsOf more (map (λ part. (c.args.job.now, part)) xs)) (c.into_iter-part-iterator.ensures.into_iter_gives.0 ∙ c.into_vec-part-items.ensures) are,
 )
 
 pub loop-part-preserved : goal.loop-part-preserved
-loop-part-preserved g c = let i = c.loop-part.invariant in let does = c.do_part-idle.ensures.done in let rest = c.next.new.self.rest.items in (
-  c.do_part-idle.ensures.service,
-  c.do_part-idle.ensures.client ∙ i.1,
+loop-part-preserved g c = let i = c.loop-part.invariant in let does = c.do_part-caller.ensures.done in let rest = c.next.new.self.rest.items in (
+  c.do_part-caller.ensures.service,
+  c.do_part-caller.ensures.client ∙ i.1,
   i.2 ++ does.0,
-  made_more i.2 does.0 (work c.args.idle.joined) (work c.loop-part.idle.joined) (work c.do_part-idle.result.joined) i.3 does.2,
+  made_more i.2 does.0 (work c.args.caller.idle.joined) (work c.loop-part.caller.idle.joined) (work c.do_part-caller.result.idle.joined) c.args.caller.memory c.loop-part.caller.memory c.do_part-caller.result.memory i.3 does.2,
   done_more c.args.job.now c.in-Some.part rest (timed c.args.job) i.2 does.0 (λ more are. i.4 more (subst (λ xs. AreCallsOf more (map (λ part. (c.args.job.now, part)) xs)) (sym c.in-Some.ensures.steps.0) are)) does.1,
 )
 

@@ -18,7 +18,7 @@ returns g c =
         limits = e.opening.0;
         clients = e.opening.1;
         legal = e.legal;
-        whole = all_gone _ _ _ e.courses;
+        whole = all_gone _ _ _ _ e.courses;
         counted = e.counts;
       },
       made.0 ∙ ap rows same,
