@@ -1,14 +1,14 @@
 -- Undo entries of two parts that are the same on the sets in sight, and what the calls leave of both.
 use Rattle.std.proofs.Common.{◌≡◌, ℕ, Bool, true, false, cond, List, [], ◌∷◌, refl, sym, ap, ◌∙◌, None}
-use Rattle.std.specs.Prelude.{ℤ, pos, ◌-ℤ◌, not, unwrap_or, if◌then◌else◌}
+use Rattle.std.specs.Prelude.{ℤ, pos, ◌-ℤ◌, filter, map, not, unwrap_or}
 use Rattle.std.specs.Ordering.{eq_by_cmp}
 use Rattle.std.specs.FinMap as finite
 use Rattle.std.proofs.lemmas.Bool.{true≢false}
 use Rattle.ipc_call.specs.declared.calls.SemOper.{SemOper}
-use Rattle.sem_set.specs.Trials.{undoes}
+use Rattle.sem_set.specs.Trials.{sum_of, undoes, undoes_on}
 use Rattle.sem_undo.specs.Entries.{Adjusted, Entries, adj_of, adjusted_cmp, with_adj}
 use Rattle.sem_undo.proofs.Entries.{entry_of, get_kept, get_with, same_entries}
-use Rattle.ipc_model.specs.Semaphores.{lowered, lowered_by}
+use Rattle.ipc_model.specs.Semaphores.{lowered, with_adjs}
 use Rattle.ipc_model.proofs.Apart.{lowered-apart}
 
 abbrev pub key : ℕ → ℕ → ℕ → Adjusted
@@ -41,16 +41,15 @@ put-same m n k q v w value same = get_with m k q v ∙ (λ i. cond (eq_by_cmp ad
 module _ (client id : ℕ) where
   -- of a set in sight
   module _ (hid : ℕ → Bool) (seen : hid id ≡ false) where
-    step-same : (o : SemOper) (m n : Entries) → AreSame hid m n → AreSame hid (lowered_by m client id o) (lowered_by n client id o)
-    step-same o m n same q isnt = by (undoes o)
-      where
-        by : (b : Bool) → finite.get (if b then with_adj m (key client id o.num) (adj_of m client id o.num -ℤ o.op) else m) q ≡ finite.get (if b then with_adj n (key client id o.num) (adj_of n client id o.num -ℤ o.op) else n) q
-        by true = put-same m n (key client id o.num) q _ _ (ap (λ x. unwrap_or x (pos 0) -ℤ o.op) (same (key client id o.num) seen)) (same q isnt)
-        by false = same q isnt
+    adjs-same : (f g : ℕ → ℤ) → ((num : ℕ) → f num ≡ g num) → (nums : List ℕ) (m n : Entries) → AreSame hid m n → AreSame hid (with_adjs m client id f nums) (with_adjs n client id g nums)
+    adjs-same f g alike [] m n same q isnt = same q isnt
+    adjs-same f g alike (num ∷ nums) m n same q isnt =
+        put-same (with_adjs m client id f nums) (with_adjs n client id g nums) (key client id num) q (f num) (g num) (alike num) (adjs-same f g alike nums m n same q isnt)
 
     pub lowered-same : (ops : List SemOper) (m n : Entries) → AreSame hid m n → AreSame hid (lowered m client id ops) (lowered n client id ops)
-    lowered-same [] m n same = same
-    lowered-same (o ∷ os) m n same = lowered-same os (lowered_by m client id o) (lowered_by n client id o) (step-same o m n same)
+    lowered-same ops m n same =
+        adjs-same (λ num. adj_of m client id num -ℤ sum_of (undoes_on num) ops) (λ num. adj_of n client id num -ℤ sum_of (undoes_on num) ops)
+        (λ num. ap (λ x. unwrap_or x (pos 0) -ℤ sum_of (undoes_on num) ops) (same (key client id num) seen)) (map (λ o. o.num) (filter undoes ops)) m n same
 
     -- what is kept of the entries, after a semop, is what the semop leaves of those that are kept
     pub lowered-kept : (ops : List SemOper) (m : Entries) (other : ℕ → Bool) → ((q : ℕ) → other q ≡ hid q) → finite.retain_keys (lowered m client id ops) (λ k. not (other k.set)) ≡ lowered (finite.retain_keys m (λ k. not (hid k.set))) client id ops

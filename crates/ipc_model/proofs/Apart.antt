@@ -1,6 +1,6 @@
 -- A change of one object, and of what exit undoes there, leaves the others as they were.
 use Rattle.std.proofs.Common.{◌+◌, ◌≡◌, ◌≢◌, ℕ, ℤ, Bool, true, false, cond, eqb, List, [], ◌∷◌, ◌++◌, refl, sym, ap, ◌∙◌, ⊎_elim, Option, Some, None}
-use Rattle.std.specs.Prelude.{◌&&◌, ◌||◌, is_none, not, pos, ◌-ℤ◌, option_map}
+use Rattle.std.specs.Prelude.{◌&&◌, ◌||◌, filter, is_none, map, not, pos, ◌-ℤ◌, option_map}
 use Rattle.std.specs.List.{list_any}
 use Rattle.std.specs.Ordering.{int_eq}
 use Rattle.std.specs.FinMap as finite
@@ -14,11 +14,11 @@ use Rattle.ipc_objects.specs.declared.object.Object.{Object}
 use Rattle.ipc_objects.specs.Objects.{changed, with_perm}
 use Rattle.sem_set.specs.declared.sets.Semaphore.{Semaphore}
 use Rattle.sem_set.specs.Exits.{any_from, undone_from}
-use Rattle.sem_set.specs.Trials.{undoes}
-use Rattle.sem_undo.specs.Entries.{Adjusted, Entries, adj_of, cleared, with_adj, without_client}
+use Rattle.sem_set.specs.Trials.{sum_of, undoes, undoes_on}
+use Rattle.sem_undo.specs.Entries.{Adjusted, Entries, adj_of, cleared, without_client}
 use Rattle.sem_undo.proofs.Entries.{get_kept, get_with_apart, key}
 use Rattle.ipc_model.specs.State.{Caller, SemSet, Sems, pid_of}
-use Rattle.ipc_model.specs.Semaphores.{exited, lowered, lowered_by}
+use Rattle.ipc_model.specs.Semaphores.{exited, lowered, with_adjs}
 
 -- an object at another identifier
 pub changed-apart : {X : Type 0} (t : Table (Object X)) (id at : ℕ) (f : Object X → Object X) → at ≢ id → finite.get (changed t id f).objects at ≡ finite.get t.objects at
@@ -44,16 +44,13 @@ next-free {X} t id is = by (least_from (λ slot. is_usable t slot) t.slots 0) re
         ∙ usable (is_retired t slot) (object_at t slot) (least_found (λ slot. is_usable t slot) t.slots 0 slot found).0
 
 -- a semop lowers semadj on its set alone
-lowered-step : (client id : ℕ) (o : SemOper) (m : Entries) (q : Adjusted) → q.set ≢ id → finite.get (lowered_by m client id o) q ≡ finite.get m q
-lowered-step client id o m q other = by (undoes o)
-  where
-    by : (b : Bool) → finite.get (cond b (with_adj m (key client id o.num) (adj_of m client id o.num -ℤ o.op)) m) q ≡ finite.get m q
-    by true = get_with_apart m (key client id o.num) q (adj_of m client id o.num -ℤ o.op) (λ e. other (ap (λ (k : Adjusted). k.set) e))
-    by false = refl
+adjs-apart : (client id : ℕ) (adj : ℕ → ℤ) (nums : List ℕ) (m : Entries) (q : Adjusted) → q.set ≢ id → finite.get (with_adjs m client id adj nums) q ≡ finite.get m q
+adjs-apart client id adj [] m q other = refl
+adjs-apart client id adj (num ∷ nums) m q other =
+    get_with_apart (with_adjs m client id adj nums) (key client id num) q (adj num) (λ e. other (ap (λ (k : Adjusted). k.set) e)) ∙ adjs-apart client id adj nums m q other
 
 pub lowered-apart : (client id : ℕ) (ops : List SemOper) (m : Entries) (q : Adjusted) → q.set ≢ id → finite.get (lowered m client id ops) q ≡ finite.get m q
-lowered-apart client id [] m q other = refl
-lowered-apart client id (o ∷ os) m q other = lowered-apart client id os (lowered_by m client id o) q other ∙ lowered-step client id o m q other
+lowered-apart client id ops m q other = adjs-apart client id (λ num. adj_of m client id num -ℤ sum_of (undoes_on num) ops) (map (λ o. o.num) (filter undoes ops)) m q other
 
 -- a set's semadj are cleared
 pub cleared-apart : (m : Entries) (id : ℕ) (which : ℕ → Bool) (q : Adjusted) → q.set ≢ id → finite.get (cleared m id which) q ≡ finite.get m q

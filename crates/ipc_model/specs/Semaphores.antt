@@ -3,7 +3,7 @@
 -- isn't; each names one of its semaphores; then the operations are tried in their order. The values: the set is there;
 -- the caller may read or alter it; the semaphore is there, or as many values are given as it has semaphores; a value
 -- that is set is asked for its range first.
-use Rattle.std.specs.Prelude.{ℕ, ◌==◌, nat_le, nat_lt, ℤ, pos, ◌+ℤ◌, ◌-ℤ◌, int_lt, Bool, true, not, ◌&&◌, List, [], ◌∷◌, ◌++◌, length, map, slice_get, slice_set, Option, None, option_map, unwrap_or, if◌then◌else◌}
+use Rattle.std.specs.Prelude.{ℕ, ◌==◌, nat_le, nat_lt, ℤ, pos, ◌+ℤ◌, ◌-ℤ◌, int_lt, Bool, true, not, ◌&&◌, List, [], ◌∷◌, ◌++◌, length, filter, map, slice_get, slice_set, Option, None, option_map, unwrap_or, if◌then◌else◌}
 use Rattle.std.specs.List.{list_all, list_any}
 use Rattle.std.specs.Ordering.{int_eq}
 use Rattle.std.specs.FinMap as finite
@@ -23,7 +23,7 @@ use Rattle.sem_set.specs.declared.trials.Trial.TheVariants as trials
 use Rattle.sem_set.specs.Exits.{any_from, undone_from}
 use Rattle.sem_set.specs.Met.{met_at}
 use Rattle.sem_set.specs.Sets.{is_value, pid_of as last_of, semvmx, set_to, value_of}
-use Rattle.sem_set.specs.Trials.{are_in, committed, is_semadj, must_wait, trial_on, undoes}
+use Rattle.sem_set.specs.Trials.{are_in, committed, is_semadj, must_wait, sum_of, trial_on, undoes, undoes_on}
 use Rattle.sem_undo.specs.Entries.{Entries, adj_of, cleared, with_adj, without_client}
 use Rattle.ipc_model.specs.State.{Caller, SemSet, Sems, pid_of}
 use Rattle.ipc_model.specs.Plan.{Check, Needs, Passes, Plan, Proceeds, Grant, found, in_order, ◌⨾◌}
@@ -101,16 +101,18 @@ trial_checks sems adj earlier [] = []
 trial_checks sems adj earlier (o ∷ os) =
     oper_checks (met_at sems adj earlier o.num) o ++ trial_checks sems adj (earlier ++ o ∷ []) os
 
--- SEM_UNDO: the caller's semadj goes down by what the operation adds
-abbrev pub lowered_by : Entries → ℕ → ℕ → SemOper → Entries
-lowered_by undo client id o =
-    if undoes o
-    then with_adj undo (record { client = client; set = id; num = o.num }) (adj_of undo client id o.num -ℤ o.op)
-    else undo
+-- the semadj of a client at each of these semaphores of a set
+abbrev pub with_adjs : Entries → ℕ → ℕ → (ℕ → ℤ) → List ℕ → Entries
+with_adjs undo client id adj [] = undo
+with_adjs undo client id adj (num ∷ nums) =
+    with_adj (with_adjs undo client id adj nums) (record { client = client; set = id; num = num }) (adj num)
 
+-- SEM_UNDO: at each semaphore of an operation that exit undoes, the caller's semadj goes down by the sum of these
+-- operations on it
 abbrev pub lowered : Entries → ℕ → ℕ → List SemOper → Entries
-lowered undo client id [] = undo
-lowered undo client id (o ∷ os) = lowered (lowered_by undo client id o) client id os
+lowered undo client id ops =
+    with_adjs undo client id (λ num. adj_of undo client id num -ℤ sum_of (undoes_on num) ops)
+    (map (λ o. o.num) (filter undoes ops))
 
 -- all operations are done
 abbrev pub operated : Sems → Caller → ℕ → List SemOper → SemSet → Sems

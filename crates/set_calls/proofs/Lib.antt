@@ -1,6 +1,7 @@
 pub mod Exiting
 pub mod Granting
 pub mod Leaving
+pub mod Lowering
 pub mod Ranging
 pub mod Renewing
 pub mod Reserving

@@ -1,6 +1,6 @@
 -- A trial that goes keeps each semadj in its range.
-use Rattle.std.proofs.Common.{◌≡◌, ℕ, ℤ, pos, Bool, true, false, List, [], ◌∷◌, ◌++◌, ◌+◌, ◌-ℤ◌, refl, sym, ap, subst, ◌∙◌, ⊎_elim, arith}
-use Rattle.std.specs.Prelude.{◌&&◌, ◌||◌, int_lt, neg_ℤ, ◌+ℤ◌, ◌≤ℤ◌, not, Option, Some, None, unwrap_or, if◌then◌else◌}
+use Rattle.std.proofs.Common.{◌≡◌, ℕ, ℤ, pos, Bool, true, false, List, [], ◌∷◌, ◌++◌, ◌+◌, ◌-ℤ◌, refl, sym, ap, ◌∙◌, ⊎_elim, arith}
+use Rattle.std.specs.Prelude.{◌&&◌, int_lt, ◌+ℤ◌, not, Option, Some, None, unwrap_or, if◌then◌else◌}
 use Rattle.std.proofs.lemmas.Bool.{cases_eq, false≢true}
 use Rattle.std.proofs.lemmas.Int.{ints}
 use Rattle.ipc_call.specs.Flags.{has_flag, ipc_nowait}
@@ -10,15 +10,14 @@ use Rattle.sem_set.specs.declared.sets.Semaphore.{Semaphore}
 use Rattle.sem_set.specs.declared.trials.Met.{Met}
 use Rattle.sem_set.specs.declared.trials.Trial.{Trial}
 use Rattle.sem_set.specs.declared.trials.Trial.TheVariants.{Go, Refuse, Wait}
-use Rattle.sem_set.specs.Met.{met_after, met_at}
+use Rattle.sem_set.specs.Met.{met_at}
 use Rattle.sem_set.specs.Sets.{semvmx}
 use Rattle.sem_set.specs.Trials.{is_semadj, must_wait, trial_from, trial_on, undoes}
 use Rattle.sem_set.proofs.Running.{met_elsewhere, met_here}
 use Rattle.sem_undo.specs.Entries.{Adjusted, Entries, adj_of, with_adj}
 use Rattle.sem_undo.proofs.Entries.{get_with_apart, get_with_here, key}
 use Rattle.sem_undo.proofs.Values.{entry_adj}
-use Rattle.ipc_model.specs.Semaphores.{lowered_by}
-use Rattle.set_calls.specs.Operations.{StayInRange}
+use Rattle.set_calls.specs.Operations.{StayInRange, lowered_by}
 
 -- an operation doesn't stop a trial that goes
 gone : (high low nowait far : Bool) (place : ℕ) (rest : Trial)
@@ -37,7 +36,7 @@ in-range false fits is does = absurd (false≢true does)
 
 module _ (undo : Entries) (client id : ℕ) (o : SemOper) where
   -- the semadj of a number after an operation on it, and after one on another
-  adj-here : (n : ℕ) → n ≡ o.num → adj_of (lowered_by undo client id o) client id n ≡ (if undoes o then adj_of undo client id n -ℤ o.op else adj_of undo client id n)
+  pub adj-here : (n : ℕ) → n ≡ o.num → adj_of (lowered_by undo client id o) client id n ≡ (if undoes o then adj_of undo client id n -ℤ o.op else adj_of undo client id n)
   adj-here n same = by (undoes o)
     where
       by : (does : Bool) → adj_of (if does then with_adj undo (key client id o.num) (adj_of undo client id o.num -ℤ o.op) else undo) client id n ≡ (if does then adj_of undo client id n -ℤ o.op else adj_of undo client id n)
@@ -46,7 +45,7 @@ module _ (undo : Entries) (client id : ℕ) (o : SemOper) where
           ∙ entry_adj (adj_of undo client id o.num -ℤ o.op) ∙ ap (λ (k : ℕ). adj_of undo client id k -ℤ o.op) (sym same)
       by false = refl
 
-  adj-elsewhere : (n : ℕ) → (o.num ≡ n → ⊥) → adj_of (lowered_by undo client id o) client id n ≡ adj_of undo client id n
+  pub adj-elsewhere : (n : ℕ) → (o.num ≡ n → ⊥) → adj_of (lowered_by undo client id o) client id n ≡ adj_of undo client id n
   adj-elsewhere n ne = by (undoes o)
     where
       by : (does : Bool) → adj_of (if does then with_adj undo (key client id o.num) (adj_of undo client id o.num -ℤ o.op) else undo) client id n ≡ adj_of undo client id n

@@ -1,15 +1,15 @@
 -- semop in two steps: what is decided on it, and then the operations, for which a row was reserved.
-use Rattle.std.specs.Prelude.{◌≡◌, ⊤, ℕ, ◌-ℤ◌, true, List, [], ◌∷◌, Option, Some, None, Result, Ok, Err}
+use Rattle.std.specs.Prelude.{◌≡◌, ⊤, ℕ, ◌-ℤ◌, true, List, [], ◌∷◌, Option, Some, None, Result, Ok, Err, if◌then◌else◌}
 use Rattle.ipc_call.specs.declared.calls.SemOper.{SemOper}
 use Rattle.ipc_call.specs.declared.limits.Limits.{Limits}
 use Rattle.ipc_call.specs.declared.rules.Rule.{Rule}
 use Rattle.sem_set.specs.declared.trials.Trial.{Trial}
 use Rattle.sem_set.specs.declared.trials.Trial.TheVariants.{Go, Wait, Refuse}
 use Rattle.sem_set.specs.Trials.{is_semadj, undoes}
-use Rattle.sem_undo.specs.Entries.{Entries, adj_of}
+use Rattle.sem_undo.specs.Entries.{Entries, adj_of, with_adj}
 use Rattle.ipc_model.specs.Decision.{Decision, without_answer}
 use Rattle.ipc_model.specs.Plan.{decision}
-use Rattle.ipc_model.specs.Semaphores.{lowered_by, operate}
+use Rattle.ipc_model.specs.Semaphores.{operate}
 use Rattle.ipc_model.specs.State.{Caller, Sems}
 
 -- the decision on semop
@@ -25,6 +25,13 @@ abbrev pub told_by : Trial → Option (Result ⊤ Rule)
 told_by Go = Some (Ok tt)
 told_by (Wait place) = None
 told_by (Refuse rule) = Some (Err rule)
+
+-- an operation lowers the semadj of its semaphore, where exit undoes it
+abbrev pub lowered_by : Entries → ℕ → ℕ → SemOper → Entries
+lowered_by undo client id o =
+    if undoes o
+    then with_adj undo (record { client = client; set = id; num = o.num }) (adj_of undo client id o.num -ℤ o.op)
+    else undo
 
 -- each semadj that the operations lower stays in its range
 abbrev pub StayInRange : Entries → ℕ → ℕ → List SemOper → Type 0

@@ -20,11 +20,11 @@ ghost use Rattle.std.specs.List.{AllByRecursion, list_any};
 ghost use Rattle.std.specs.Ordering.{int_eq};
 ghost use Rattle.ipc_call.specs.declared.limits.Limits.{Limits as LimitsOf};
 ghost use Rattle.ipc_model.specs.Decision.{left_by, outcome_of, without_answer};
-ghost use Rattle.ipc_model.specs.Semaphores.{lowered, lowered_by, set_at, stopping as stopping_at, wanted_by as wanted_of};
+ghost use Rattle.ipc_model.specs.Semaphores.{lowered, set_at, stopping as stopping_at, wanted_by as wanted_of};
 ghost use Rattle.sem_set.specs.Trials.{are_in as are_numbers_of, is_semadj, trial_on, undoes as undoes_at};
 ghost use Rattle.sem_undo.specs.Entries.{adj_of, row_len};
 ghost use Rattle.set_calls.specs.Held.{HasRow, row_at, sems_of};
-ghost use Rattle.set_calls.specs.Operations.{MayOperate, StayInRange, operating, told_by};
+ghost use Rattle.set_calls.specs.Operations.{MayOperate, StayInRange, lowered_by, operating, told_by};
 
 use crate::set::Set;
 use crate::sets::Sets;
