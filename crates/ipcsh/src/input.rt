@@ -7,6 +7,7 @@ ghost use Rattle.ipc_words.specs.Lines.{lines_of};
 ghost use Rattle.ipcsh.specs.Runs.{LeadTo};
 ghost use Rattle.ipcsh.specs.Inputs.{HasRead, Takes};
 
+use crate::listeners::Listener;
 use crate::output::write_bytes;
 use crate::runs::Fault;
 use crate::session::Session;
@@ -38,18 +39,28 @@ impl ScriptInput {
     }
 
     /// Reads bytes, and answers each line whose end is among them.
-    pub(crate) fn take(&mut self, alloc: Global, bytes: &[u8]) -> Result<(), Memory>
+    pub(crate) fn take<L: Listener>(
+        &mut self,
+        alloc: Global,
+        bytes: &[u8],
+        listener: &mut L,
+    ) -> Result<(), Memory>
         requires { self.old.session.lines + length bytes.now < 2 ^ 64 }
         ensures takes { OnOk result (Takes self.old bytes.now self.new) }
         ensures lines { OnOk result (self.new.session.lines ≤ self.old.session.lines + length bytes.now) }
     {
         for b in bytes {
-            self.take_byte(alloc, *b)?;
+            self.take_byte(alloc, *b, listener)?;
         }
         Ok(())
     }
 
-    fn take_byte(&mut self, alloc: Global, b: u8) -> Result<(), Memory>
+    fn take_byte<L: Listener>(
+        &mut self,
+        alloc: Global,
+        b: u8,
+        listener: &mut L,
+    ) -> Result<(), Memory>
         requires { self.old.session.lines + 1 < 2 ^ 64 }
         ensures takes { OnOk result (Takes self.old (b ∷ []) self.new) }
         ensures lines { OnOk result (self.new.session.lines ≤ self.old.session.lines + 1) }
@@ -59,13 +70,17 @@ impl ScriptInput {
             return Ok(());
         }
         let line = self.pending.whole();
-        self.session.answer(alloc, &line, &mut self.rows)?;
+        self.session.answer(alloc, &line, &mut self.rows, listener)?;
         self.pending.clear();
         Ok(())
     }
 
     /// Answers the last line, where the input ended without its line feed.
-    pub(crate) fn finish(&mut self, alloc: Global) -> Result<(), Memory>
+    pub(crate) fn finish<L: Listener>(
+        &mut self,
+        alloc: Global,
+        listener: &mut L,
+    ) -> Result<(), Memory>
         requires { self.old.session.lines + 1 < 2 ^ 64 }
         ensures { OnOk result ((text written : List ℕ) → HasRead text written self.old
             → LeadTo (lines_of text) (record { session = self.new.session; output = written ++ string_bytes self.new.rows })) }
@@ -74,7 +89,7 @@ impl ScriptInput {
             return Ok(());
         }
         let line = self.pending.last();
-        self.session.answer(alloc, &line, &mut self.rows)
+        self.session.answer(alloc, &line, &mut self.rows, listener)
     }
 
     /// Writes the rows that wait.

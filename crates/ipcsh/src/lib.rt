@@ -4,6 +4,7 @@
 
 mod commands;
 mod input;
+mod listeners;
 mod output;
 mod pieces;
 mod plans;
@@ -11,6 +12,7 @@ mod readings;
 mod runs;
 mod session;
 
+pub use listeners::Listener;
 pub use output::write_bytes;
-pub use plans::{Plan, read_plan};
-pub use runs::{Fault, Summary, run};
+pub use plans::{Plan, read_plan, read_plan_with};
+pub use runs::{Fault, Summary, run, run_with};

@@ -7,6 +7,7 @@ ghost use Rattle.ipcsh.specs.Plans.{IsPlan, IsReady, ReadsPlan, StopsReading, af
 ghost use Rattle.ipcsh.specs.Readings.{CanJoin};
 ghost use Rattle.ipcsh.specs.Runs.{longest_input};
 
+use crate::listeners::Listener;
 use crate::pieces::read_text;
 use crate::readings::Reading;
 use crate::runs::Fault;
@@ -47,16 +48,28 @@ pub fn read_plan<R: Read>(alloc: Global, reader: &mut R) -> Result<Plan, Fault>
     ensures ok { IfOk result (ReadsPlan (R.remaining reader.old) (R.remaining reader.new)) }
     ensures fault { IfErr result (StopsReading (R.remaining reader.old) (R.remaining reader.new)) }
 {
-    let text = read_text(alloc, reader)?;
-    Ok(plan_of(alloc, text.as_slice())?)
+    read_plan_with(alloc, reader, &mut ())
 }
 
-fn plan_of(alloc: Global, text: &[u8]) -> Result<Plan, Memory>
+/// As `read_plan`, and a listener hears of the lines. No row is written here, so it doesn't hear of that.
+pub fn read_plan_with<R: Read, L: Listener>(
+    alloc: Global,
+    reader: &mut R,
+    listener: &mut L,
+) -> Result<Plan, Fault>
+    ensures ok { IfOk result (ReadsPlan (R.remaining reader.old) (R.remaining reader.new)) }
+    ensures fault { IfErr result (StopsReading (R.remaining reader.old) (R.remaining reader.new)) }
+{
+    let text = read_text(alloc, reader)?;
+    Ok(plan_of(alloc, text.as_slice(), listener)?)
+}
+
+fn plan_of<L: Listener>(alloc: Global, text: &[u8], listener: &mut L) -> Result<Plan, Memory>
     requires { length text.now ≤ longest_input }
     ensures { IfOk result (IsPlan (planned (lines_of text.now))) }
 {
     let mut planning = Planning::new(alloc);
-    match take_lines(alloc, text, &mut planning) {
+    match take_lines(alloc, text, &mut planning, listener) {
         Ok(()) => Ok(planning.into_plan()),
         Err(memory) => {
             drop(planning);
@@ -66,7 +79,12 @@ fn plan_of(alloc: Global, text: &[u8]) -> Result<Plan, Memory>
 }
 
 /// Takes the lines of a text, the first ones of a plan.
-fn take_lines(alloc: Global, text: &[u8], planning: &mut Planning) -> Result<(), Memory>
+fn take_lines<L: Listener>(
+    alloc: Global,
+    text: &[u8],
+    planning: &mut Planning,
+    listener: &mut L,
+) -> Result<(), Memory>
     requires few { length text.now ≤ longest_input }
     requires first { planning.old ≡ nothing_planned }
     requires ready { IsReady planning.old }
@@ -76,14 +94,14 @@ fn take_lines(alloc: Global, text: &[u8], planning: &mut Planning) -> Result<(),
     let mut pending = Pending::new(alloc);
     for b in text {
         if *b == b'\n' {
-            planning.take_line(alloc, &pending.whole())?;
+            planning.take_line(alloc, &pending.whole(), listener)?;
             pending.clear();
         } else {
             pending.push(*b)?;
         }
     }
     if !pending.is_empty() {
-        planning.take_line(alloc, &pending.last())?;
+        planning.take_line(alloc, &pending.last(), listener)?;
     }
     Ok(())
 }
@@ -120,7 +138,12 @@ impl Planning {
     }
 
     /// Reads one line.
-    fn take_line(&mut self, alloc: Global, line: &Line<'_>) -> Result<(), Memory>
+    fn take_line<L: Listener>(
+        &mut self,
+        alloc: Global,
+        line: &Line<'_>,
+        listener: &mut L,
+    ) -> Result<(), Memory>
         requires lines { self.old.session.lines + 1 < 2 ^ 64 }
         requires ready { IsReady self.old }
         ensures takes { OnOk result (self.new ≡ after_plan_line self.old (content_of line.now)) }
@@ -128,7 +151,9 @@ impl Planning {
         ensures ready { OnOk result (IsReady self.new) }
     {
         self.session.count_line();
-        match self.session.read(alloc, line)? {
+        let reading = self.session.read(alloc, line)?;
+        self.session.tell(line, &reading, listener);
+        match reading {
             Reading::Command(client, command) => self.add_job(alloc, client, command),
             Reading::Client(name, creds) => self.add_client(alloc, name, creds),
             reading => self.session.carry_out(alloc, reading, &mut self.rows),

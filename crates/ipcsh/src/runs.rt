@@ -6,6 +6,7 @@ ghost use Rattle.ipcsh.specs.Session.{fresh_session};
 ghost use Rattle.ipcsh.specs.declared.runs.Fault.TheVariants.{Memory as out_of_memory};
 
 use crate::input::ScriptInput;
+use crate::listeners::Listener;
 use crate::pieces::{INPUT_MAX, PIECE, read_piece, room_after};
 use std::alloc::{AllocError, Global};
 use std::io::{Read, Write};
@@ -70,20 +71,44 @@ pub fn run<R: Read, W: Write>(
       written_after = W.contents writer.new;
     })) }
 {
+    run_with(alloc, reader, writer, &mut ())
+}
+
+/// As `run`, and a listener hears of the lines. It hears that rows were written only where all of them were.
+pub fn run_with<R: Read, W: Write, L: Listener>(
+    alloc: Global,
+    reader: &mut R,
+    writer: &mut W,
+    listener: &mut L,
+) -> Result<Summary, Fault>
+    ensures ok { IfOk result (WritesWhole (record {
+      read_before = R.remaining reader.old;
+      read_after = R.remaining reader.new;
+      written_before = W.contents writer.old;
+      written_after = W.contents writer.new;
+    })) }
+    ensures fault { IfErr result (StopsBy (record {
+      read_before = R.remaining reader.old;
+      read_after = R.remaining reader.new;
+      written_before = W.contents writer.old;
+      written_after = W.contents writer.new;
+    })) }
+{
     let mut piece = vec![in alloc; 0u8; PIECE]?;
     let mut input = ScriptInput::new(alloc);
-    let answered = answer_all(alloc, reader, writer, &mut piece, &mut input);
+    let answered = answer_all(alloc, reader, writer, &mut piece, &mut input, listener);
     drop(input);
     answered
 }
 
 /// Answers a script from its first byte to its end or a fault, with a piece to read into.
-fn answer_all<R: Read, W: Write>(
+fn answer_all<R: Read, W: Write, L: Listener>(
     alloc: Global,
     reader: &mut R,
     writer: &mut W,
     piece: &mut [u8],
     input: &mut ScriptInput,
+    listener: &mut L,
 ) -> Result<Summary, Fault>
     requires piece { length piece.old ≡ 65536 }
     requires session { input.old.session ≡ fresh_session }
@@ -106,15 +131,17 @@ fn answer_all<R: Read, W: Write>(
     'pieces: loop {
         let taken = read_piece(reader, piece, room_after(count))?;
         if taken == 0 {
-            input.finish(alloc)?;
+            input.finish(alloc, listener)?;
             input.flush(writer)?;
+            listener.written();
             return Ok(input.session.summary());
         }
         if count == INPUT_MAX {
             return Err(Fault::TooMuch);
         }
         count += taken;
-        input.take(alloc, &piece[..taken])?;
+        input.take(alloc, &piece[..taken], listener)?;
         input.flush(writer)?;
+        listener.written();
     }
 }

@@ -13,6 +13,7 @@ ghost use Rattle.ipc_call.specs.Limits.{are_in_range, is_in_range, with_limit as
 ghost use Rattle.ipc_words.specs.LineText.{content_of};
 ghost use Rattle.ipcsh.specs.Runs.{summary_of};
 
+use crate::listeners::Listener;
 use crate::readings::Reading;
 use crate::runs::Summary;
 use ipc_call::{Call, Limit, Limits, Memory, Reply};
@@ -149,11 +150,12 @@ impl Session {
 
     /// Reads one line, does what it says, and prints its rows.
     #[tactic(auto, unfolding(crate::specs::Output::answered))]
-    pub(crate) fn answer(
+    pub(crate) fn answer<L: Listener>(
         &mut self,
         alloc: Global,
         line: &Line<'_>,
         rows: &mut String,
+        listener: &mut L,
     ) -> Result<(), Memory>
         requires { self.old.lines + 1 < 2 ^ 64 }
         ensures answer { OnOk result (Answers self.old (content_of line.now) self.new (string_bytes rows.old) (string_bytes rows.new)) }
@@ -161,7 +163,20 @@ impl Session {
     {
         self.count_line();
         let reading = self.read(alloc, line)?;
+        self.tell(line, &reading, listener);
         self.carry_out(alloc, reading, rows)
+    }
+
+    /// Lets a listener hear what the line just counted says.
+    pub(crate) fn tell<L: Listener>(&self, line: &Line<'_>, reading: &Reading, listener: &mut L) {
+        match (reading, line) {
+            (Reading::Bad(reason), _) => listener.bad(self.lines, line, *reason),
+            (Reading::Client(..), Line::Text(text)) => listener.client(self.lines, text),
+            (Reading::Command(client, command), Line::Text(text)) => {
+                listener.calls(self.lines, *client, text, command)
+            }
+            _ => {}
+        }
     }
 
     /// Does what a line says, and prints its rows.

@@ -6,7 +6,7 @@ use Rattle.ipcsh.proofs.plans.take_lines.Goals as goal
 use Rattle.ipcsh.proofs.plans.take_lines.Goals.{then-b-eq10+in_ok-take_line, else-b-eq10+in_ok-push, then-not-is_empty+in_ok-take_line-2, else-not-is_empty}
 
 pub loop-b-preserved : goal.loop-b-preserved
-loop-b-preserved c = elim c.if-b-eq10.branch [
+loop-b-preserved g c = elim c.if-b-eq10.branch [
   | then-b-eq10+in_ok-take_line w ↦ record {
     has = Has-feed c.args.text.now c.loop-b.pending _ c.loop-b.planning _ (content_of w.whole.result) c.loop-b.b-index (get_or c.args.text.now c.loop-b.b-index 0) (omega arith) refl w.if-b-eq10.true c.loop-b.invariant.has w.whole.ensures (w.planning-is ∙ w.in_ok-take_line.ensures.takes) (w.pending-is ∙ w.clear.ensures);
     count = search rules;
@@ -20,7 +20,7 @@ loop-b-preserved c = elim c.if-b-eq10.branch [
 ]
 
 pub returns-clause-planned : goal.returns-clause-planned
-returns-clause-planned c =
+returns-clause-planned g c =
     let h = Has-all c.args.text.now c.loop-b.pending c.loop-b.planning c.loop-b.b-index (omega arith) c.loop-b.invariant.has in
     elim c.if-not-is_empty.branch [
       | then-not-is_empty+in_ok-take_line-2 w ↦

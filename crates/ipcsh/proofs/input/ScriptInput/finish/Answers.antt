@@ -9,12 +9,12 @@ use Rattle.ipcsh.proofs.InputLemmas.{LeadTo-line, last_is, lines_with_last, line
 use Rattle.ipcsh.proofs.input.ScriptInput.finish.Goals as goal
 
 pub returns-then-is_empty : goal.returns-then-is_empty
-returns-then-is_empty c = λ text written h.
+returns-then-is_empty g c = λ text written h.
     let none : (split text).rest ≡ [] = none_kept text c.args.self.now.pending h.kept (c.is_empty.ensures.0 c.if-is_empty.true) in
     subst (λ (ls : List (Option (List ℕ))). LeadTo ls (record { session = c.args.self.now.session; output = written ++ string_bytes c.args.self.now.rows })) (lines_without_last text none) h.lines
 
 pub returns : goal.returns
-returns c = on_ok_weaker c.answer.result (λ a. λ text written h.
+returns g c = on_ok_weaker c.answer.result (λ a. λ text written h.
     let i = c.args.self.now in
     let line = content_of c.last-line.result in
     let some = some_kept text i.pending h.kept (λ e. both_ways c.is_empty.result c.if-is_empty.false (c.is_empty.ensures.1 e)) in

@@ -7,7 +7,7 @@ use Rattle.ipcsh.proofs.InputLemmas.{HasRead-feed, kept_byte, complete_byte}
 use Rattle.ipcsh.proofs.input.ScriptInput.take_byte.Goals as goal
 
 pub returns-then-b-ne10-clause-takes : goal.returns-then-b-ne10-clause-takes
-returns-then-b-ne10-clause-takes c = λ text written h.
+returns-then-b-ne10-clause-takes g c = λ text written h.
     let i = c.args.self.now in
     record {
       kept = kept_byte text c.args.b i.pending c.push.new.self c.if-b-ne10.true h.kept c.in_ok-push.ensures.ok;
@@ -15,5 +15,5 @@ returns-then-b-ne10-clause-takes c = λ text written h.
     }
 
 pub returns-clause-takes : goal.returns-clause-takes
-returns-clause-takes c = λ text written h.
+returns-clause-takes g c = λ text written h.
     subst (λ (b : ℕ). HasRead (text ++ b ∷ []) written (record { session = c.answer.new.self; pending = c.clear.new.self; rows = c.answer.new.rows })) (sym c.if-b-ne10.false) (HasRead-feed text written c.args.self.now (record { session = c.answer.new.self; pending = c.clear.new.self; rows = c.answer.new.rows }) (content_of c.whole-line.result) h c.whole-line.ensures c.clear.ensures c.in_ok-answer.ensures.answer)

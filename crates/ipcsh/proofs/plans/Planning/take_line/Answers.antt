@@ -8,21 +8,21 @@ use Rattle.ipcsh.proofs.PlanLemmas.{at_line, plan_at, planned_told, ready_counte
 use Rattle.ipcsh.proofs.plans.Planning.take_line.Goals as goal
 
 pub returns-in-Command-clause-takes : goal.returns-in-Command-clause-takes
-returns-in-Command-clause-takes c =
+returns-in-Command-clause-takes g c =
     let jobs = map (λ own. own.items) c.self.inside.jobs.items in
     let rows = string_bytes c.self.inside.rows in
     let step = at_line _ c.self.inside.session c.count_line.new.self jobs rows (content_of c.args.line.now) c.in_ok-reading.reading c.self.view_is c.count_line.ensures.value c.in_ok-reading.ensures.value in
     on_ok_weaker c.add_job.result (λ e. e ∙ ap (planned_by (plan_at c.count_line.new.self jobs rows)) (sym c.in-Command.is) ∙ step) c.add_job.ensures.value
 
 pub returns-in-Client-clause-takes : goal.returns-in-Client-clause-takes
-returns-in-Client-clause-takes c =
+returns-in-Client-clause-takes g c =
     let jobs = map (λ own. own.items) c.self.inside.jobs.items in
     let rows = string_bytes c.self.inside.rows in
     let step = at_line _ c.self.inside.session c.count_line.new.self jobs rows (content_of c.args.line.now) c.in_ok-reading.reading c.self.view_is c.count_line.ensures.value c.in_ok-reading.ensures.value in
     on_ok_weaker c.add_client.result (λ e. e ∙ ap (planned_by (plan_at c.count_line.new.self jobs rows)) (sym c.in-Client.is) ∙ step) c.add_client.ensures.value
 
 pub returns-in_default : goal.returns-in_default
-returns-in_default c =
+returns-in_default g c =
     let jobs = map (λ own. own.items) c.self.inside.jobs.items in
     let rows = string_bytes c.self.inside.rows in
     let p = plan_at c.count_line.new.self jobs rows in

@@ -4,7 +4,7 @@ use Rattle.std.proofs.lemmas.Result.{err_from_is_err_and}
 use Rattle.ipcsh.specs.declared.runs.Fault.{Fault}
 use Rattle.ipcsh.specs.declared.runs.Fault.TheVariants as faults
 use Rattle.ipcsh.proofs.RunLemmas.{at_start, stops_at}
-use Rattle.ipcsh.proofs.runs.run.Goals as goal
+use Rattle.ipcsh.proofs.runs.run_with.Goals as goal
 
 pub returns-in_err-piece-clause-fault : goal.returns-in_err-piece-clause-fault
 returns-in_err-piece-clause-fault g c =
