@@ -1,0 +1,118 @@
+// Lines of a client that make no call.
+
+use ipc_arguments::{
+    Argument, CALLS, Form, Quoted, Told, explain_comment, explain_word, form_of, nearest,
+};
+use std::fmt::Write;
+
+/// Appends what is wrong with the words after the name of a client.
+pub(crate) fn explain_call(out: &mut String, words: &[&[u8]]) -> Told {
+    let Some((call, arguments)) = words.split_first() else {
+        return out.push_str("a call follows the client's name, as in alice msgget 5 01600");
+    };
+    match form_of(call) {
+        Some(form) => explain_arguments(out, form, arguments),
+        None => explain_no_call(out, call),
+    }
+}
+
+fn explain_arguments(out: &mut String, form: Form, words: &[&[u8]]) -> Told {
+    let call = form.call;
+    for (index, word) in words.iter().enumerate() {
+        let Some(argument) = form.argument_at(index) else {
+            return explain_more(out, form, word);
+        };
+        if !argument.takes(word) {
+            if words.len() > form.takes.len() && form.takes.last() == Some(&argument) {
+                return explain_parts(out, form, words, word);
+            }
+            write!(out, "{call}: ")?;
+            return explain_word(out, argument, word);
+        }
+    }
+    match form.takes.get(words.len()) {
+        Some(argument) => {
+            let name = argument.name();
+            write!(out, "{form}; {name} is missing")
+        }
+        None => write!(out, "{form}"),
+    }
+}
+
+fn explain_more(out: &mut String, form: Form, word: &[u8]) -> Told {
+    if word.starts_with(b"#") {
+        return explain_comment(out, word);
+    }
+    let shown = Quoted(word);
+    write!(out, "{form}; {shown} is an argument too many")
+}
+
+/// Appends what is wrong where the last argument is bad and others follow it: blanks may have cut flags or a text.
+fn explain_parts(out: &mut String, form: Form, words: &[&[u8]], word: &[u8]) -> Told {
+    let shown = Quoted(word);
+    if word.starts_with(b"#") {
+        explain_comment(out, word)
+    } else if words.iter().any(|word| *word == b"|".as_slice()) {
+        write!(
+            out,
+            "{form}; from {shown} on write one number, as 01600 for IPC_CREAT | 0600"
+        )
+    } else if form.takes.contains(&Argument::Text) {
+        write!(
+            out,
+            "{form}; before {shown} stands a blank, which x: writes as 20 and t: can't"
+        )
+    } else {
+        explain_more(out, form, word)
+    }
+}
+
+/// What to write for a word of C or of a shell.
+fn other_name(call: &[u8]) -> Option<&'static str> {
+    match call {
+        b"msgctl" | b"shmctl" | b"ctl" => Some("its commands are calls: stat, set, rmid"),
+        b"semctl" => Some(
+            "its commands are calls: stat, set, rmid, getval, setval, getall, setall, getpid, getncnt, getzcnt",
+        ),
+        b"get" => Some("there are msgget, semget and shmget"),
+        b"send" | b"msgsend" => Some("a message is sent by msgsnd"),
+        b"recv" | b"receive" | b"msgrecv" => Some("a message is received by msgrcv"),
+        b"rm" | b"remove" | b"delete" | b"IPC_RMID" => Some("an object is removed by rmid"),
+        b"IPC_STAT" => Some("write stat"),
+        b"IPC_SET" | b"chmod" | b"chown" => Some("owner, group and mode are changed by set"),
+        b"GETVAL" | b"SETVAL" | b"GETALL" | b"SETALL" | b"GETPID" | b"GETNCNT" | b"GETZCNT" => {
+            Some("write it in small letters")
+        }
+        b"kill" | b"signal" => Some("a waiting call is ended by interrupt PID"),
+        b"sleep" | b"wait" | b"alarm" => Some("the time is told by a line clock NUMBER"),
+        b"seteuid" | b"setegid" | b"setuid" | b"setgid" | b"setgroups" | b"su" | b"sudo" => {
+            Some("a client takes on another user by setcreds")
+        }
+        b"fork" | b"exec" | b"clone" => Some(
+            "a process is a client, by a line client NAME UID GID",
+        ),
+        b"quit" | b"_exit" | b"end" => Some("write exit"),
+        b"ftok" => Some("a key is any number, as 5 or 0x1234"),
+        b"read" | b"write" | b"memcpy" => Some(
+            "bytes of a segment are read by shmread and written by shmwrite",
+        ),
+        b"ls" | b"list" => Some("objects are listed by ipcs"),
+        b"client" | b"limit" | b"clock" => Some("a directive stands at the beginning of its line"),
+        _ => None,
+    }
+}
+
+fn explain_no_call(out: &mut String, call: &[u8]) -> Told {
+    if call.starts_with(b"#") {
+        return explain_comment(out, call);
+    }
+    let shown = Quoted(call);
+    write!(out, "{shown} is no call; ")?;
+    if let Some(text) = other_name(call) {
+        return out.push_str(text);
+    }
+    match nearest(call, CALLS) {
+        Some(name) => write!(out, "did you mean {name}?"),
+        None => out.push_str("docs/LANGUAGE.md has the calls on one screen"),
+    }
+}

@@ -1,0 +1,154 @@
+// Client lines.
+
+use ipc_arguments::{
+    Argument, Quoted, Told, are_numbers, explain_comment, explain_word, is_one_of, nearest,
+};
+use ipc_words::{number_32, split_field};
+use std::fmt::Write;
+
+/// The capabilities that a client may have.
+const CAPS: &str = "IPC_OWNER SYS_ADMIN SYS_RESOURCE SETUID SETGID";
+
+/// The options of a client line, in their order.
+const OPTIONS: [&str; 3] = ["groups=", "caps=", "saved="];
+
+/// How many groups a client line may name.
+const GROUPS_MAX: usize = 32;
+
+const FORM: &str = "client takes NAME UID GID [groups=G,..] [caps=CAP,..] [saved=UID:GID]";
+
+/// Appends what is wrong with the words after `client`.
+pub(crate) fn explain_client(out: &mut String, words: &[&[u8]]) -> Told {
+    match words {
+        [] => write!(out, "{FORM}; NAME is missing"),
+        [name, ..] if !is_name(name) => explain_name(out, name),
+        [_] => write!(out, "{FORM}; UID is missing"),
+        [_, uid, ..] if number_32(uid).is_none() => explain_argument(out, Argument::Uid, uid),
+        [_, _] => write!(out, "{FORM}; GID is missing"),
+        [_, _, gid, ..] if number_32(gid).is_none() => explain_argument(out, Argument::Gid, gid),
+        [_, _, _, options @ ..] => explain_options(out, options),
+    }
+}
+
+fn explain_argument(out: &mut String, argument: Argument, word: &[u8]) -> Told {
+    out.push_str("client: ")?;
+    explain_word(out, argument, word)
+}
+
+/// Whether a word may be the name of a client.
+fn is_name(word: &[u8]) -> bool {
+    let is_name_byte = |byte: &u8| byte.is_ascii_lowercase() || byte.is_ascii_digit();
+    word.first().is_some_and(|byte| byte.is_ascii_lowercase())
+        && word.len() <= 16
+        && word.iter().all(is_name_byte)
+        && !matches!(word, b"client" | b"limit" | b"clock")
+}
+
+fn explain_name(out: &mut String, word: &[u8]) -> Told {
+    let name = Quoted(word);
+    write!(out, "client: NAME {name}: ")?;
+    match word {
+        b"client" | b"limit" | b"clock" => out.push_str("it begins a directive; take another"),
+        _ if word.len() > 16 => out.push_str("a name has at most 16 letters and digits"),
+        _ => out.push_str("a name is small letters and digits, 1 to 16, a letter first"),
+    }
+}
+
+fn explain_options(out: &mut String, options: &[&[u8]]) -> Told {
+    let mut least = 0;
+    for word in options {
+        let Some(place) = OPTIONS
+            .iter()
+            .position(|option| word.starts_with(option.as_bytes()))
+        else {
+            return explain_no_option(out, word);
+        };
+        if place < least {
+            let option = Quoted(word);
+            return write!(
+                out,
+                "client: {option}: the order is groups=, caps=, saved=, each at most once"
+            );
+        }
+        let (_, text) = split_field(word, b'=');
+        let text = text.unwrap_or(word);
+        if !takes(place, text) {
+            return explain_option(out, place, word, text);
+        }
+        least = place.saturating_add(1);
+    }
+    out.push_str(FORM)
+}
+
+fn explain_no_option(out: &mut String, word: &[u8]) -> Told {
+    if word.starts_with(b"#") {
+        return explain_comment(out, word);
+    }
+    let shown = Quoted(word);
+    write!(
+        out,
+        "client: {shown} is no option; after GID come groups=10,20, caps=IPC_OWNER, saved=100:10"
+    )
+}
+
+/// Whether the option at a place takes the text.
+fn takes(place: usize, text: &[u8]) -> bool {
+    match place {
+        0 => are_numbers(text) && text.iter().filter(|byte| **byte == b',').count() < GROUPS_MAX,
+        1 => bad_capability(text).is_none(),
+        _ => {
+            let (user, group) = split_field(text, b':');
+            number_32(user).is_some() && group.is_some_and(|group| number_32(group).is_some())
+        }
+    }
+}
+
+/// The first field that is no capability.
+fn bad_capability(text: &[u8]) -> Option<&[u8]> {
+    text.split(|byte| *byte == b',')
+        .find(|field| !is_one_of(field, CAPS))
+}
+
+fn explain_option(out: &mut String, place: usize, word: &[u8], text: &[u8]) -> Told {
+    let shown = Quoted(word);
+    write!(out, "client: {shown}: ")?;
+    match place {
+        0 => explain_groups(out, text),
+        1 => explain_capabilities(out, text),
+        _ => out.push_str("saved= takes a user and a group, as saved=100:10"),
+    }
+}
+
+fn explain_groups(out: &mut String, text: &[u8]) -> Told {
+    match text {
+        b"" => out.push_str("no group follows; write groups=10,20, or leave groups= out"),
+        b"-" => out.push_str("a client without groups has no groups="),
+        [.., b','] => out.push_str("no blank follows a comma; write groups=10,20"),
+        _ if are_numbers(text) => out.push_str("a client has at most 32 groups"),
+        _ => out.push_str("groups are numbers, separated by commas; write groups=10,20"),
+    }
+}
+
+fn explain_capabilities(out: &mut String, text: &[u8]) -> Told {
+    let field = bad_capability(text).unwrap_or(text);
+    if field.is_empty() {
+        return out.push_str(
+            "names stand here, separated by commas without blanks, as caps=IPC_OWNER,SETUID",
+        );
+    }
+    if field
+        .iter()
+        .any(|byte| matches!(*byte, b'|' | b'+' | b':' | b';'))
+    {
+        return out.push_str("commas separate capabilities, as caps=IPC_OWNER,SETUID");
+    }
+    let short = match field {
+        [b'C' | b'c', b'A' | b'a', b'P' | b'p', b'_', short @ ..] => short,
+        _ => field,
+    };
+    if let Some(name) = nearest(short, CAPS) {
+        return write!(out, "write {name}");
+    }
+    let field = Quoted(field);
+    write!(out, "{field} is no capability here; they are {CAPS}")
+}

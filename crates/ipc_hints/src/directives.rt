@@ -1,0 +1,75 @@
+// The lines of limits and of the clock.
+
+use ipc_arguments::{Argument, Quoted, Told, explain_comment, explain_word, nearest};
+use ipc_call::{Limit, Memory};
+use std::fmt::Write;
+
+/// The limits, by name.
+const LIMITS: &str = "slots first-seq msgmax msgmnb semmsl semopm shmmax";
+
+fn limit_named(word: &[u8]) -> Option<Limit> {
+    match word {
+        b"slots" => Some(Limit::Slots),
+        b"first-seq" => Some(Limit::FirstSeq),
+        b"msgmax" => Some(Limit::MsgMax),
+        b"msgmnb" => Some(Limit::MsgMnb),
+        b"semmsl" => Some(Limit::SemMsl),
+        b"semopm" => Some(Limit::SemOpm),
+        b"shmmax" => Some(Limit::ShmMax),
+        _ => None,
+    }
+}
+
+/// Appends what is wrong with the words after `limit`.
+pub(crate) fn explain_limit(out: &mut String, words: &[&[u8]]) -> Told {
+    let Some((name, values)) = words.split_first() else {
+        return out.push_str("limit takes LIMIT NUMBER, as limit slots 16; LIMIT is missing");
+    };
+    let Some(limit) = limit_named(name) else {
+        return explain_name(out, name);
+    };
+    match values {
+        [] => out.push_str("limit takes LIMIT NUMBER, as limit slots 16; NUMBER is missing"),
+        [value] => explain_value(out, name, limit, value),
+        [_, more, ..] => explain_more(out, "limit takes LIMIT NUMBER", more),
+    }
+}
+
+fn explain_name(out: &mut String, name: &[u8]) -> Told {
+    let shown = Quoted(name);
+    write!(out, "limit: {shown} is no limit; ")?;
+    match nearest(name, LIMITS) {
+        Some(name) => write!(out, "did you mean {name}?"),
+        None => write!(out, "they are {LIMITS}"),
+    }
+}
+
+fn explain_value(out: &mut String, name: &[u8], limit: Limit, value: &[u8]) -> Told {
+    let (name, value, least, most) = (Quoted(name), Quoted(value), limit.least(), limit.most());
+    write!(
+        out,
+        "limit: {name} is {least} to {most}, not {value}; it stays as it was"
+    )
+}
+
+fn explain_more(out: &mut String, form: &str, word: &[u8]) -> Told {
+    if word.starts_with(b"#") {
+        return explain_comment(out, word);
+    }
+    let word = Quoted(word);
+    write!(out, "{form}; {word} is an argument too many")
+}
+
+/// Appends what is wrong with the words after `clock`.
+pub(crate) fn explain_clock(out: &mut String, words: &[&[u8]]) -> Told {
+    match words {
+        [] => out.push_str(
+            "clock takes NUMBER, the time in seconds, as clock 60; NUMBER is missing",
+        ),
+        [time] => {
+            out.push_str("clock: ")?;
+            explain_word(out, Argument::Time, time)
+        }
+        [_, more, ..] => explain_more(out, "clock takes NUMBER", more),
+    }
+}
