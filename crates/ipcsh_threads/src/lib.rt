@@ -5,4 +5,4 @@
 mod rows;
 mod running;
 
-pub use running::threads;
+pub use running::{threads, threads_with};

@@ -10,7 +10,7 @@ use crate::rows::{print_counts, print_objects};
 use ipc_call::Memory;
 use ipc_jobs::{OpenGate, ThreadsEnd, run_threads};
 use ipc_text::Name;
-use ipcsh::{Fault, Plan, Summary, read_plan, write_bytes};
+use ipcsh::{Fault, Listener, Plan, Summary, read_plan_with, write_bytes};
 use std::alloc::Global;
 use std::io::{Read, Write};
 use std::sync::Wait;
@@ -40,8 +40,33 @@ pub fn threads<R: Threads + Sync + Wait, I: Read, W: Write>(
       written_after = W.contents writer.new;
     })) }
 {
-    let plan = read_plan(alloc, reader)?;
+    threads_with(rt, alloc, reader, writer, &mut ())
+}
+
+/// As `threads`, and a listener hears of the lines, and that rows were written when those of all bad lines were.
+pub fn threads_with<R: Threads + Sync + Wait, I: Read, W: Write, L: Listener>(
+    rt: &R,
+    alloc: Global,
+    reader: &mut I,
+    writer: &mut W,
+    listener: &mut L,
+) -> Result<Summary, Fault>
+    ensures ok { IfOk result (WritesThreads (record {
+      read_before = I.remaining reader.old;
+      read_after = I.remaining reader.new;
+      written_before = W.contents writer.old;
+      written_after = W.contents writer.new;
+    })) }
+    ensures fault { IfErr result (StopsThreads (record {
+      read_before = I.remaining reader.old;
+      read_after = I.remaining reader.new;
+      written_before = W.contents writer.old;
+      written_after = W.contents writer.new;
+    })) }
+{
+    let plan = read_plan_with(alloc, reader, listener)?;
     write_bytes(writer, plan.rows.as_bytes())?;
+    listener.written();
     let (lines, bad) = (plan.lines, plan.bad);
     if !plan.has_jobs {
         return Ok(Summary {

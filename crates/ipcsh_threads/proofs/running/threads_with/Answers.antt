@@ -5,7 +5,7 @@ use Rattle.std.proofs.lemmas.Result.{err_from_is_err_and}
 use Rattle.ipcsh.specs.declared.runs.Fault.{Fault}
 use Rattle.ipcsh.specs.declared.runs.Fault.TheVariants as faults
 use Rattle.ipcsh_threads.proofs.ThreadLemmas.{last_write_stops, memory_stops, stops_by, with_jobs}
-use Rattle.ipcsh_threads.proofs.running.threads.Goals as goal
+use Rattle.ipcsh_threads.proofs.running.threads_with.Goals as goal
 
 pub returns-in_err-ending-clause-fault : goal.returns-in_err-ending-clause-fault
 returns-in_err-ending-clause-fault g c =
