@@ -1,5 +1,5 @@
-/* Preloaded into a program: refuses the allocation whose number, from 1, is in REFUSE, and after it none; or with EACH=N each
-   Nth one. */
+/* Preloaded into a program: refuses the allocation whose number, from 1, is in REFUSE, with as many after it as IN_A_ROW says, else it
+   alone, and after these none; or with EACH=N each Nth one. */
 #define _GNU_SOURCE
 #include <dlfcn.h>
 #include <errno.h>
@@ -9,6 +9,7 @@
 
 static long left = -1;
 static long each;
+static long row;
 
 static long number_in(const char *name)
 {
@@ -16,15 +17,20 @@ static long number_in(const char *name)
     return number ? atol(number) : 0;
 }
 
+static void begin(void)
+{
+    each = number_in("EACH");
+    left = each ? each : number_in("REFUSE");
+    row = number_in("IN_A_ROW");
+}
+
 static int refused(void)
 {
-    if (left < 0) {
-        each = number_in("EACH");
-        left = each ? each : number_in("REFUSE");
-    }
+    if (left < 0)
+        begin();
     if (left == 0 || --left != 0)
         return 0;
-    left = each;
+    left = each ? each : --row > 0;
     if (write(2, "refused\n", 8) != 8)
         _exit(99);
     errno = ENOMEM;
