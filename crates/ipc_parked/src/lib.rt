@@ -1,5 +1,5 @@
-//! The calls that wait, by client and in order of arrival. None is copied, and only what parks one takes
-//! memory.
+//! The calls that wait, by client and in order of arrival. None is copied, and only what parks one can
+//! fail for want of memory.
 #![tactic(auto)]
 
 mod marks;

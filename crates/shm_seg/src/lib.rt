@@ -1,6 +1,6 @@
 //! Shared memory segments and who has which of them attached (shmget(2), shmop(2), shmctl(2)): the bytes of a segment
-//! with the mark of its removal, the attachments of clients, and how many are to each segment. `Segment::new` and
-//! `Segment::read` allocate, once each, and `Attachments::attach`; nothing else does. That an attachment is known by a
+//! with the mark of its removal, the attachments of clients, and how many are to each segment. Only `Segment::new`,
+//! `Segment::read` and `Attachments::attach` can fail for want of memory. That an attachment is known by a
 //! number of its client, and that its bytes are read and written at offsets by calls, is the project's own: there is no
 //! address space here.
 #![tactic(auto)]
