@@ -4,6 +4,8 @@
 
 #[cfg(test)]
 mod services;
+#[cfg(test)]
+mod still;
 mod waiting;
 
 pub use waiting::wait_for;
