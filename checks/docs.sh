@@ -2,7 +2,7 @@
 #
 #   console      commands, each after `$ `, with what it prints on standard output and standard error, in 60 s at most.
 #                A command with the comment `# about TIME` takes long and isn't run.
-#   ipcsh        a script. The next block, of kind `rows`, is what ./ipcsh prints for it.
+#   ipcsh        a script. The next block, of kind `rows`, is what ./ipcsh prints for it on standard output.
 #   KIND FILE    lines that stand in this file as they are; of kind `rust` always.
 #   sh, text     what has no output: commands to be copied, a picture, a grammar.
 #
@@ -114,7 +114,7 @@ follows_rows() {
 prints_the_rows() {
     why='no script stands before these rows'
     [ -n "$script" ] || return 1
-    timeout 60 ./ipcsh <"$script" >"$scratch/out" 2>&1 || :
+    timeout 60 ./ipcsh <"$script" >"$scratch/out" 2>/dev/null || :
     same 'what the script prints' "$block.body" "$scratch/out"
 }
 

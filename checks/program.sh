@@ -42,14 +42,16 @@ converse() {
     ask 'bob' 'line 1: unknown-client' || return 1
     (printf 'client alice 100 10\n# a comment\n' >&3) 2>/dev/null || return 1
     ask 'alice msgget 5 01600' '1.0 alice id 0' || return 1
+    why='no hint on line 1 before line 5'
+    grep -q "^ipcsh: line 1: no client 'bob'" "$scratch/err" || return 1
     ask 'alice msgget 5 03600' '2.0 alice error 17 EEXIST key-exists' || return 1
     ask 'alice msgget 0 0600' '3.0 alice id 1'
 }
 
-# A line through a pipe that stays open is answered before the next one is written.
+# A line through a pipe that stays open is answered before the next one is written, and a bad one has its hint by then.
 answers_each_line() {
     mkfifo "$scratch/lines" "$scratch/rows"
-    timeout 60 ./ipcsh <"$scratch/lines" >"$scratch/rows" &
+    timeout 60 ./ipcsh <"$scratch/lines" >"$scratch/rows" 2>"$scratch/err" &
     program=$!
     exec 3>"$scratch/lines" 4<"$scratch/rows"
     answered=0

@@ -3,9 +3,12 @@
 //! doesn't take.
 #![tactic(auto)]
 
+mod listener;
+
+use crate::listener::Explainer;
 use ipc_commands::{Program, program_of};
-use ipcsh::Fault;
-use ipcsh_threads::threads;
+use ipcsh::{Fault, run_with};
+use ipcsh_threads::threads_with;
 use std::alloc::{AllocError, Global};
 use std::env::Args;
 use std::io::ErrorKind;
@@ -41,17 +44,19 @@ fn named(alloc: Global, given: Args) -> Result<Option<Program>, AllocError> {
 }
 
 /// Runs the script on standard input.
-fn run_script<R: Env + Input + Print + Threads + Sync + Wait + AllocGlobal>(
+fn run_script<R: Env + Input + Print + Eprint + Threads + Sync + Wait + AllocGlobal>(
     rt: &R,
 ) -> Result<u8, Fault> {
     let Some(program) = program(rt)? else {
         return Ok(USAGE);
     };
     let (alloc, mut reader, mut writer) = (rt.alloc(), rt.reader(), io::writer(rt));
+    let mut explainer = Explainer::new(rt, alloc);
     let summary = match program {
-        Program::Script => ipcsh::run(alloc, &mut reader, &mut writer)?,
-        Program::Threads => threads(rt, alloc, &mut reader, &mut writer)?,
+        Program::Script => run_with(alloc, &mut reader, &mut writer, &mut explainer)?,
+        Program::Threads => threads_with(rt, alloc, &mut reader, &mut writer, &mut explainer)?,
     };
+    explainer.finish();
     Ok(if summary.bad == 0 { 0 } else { BAD_LINE })
 }
 
