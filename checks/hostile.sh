@@ -113,15 +113,21 @@ threads_bear_refusals() {
     [ "$status" = 0 ]
 }
 
+tests_of() { printf 'crates/%s/out/%s_tests\n' "$1" "$1"; }
+
+# has_tests CRATE: its tests are built.
+has_tests() {
+    why="the tests of crates/$1 are not built"
+    [ -x "$(tests_of "$1")" ] || (cd "crates/$1" && rt test) >/dev/null 2>&1
+}
+
 # Each second, third, .. allocation of the random lists of calls on queues is refused: they answer as plain lists do.
 queues_bear_refusals() {
     preloaded refuse || return 1
-    tests=crates/object_tests/out/object_tests_tests
-    why='the tests of crates/object_tests are not built'
-    [ -x "$tests" ] || (cd crates/object_tests && rt test) >/dev/null 2>&1 || return 1
+    has_tests object_tests || return 1
     for each in 2 3 5 7 11 101; do
         why="each allocation with a number that $each divides refused: not as a plain list, or none was refused"
-        EACH="$each" LD_PRELOAD="$scratch/refuse.so" timeout 60 "$tests" lists::a_queue_answers_as_a_list \
+        EACH="$each" LD_PRELOAD="$scratch/refuse.so" timeout 60 "$(tests_of object_tests)" lists::a_queue_answers_as_a_list \
             >"$scratch/out" 2>"$scratch/err" || return 1
         grep -q '^refused$' "$scratch/err" || return 1
     done
@@ -144,3 +150,18 @@ streams_break() {
 check_lines() { with_program tries_lines; }
 
 tries_lines() { tries lines "$(the_program)" 1000000; }
+
+check_still() {
+    for clients in three sixty_four; do
+        attempt "each of $clients clients stands still, 10 times" stands_still "still::each_of_${clients}_stands_still"
+    done
+}
+
+# A test of threads that come in another order each time.
+stands_still() {
+    has_tests thread_tests || return 1
+    for round in 1 2 3 4 5 6 7 8 9 10; do
+        why="round $round: it fails"
+        timeout 60 "$(tests_of thread_tests)" "$1" >"$scratch/out" 2>"$scratch/shown" || return 1
+    done
+}
