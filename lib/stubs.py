@@ -11,7 +11,7 @@ PLAIN = re.compile(r"//[^\n]*|\"(\\.|[^\"\\])*\"|'(\\.|[^'\\])'")
 BRACE = re.compile(r"{|;(?![^\n{};]*\])")
 TYPE = re.compile(r"^ *(?:pub(?:\(\w+\))? )?(?:struct|enum|trait) (\w+)", re.M)
 # What begins an impl or a trait: the trait that is implemented, with its arguments, and the type, or the trait itself.
-OWNER = re.compile(r"^(?:pub(?:\(\w+\))? )?(?:impl(?:<[^{]*?>)? (?:(\w+(?:<[^{]*>)?) for )?|trait )(\w+)[^{]*", re.M)
+OWNER = re.compile(r"^(?:pub(?:\(\w+\))? )?(?:impl(?:<[^{]*?>)? (?:(\w+(?:<[^{]*>)?) for )?|trait )(\w+|\(\))[^{]*", re.M)
 
 
 def end_of(text, at):

@@ -76,24 +76,31 @@ impl Hints {
         Ok(())
     }
 
-    /// Notes a line with calls of a client, counted from 0, and appends a warning of each mode and each flags that lack
-    /// their leading 0. `Memory` comes where an allocation fails; of `out` a part may then be appended.
-    pub fn calls(
-        &mut self,
-        number: u64,
-        client: u32,
-        text: &[u8],
-        command: &Command,
-        out: &mut String,
-    ) -> Told {
+    /// Notes a line with calls of a client, counted from 0. Whether `warn` may have something to say of the line.
+    pub fn calls(&mut self, number: u64, client: u32, command: &Command) -> bool {
         if self.start == 0 {
             self.start = number;
         }
         if let Some(client) = self.clients.get_mut(client as usize) {
             client.last = number;
         }
-        if has_suspects(command.as_slice()) {
-            return warn(out, number, words_in(self.alloc, text)?.as_slice());
+        has_suspects(command.as_slice())
+    }
+
+    /// Appends a warning of each mode and each flags of a line with calls that lack their leading 0. `Memory` comes where
+    /// an allocation fails; of `out` a part may then be appended.
+    pub fn warn(&self, number: u64, text: &[u8], out: &mut String) -> Told {
+        let words = words_in(self.alloc, text)?;
+        let [_, call, arguments @ ..] = words.as_slice() else {
+            return Ok(());
+        };
+        let Some(form) = form_of(call) else {
+            return Ok(());
+        };
+        for (index, word) in arguments.iter().enumerate() {
+            if let Some(argument) = form.argument_at(index) {
+                warn_of_decimal(out, number, argument, word)?;
+            }
         }
         Ok(())
     }
@@ -290,20 +297,4 @@ fn explain_bad_line(out: &mut String, text: &[u8], first: &[u8], rest: &[&[u8]])
         b"clock" => explain_clock(out, rest),
         _ => explain_call(out, rest),
     }
-}
-
-/// Appends a warning of each argument of a call that has flags or a mode without their leading 0.
-fn warn(out: &mut String, number: u64, words: &[&[u8]]) -> Told {
-    let [_, call, arguments @ ..] = words else {
-        return Ok(());
-    };
-    let Some(form) = form_of(call) else {
-        return Ok(());
-    };
-    for (index, word) in arguments.iter().enumerate() {
-        if let Some(argument) = form.argument_at(index) {
-            warn_of_decimal(out, number, argument, word)?;
-        }
-    }
-    Ok(())
 }

@@ -56,10 +56,12 @@ impl<P: Eprint> Listener for Explainer<'_, P> {
     }
 
     fn calls(&mut self, number: u64, client: u32, text: &[u8], command: &Command) {
-        let mut hint = String::new(self.alloc);
         if let Some(hints) = &mut self.hints {
-            let whole = hints.calls(number, client, text, command, &mut hint);
-            self.keep(whole, &hint);
+            if hints.calls(number, client, command) {
+                let mut hint = String::new(self.alloc);
+                let whole = hints.warn(number, text, &mut hint);
+                self.keep(whole, &hint);
+            }
         }
     }
 
