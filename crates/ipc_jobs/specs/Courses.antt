@@ -31,8 +31,8 @@ failures_of c = capped (failures c.calls)
 -- What is known of the courses of clients that a gate may have stopped before a job, and was told of each job done.
 module _ (may_hold was_told : ℕ → ℕ → Type 0) where
   -- A client with these jobs went so. The calls that it entered and the replies to them are those of the jobs that it
-  -- did, in order, without those for which an allocation failed. The gate was told of each of these jobs. Where jobs are
-  -- left, it stopped the client
+  -- did, in order, without those for which an allocation failed. The gate was told of each of these jobs, and stopped
+  -- the client where jobs are left
   pub record IsCourse (client : ℕ) (jobs : List Job) (entered : List (ℕ × Call)) (got : List Reply) (c : Course)
       : Type 0 where
     pub all : jobs ≡ c.done ++ c.left
