@@ -7,7 +7,7 @@ mod listener;
 
 use crate::listener::Explainer;
 use ipc_commands::{Program, program_of};
-use ipcsh::{Fault, run_with};
+use ipcsh::{Fault, Listener, Summary, run_with};
 use ipcsh_threads::threads_with;
 use std::alloc::{AllocError, Global};
 use std::env::Args;
@@ -50,14 +50,26 @@ fn run_script<R: Env + Input + Print + Eprint + Threads + Sync + Wait + AllocGlo
     let Some(program) = program(rt)? else {
         return Ok(USAGE);
     };
+    let mut explainer = Explainer::new(rt, rt.alloc());
+    let ran = run_program(rt, program, &mut explainer);
+    if ran.is_ok() {
+        explainer.finish();
+    }
+    drop(explainer);
+    Ok(if ran?.bad == 0 { 0 } else { BAD_LINE })
+}
+
+/// Runs it as one of the programs, which lets the listener hear of its lines.
+fn run_program<R: Input + Print + Threads + Sync + Wait + AllocGlobal, L: Listener>(
+    rt: &R,
+    program: Program,
+    listener: &mut L,
+) -> Result<Summary, Fault> {
     let (alloc, mut reader, mut writer) = (rt.alloc(), rt.reader(), io::writer(rt));
-    let mut explainer = Explainer::new(rt, alloc);
-    let summary = match program {
-        Program::Script => run_with(alloc, &mut reader, &mut writer, &mut explainer)?,
-        Program::Threads => threads_with(rt, alloc, &mut reader, &mut writer, &mut explainer)?,
-    };
-    explainer.finish();
-    Ok(if summary.bad == 0 { 0 } else { BAD_LINE })
+    match program {
+        Program::Script => run_with(alloc, &mut reader, &mut writer, listener),
+        Program::Threads => threads_with(rt, alloc, &mut reader, &mut writer, listener),
+    }
 }
 
 fn main(rt: HostRuntime) -> ExitCode {
