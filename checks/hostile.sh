@@ -150,18 +150,3 @@ streams_break() {
 check_lines() { with_program tries_lines; }
 
 tries_lines() { tries lines "$(the_program)" 1000000; }
-
-check_still() {
-    for clients in three sixty_four; do
-        attempt "each of $clients clients stands still, 10 times" stands_still "still::each_of_${clients}_stands_still"
-    done
-}
-
-# A test of threads that come in another order each time.
-stands_still() {
-    has_tests thread_tests || return 1
-    for round in 1 2 3 4 5 6 7 8 9 10; do
-        why="round $round: it fails"
-        timeout 60 "$(tests_of thread_tests)" "$1" >"$scratch/out" 2>"$scratch/shown" || return 1
-    done
-}

@@ -96,7 +96,9 @@ class Script:
 
     def ran(self, lines, after=b""):
         """A run of lines, with this text after each."""
-        return Ran(self.program, b"".join((b"?" if it.number in self.late else it.text) + after + b"\n" for it in lines))
+        text = b"".join((b"?" if it.number in self.late else it.text) + after + b"\n" for it in lines)
+        is_open = not after and lines and lines[-1] is self.lines[-1] and not self.text.endswith(b"\n")
+        return Ran(self.program, text[:-1] if is_open else text)
 
     def renumbered(self, lines, row):
         """A row of a run of lines: a bad line has its number in the script."""

@@ -4,8 +4,6 @@
 
 #[cfg(test)]
 mod services;
-#[cfg(test)]
-mod still;
 mod waiting;
 
 pub use waiting::wait_for;

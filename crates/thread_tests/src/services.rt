@@ -22,7 +22,7 @@ use std::thread::Threads;
 const ROUNDS: u64 = 1000;
 
 /// A service for so many clients of one user.
-pub(crate) fn service_for(
+fn service_for(
     rt: &(impl Abort + AllocGlobal),
     count: u32,
 ) -> Result<(Service, Vec<Unjoined>), Fail>
@@ -41,12 +41,12 @@ pub(crate) fn service_for(
     Ok(Service::start(alloc, limits, creds)?)
 }
 
-pub(crate) fn has_passed(pass: Pass) -> bool {
+fn has_passed(pass: Pass) -> bool {
     matches!(pass, Pass::Passed)
 }
 
 /// Each client joins, and passes once.
-pub(crate) fn joined(
+fn joined(
     rt: &(impl Abort + AllocGlobal),
     service: &Service,
     clients: Vec<Unjoined>,
@@ -76,7 +76,7 @@ fn one_of(rt: &impl Abort, service: &Service, idles: &mut Vec<Idle>) -> Idle
 }
 
 /// The reply to a call, which has ended.
-pub(crate) fn ended(rt: &impl Abort, service: &Service, flight: InFlight) -> (Idle, Reply)
+fn ended(rt: &impl Abort, service: &Service, flight: InFlight) -> (Idle, Reply)
     requires { IsOf service.now.list flight.joined }
     ensures { IsOf service.now.list result.0.joined }
 {
@@ -135,7 +135,7 @@ fn replied(rt: &impl Abort, service: &Service, idle: Idle, call: Call, wanted: O
     idle
 }
 
-pub(crate) fn get(key: u32) -> Call {
+fn get(key: u32) -> Call {
     let flags = IPC_CREAT | 0o600;
     Call::MsgGet { key, flags }
 }
@@ -352,7 +352,7 @@ struct Asked {
     granted: u64,
 }
 
-pub(crate) fn is_granted(reply: Reply) -> bool {
+fn is_granted(reply: Reply) -> bool {
     matches!(
         reply,
         Reply::Entered {
