@@ -2,7 +2,6 @@
 
 check_memory() {
     with_program memory_bears
-    with_program attempt 'refused allocations of hints' hints_bear_refusals
     with_program attempt 'refused allocations of threads' threads_bear_refusals
     attempt 'refused allocations of queues' queues_bear_refusals
 }
@@ -15,8 +14,8 @@ plain_scripts() {
 }
 
 memory_bears() {
-    if preloaded refuse; then
-        tries memory "$(the_program)" "$scratch/refuse.so" $(plain_scripts)
+    if preloaded sweep; then
+        tries memory "$(the_program)" "$scratch/sweep.so" $(plain_scripts)
     else
         fail memory
     fi
@@ -34,45 +33,6 @@ tries() {
 preloaded() {
     why="checks/$1.c does not build"
     cc -shared -fPIC -o "$scratch/$1.so" "checks/$1.c"
-}
-
-# A script of bad lines, which makes no call.
-bad_lines() {
-    printf 'client alice root 10\nclient bob 200 20\nclient carol 300 30\nalice msgget 5 0600\nbob msgegt 5 0600\n'
-    printf 'bob msgget 5 IPC_CREAT|0600\ndora exit\ndora exit\nlimit slots 0\nbob ipcs -a\n'
-}
-
-# A run of them with one allocation refused: it stopped for want of memory with a prefix of the rows, or all rows are there,
-# and hints may be missing.
-bore_refusal_in_hints() {
-    case $1 in
-    1) cmp -s "$scratch/wanted" "$scratch/out" ;;
-    2) grep -q '^ipcsh: no memory$' "$scratch/err" && head -c "$(wc -c <"$scratch/out")" "$scratch/wanted" | cmp -s - "$scratch/out" ;;
-    *) return 1 ;;
-    esac
-}
-
-# Each allocation of a run of bad lines is refused in turn.
-hints_bear_refusals() {
-    preloaded refuse || return 1
-    bad_lines | "$(program_of ipcsh_cli)" >"$scratch/wanted" 2>"$scratch/hints" || :
-    number=0
-    missing=no
-    while :; do
-        number=$((number + 1))
-        status=0
-        bad_lines | timeout 60 env REFUSE="$number" LD_PRELOAD="$scratch/refuse.so" "$(program_of ipcsh_cli)" \
-            >"$scratch/out" 2>"$scratch/err" || status=$?
-        grep -q '^refused$' "$scratch/err" || break
-        why="allocation $number refused: status $status, standard error and rows as shown"
-        cat "$scratch/err" "$scratch/out" >"$scratch/shown"
-        bore_refusal_in_hints "$status" || return 1
-        [ "$status" != 1 ] || [ "$(wc -l <"$scratch/err")" -gt "$(wc -l <"$scratch/hints")" ] || missing=yes
-    done
-    : >"$scratch/shown"
-    why='no hint was missing where an allocation failed'
-    [ "$missing" = yes ] || return 1
-    same 'its standard error' "$scratch/hints" "$scratch/err"
 }
 
 # The first run in threads, in which each client makes one call, with one allocation refused: it stopped for want of memory

@@ -4,7 +4,7 @@
     hostile.py streams PROGRAM LIBRARY SCRIPT..   each read fails in turn; each write fails, takes one byte or none
     hostile.py lines PROGRAM COUNT                lines of random bytes, of random words, and good lines with one byte changed
 
-LIBRARY is the built checks/refuse.c or checks/streams.c. What is right is found from what the program prints itself: for the
+LIBRARY is the built checks/sweep.c or checks/streams.c. What is right is found from what the program prints itself: for the
 script without a call, for the first lines alone, or without the bad lines.
 """
 
@@ -18,21 +18,19 @@ import subprocess
 import sys
 
 BAD = re.compile(rb"line (\d+): (.*)")
+HINT = re.compile(rb"ipcsh: line (\d+): ")
 # The row of a call that an allocation failed for.
 REFUSED = re.compile(rb"- ([a-z][a-z0-9]*) error 12 ENOMEM memory")
 NO_MEMORY = b"ipcsh: no memory"
-# How many bytes a read gives at most where reads fail, and how many scripts' runs are one task.
+# How many bytes a read gives at most where reads fail.
 PIECE = 7
-TASK = 64
 
 
 class Ran:
     """What a run did: its status, what it wrote, and the lines that it or a preloaded library wrote to standard error."""
 
-    def __init__(self, program, text, **settings):
-        how = {"input": text, "stdout": subprocess.PIPE, "stderr": subprocess.PIPE, "close_fds": False, "timeout": 60}
-        it = subprocess.run([program], env={**os.environ, **settings}, **how)
-        self.status, self.output, self.told = it.returncode, it.stdout, it.stderr.splitlines()
+    def __init__(self, status, output, errors):
+        self.status, self.output, self.told = status, output, errors.splitlines()
 
     def was(self, word):
         return word in self.told
@@ -40,6 +38,13 @@ class Ran:
     @property
     def rows(self):
         return self.output.splitlines(keepends=True)
+
+
+def run(program, text, **settings):
+    """A run of the program on a text."""
+    how = {"input": text, "stdout": subprocess.PIPE, "stderr": subprocess.PIPE, "close_fds": False, "timeout": 60}
+    it = subprocess.run([program], env={**os.environ, **settings}, **how)
+    return Ran(it.returncode, it.stdout, it.stderr)
 
 
 # Refused memory
@@ -88,7 +93,7 @@ class Script:
 
     def __init__(self, program, path):
         self.program, self.text, self.outputs, self.counts = program, pathlib.Path(path).read_bytes(), {}, {}
-        self.whole = Ran(program, self.text)
+        self.whole = run(program, self.text)
         # A call that was refused memory has started the namespace: a line that came too late still does.
         self.late = {int(it[1]) for it in map(BAD.match, self.whole.rows) if it and it[2] == b"late"}
         texts = self.text.split(b"\n")
@@ -98,7 +103,7 @@ class Script:
         """A run of lines, with this text after each."""
         text = b"".join((b"?" if it.number in self.late else it.text) + after + b"\n" for it in lines)
         is_open = not after and lines and lines[-1] is self.lines[-1] and not self.text.endswith(b"\n")
-        return Ran(self.program, text[:-1] if is_open else text)
+        return run(self.program, text[:-1] if is_open else text)
 
     def renumbered(self, lines, row):
         """A row of a run of lines: a bad line has its number in the script."""
@@ -157,58 +162,69 @@ class Script:
         return rows == wanted and ends == status
 
 
-def refused(script, library, number, row):
-    return Ran(script.program, script.text, LD_PRELOAD=library, REFUSE=str(number), IN_A_ROW=str(row))
+def lines_told(ran):
+    """The numbers of the lines that a run's hints are about."""
+    return {int(it[1]) for it in map(HINT.match, ran.told) if it}
+
+
+def lines_bad(ran):
+    return {int(it[1]) for it in map(BAD.match, ran.rows) if it}
 
 
 def why_wrong(script, ran):
     """Why a run with refused allocations is wrong, or None."""
     if ran.status == 2 and not ran.was(NO_MEMORY):
         return "it ended by another fault"
+    if lines_told(ran) - lines_bad(ran) - lines_told(script.whole):
+        return "it has a hint for a line that isn't bad"
     if ran.status != 2 and (ran.status, ran.output) == (script.whole.status, script.whole.output):
         return None
     return None if script.is_right(ran.rows, ran.status, script.lines) else "these aren't the rows of the script without a call"
 
 
+class Sweep:
+    """The runs of a script in which an allocation was refused, and as many after it as make a row: one for each allocation, in turn. Then
+    there is also the status of the run with none."""
+
+    def __init__(self, program, library, path, row):
+        self.program, self.path, self.settings, self.status = program, path, {"LD_PRELOAD": library, "IN_A_ROW": str(row)}, None
+
+    def __iter__(self):
+        results, told = os.pipe()
+        with open(self.path, "rb") as text, open(results, "rb") as stream:
+            how = {"stdin": text, "stdout": subprocess.DEVNULL, "stderr": subprocess.DEVNULL, "pass_fds": [told]}
+            whole = subprocess.Popen([self.program], env={**os.environ, **self.settings, "RESULTS": str(told)}, **how)
+            os.close(told)
+            for head in stream:
+                status, output, errors = map(int, head.split())
+                status = -os.WTERMSIG(status) if os.WIFSIGNALED(status) else os.WEXITSTATUS(status)
+                yield Ran(status, stream.read(output), stream.read(errors))
+            self.status = whole.wait()
+
+
 def memory_task(task):
-    """The runs of a script with each of these allocations refused: how many there were, lines for what failed, and whether a call was
-    answered that memory was refused."""
-    program, library, path, numbers, row = task
-    script, count, failed, answered = Script(program, path), 0, [], False
-    for number in numbers:
-        ran = refused(script, library, number, row)
-        if not ran.was(b"refused"):
-            break
-        count += 1
-        answered = answered or any(map(REFUSED.match, ran.rows))
-        why = why_wrong(script, ran)
-        if why:
-            failed.append(f"{path}: allocation {number}, {row} in a row: status {ran.status}: {why}")
-    return count, failed, answered
-
-
-def allocations(program, library, path):
-    """How many allocations a run of the script makes."""
-    text, low, high = pathlib.Path(path).read_bytes(), 0, 64
-    is_there = lambda number: Ran(program, text, LD_PRELOAD=library, REFUSE=str(number)).was(b"refused")
-    while is_there(high):
-        low, high = high, high * 2
-    while high - low > 1:
-        middle = (low + high) // 2
-        low, high = (middle, high) if is_there(middle) else (low, middle)
-    return low
-
-
-def memory_tasks(task):
-    program, library, path = task
-    most = allocations(program, library, path)
-    return [(program, library, path, range(at, min(at + TASK, most + 1)), row) for row in (1, 2) for at in range(1, most + 1, TASK)]
+    """The runs of a script with refused allocations: how many there were, lines for what failed, whether a call was answered that memory
+    was refused, and whether a hint was missing."""
+    path, row = task[2:]
+    script, sweep, seen, count, failed, answered, missing = Script(task[0], path), Sweep(*task), {}, 0, [], False, False
+    for count, ran in enumerate(sweep, 1):
+        what = ran.status, ran.output, *ran.told
+        if what not in seen:
+            seen[what] = why_wrong(script, ran)
+            answered = answered or any(map(REFUSED.match, ran.rows))
+            missing = missing or ran.status != 2 and len(ran.told) < len(script.whole.told)
+        if seen[what]:
+            failed.append(f"{path}: allocation {count}, {row} in a row: status {ran.status}: {seen[what]}")
+    if sweep.status != script.whole.status or not count:
+        failed.append(f"{path}: {count} allocations were refused, and with none the status is {sweep.status}")
+    return count, failed, answered, missing
 
 
 def memory(pool, program, library, *paths):
-    tasks = [it for found in pool.imap_unordered(memory_tasks, [(program, library, path) for path in paths]) for it in found]
-    results = list(pool.imap_unordered(memory_task, tasks))
+    sized = sorted(paths, key=os.path.getsize, reverse=True)
+    results = list(pool.imap_unordered(memory_task, [(program, library, path, row) for path in sized for row in (1, 2)]))
     none = [] if any(it[2] for it in results) else ["no call was answered that memory was refused"]
+    none += [] if any(it[3] for it in results) else ["no hint was missing where an allocation failed"]
     return sum(it[0] for it in results), none + [line for it in results for line in it[1]]
 
 
@@ -221,7 +237,7 @@ def complete(text, size):
 
 
 def stopped(program, text, library, **settings):
-    return Ran(program, text, LD_PRELOAD=library, **{name: str(value) for name, value in settings.items()})
+    return run(program, text, LD_PRELOAD=library, **{name: str(value) for name, value in settings.items()})
 
 
 def reads_fail(program, library, text):
@@ -230,13 +246,13 @@ def reads_fail(program, library, text):
         ran = stopped(program, text, library, PIECE=PIECE, FAIL_READ=number)
         if not ran.was(b"stopped"):
             return
-        rows = Ran(program, complete(text, (number - 1) * PIECE)).output
+        rows = run(program, complete(text, (number - 1) * PIECE)).output
         yield ran.status == 2 and ran.was(b"ipcsh: read failed") and ran.output == rows, f"read {number}"
 
 
 def writes_stop(program, library, text, how):
     """For each write whether the run was right in which it failed, or took one byte or none."""
-    whole = Ran(program, text)
+    whole = run(program, text)
     for number in range(1, len(whole.output) + 2):
         ran = stopped(program, text, library, PIECE=PIECE, AT_WRITE=number, HOW=how)
         if not ran.was(b"stopped"):
@@ -332,10 +348,10 @@ def lines_task(task):
     program, row, seed, count = task
     dice = random.Random(seed)
     lines = HEAD.splitlines() + [dice.choice(WAYS)(dice) if dice.random() < 0.9 else dice.choice(GOOD) for _ in range(count)]
-    ran = Ran(program, b"".join(it + b"\n" for it in lines))
+    ran = run(program, b"".join(it + b"\n" for it in lines))
     bad = {int(it[1]): it[2] for it in map(BAD.match, ran.rows) if it}
     rest = b"".join(row for row in ran.rows if not BAD.match(row))
-    alone = Ran(program, b"".join(it + b"\n" for at, it in enumerate(lines, 1) if at not in bad))
+    alone = run(program, b"".join(it + b"\n" for at, it in enumerate(lines, 1) if at not in bad))
     failed = []
     if ran.status != (1 if bad else 0):
         failed.append(f"seed {seed}: status {ran.status}")
