@@ -1,5 +1,5 @@
 -- The rows of waiting clients: where those of an object stand, and what a row more or less changes.
-use Rattle.std.proofs.Common.{◌≡◌, ℕ, zero, suc, ◌+◌, ◌<◌, ◌≤◌, Bool, true, false, cond, ◌&&◌, eqb, List, [], ◌∷◌, ◌++◌, length, take, drop, remove, slice_get, refl, sym, ap, subst, ◌∙◌, ⊎_elim, Some, None, arith}
+use Rattle.std.proofs.Common.{◌≡◌, ℕ, zero, suc, ◌+◌, ◌<◌, ◌≤◌, Bool, true, false, cond, ◌&&◌, eqb, List, [], ◌∷◌, ◌++◌, length, take, drop, remove, slice_get, refl, sym, ap, ◌∙◌, ⊎_elim, Some, None, arith}
 use Rattle.std.specs.List.{AllByRecursion, insert}
 use Rattle.std.proofs.lemmas.Bool.{cases_Bool, true≢false, eqb-true, eqb-false, eq-eqb, ne_eqb, ltb-true, ltb-false}
 use Rattle.ipc_parked.specs.declared.waits.Wait.{Wait}
@@ -28,10 +28,12 @@ lower_all low bound [] i all here = absurd (true≢false (sym here))
 lower_all low bound (row ∷ rows) zero all here = let first = all.0 in let lower = ltb-true row.id bound here in omega (arith, first, lower)
 lower_all low bound (row ∷ rows) (suc i) all here = lower_all low bound rows i all.1 here
 
-pub lower_half : (rows : List Wait) (i bound : ℕ) → AreRising rows → is_below bound (slice_get rows i) ≡ true → AllByRecursion (λ row. row.id < bound) (take (suc i) rows)
-lower_half [] i bound rising here = absurd (true≢false (sym here))
-lower_half (row ∷ rows) zero bound rising here = (ltb-true row.id bound here, tt)
-lower_half (row ∷ rows) (suc i) bound rising here = (lower_all row.id bound rows i rising.0 here, lower_half rows i bound rising.1 here)
+pub lower_half : (rows : List Wait) (i bound at : ℕ) → AreRising rows → is_below bound (slice_get rows i) ≡ true → at ≤ suc i → AllByRecursion (λ row. row.id < bound) (take at rows)
+lower_half [] i bound at rising here within = absurd (true≢false (sym here))
+lower_half (row ∷ rows) i bound zero rising here within = tt
+lower_half (row ∷ rows) zero bound (suc zero) rising here within = (ltb-true row.id bound here, tt)
+lower_half (row ∷ rows) zero bound (suc (suc at)) rising here within = absurd (omega (arith, within))
+lower_half (row ∷ rows) (suc i) bound (suc at) rising here within = (lower_all row.id bound rows i rising.0 here, lower_half rows i bound at rising.1 here (omega (arith, within)))
 
 pub upper_half : (rows : List Wait) (i bound : ℕ) → AreRising rows → i < length rows → is_below bound (slice_get rows i) ≡ false → AllByRecursion (λ row. bound ≤ row.id) (drop i rows)
 upper_half [] i bound rising within here = absurd (omega (arith, within))
@@ -39,13 +41,6 @@ upper_half (row ∷ rows) zero bound rising within here =
     let first : bound ≤ row.id = ltb-false row.id bound here in
     (first, all_map (λ (r : Wait). row.id ≤ r.id) (λ (r : Wait). bound ≤ r.id) rows (λ r h. omega (arith, first, h)) rising.0)
 upper_half (row ∷ rows) (suc i) bound rising within here = upper_half rows i bound rising.1 (omega (arith, within)) here
-
-pub place_found : (rows : List Wait) (bound low high : ℕ) → low ≡ high → high ≤ length rows → AllByRecursion (λ row. row.id < bound) (take low rows) → AllByRecursion (λ row. bound ≤ row.id) (drop high rows) → IsPlace rows bound low
-place_found rows bound low high met within below above = record {
-  within = omega (arith, met, within);
-  below = below;
-  above = subst (λ (n : ℕ). AllByRecursion (λ row. bound ≤ row.id) (drop n rows)) (sym met) above;
-}
 
 further : {row : Wait} {rows : List Wait} {bound at : ℕ} → IsPlace (row ∷ rows) bound (suc at) → IsPlace rows bound at
 further {row} {rows} {bound} {at} place = record {

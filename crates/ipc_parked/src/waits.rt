@@ -1,6 +1,6 @@
 // The clients that wait, by object.
 
-ghost use Rattle.std.specs.Prelude.{◌≡◌, ℕ, ◌+◌, ◌<◌, [], ◌∷◌, ◌++◌, Some, slice_get, OnOk, if◌then◌else◌, ◌==◌};
+ghost use Rattle.std.specs.Prelude.{◌≡◌, ℕ, ◌+◌, ◌<◌, [], ◌∷◌, ◌++◌, length, Some, slice_get, OnOk, if◌then◌else◌, ◌==◌};
 ghost use Rattle.ipc_parked.specs.Waits.{
   AreRising,
   IsFirst,
@@ -107,14 +107,13 @@ fn place_of(rows: &[Wait], bound: u64) -> usize
     ensures { IsPlace rows.now bound result }
 {
     let mut low = 0;
-    let mut high = rows.len();
-    while low < high {
-        let middle = low + (high - low) / 2;
-        if is_below_at(rows, middle, bound) {
-            low = middle + 1;
-        } else {
-            high = middle;
+    let mut size = rows.len();
+    while size > 0 {
+        let half = size / 2;
+        if is_below_at(rows, low + half, bound) {
+            low += size - half;
         }
+        size = half;
     }
     low
 }
@@ -135,12 +134,10 @@ fn first_of(rows: &[Wait], id: u32, client: u32) -> Option<usize>
 
 /// Whether the row at this place is of an object below a bound.
 fn is_below_at(rows: &[Wait], at: usize, bound: u64) -> bool
+    requires { at < length rows.now }
     ensures { result ≡ is_below bound (slice_get rows.now at) }
 {
-    match rows.get(at) {
-        None => false,
-        Some(row) => u64::from(row.id) < bound,
-    }
+    u64::from(rows[at].id) < bound
 }
 
 /// Whether the row at this place is that of a client on an object.

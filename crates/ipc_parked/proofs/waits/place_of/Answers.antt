@@ -1,28 +1,25 @@
-use Rattle.std.proofs.Common.{◌∙◌, sym, add-one, arith}
-use Rattle.ipc_parked.proofs.Rows.{lower_half, place_found, upper_half}
+use Rattle.std.proofs.Common.{◌≡◌, ℕ, ◌+◌, ◌-◌, ◌/◌, ◌≤◌, ◌∙◌, sym, subst, drop, arith}
+use Rattle.std.specs.List.{AllByRecursion}
+use Rattle.ipc_parked.proofs.Rows.{lower_half, upper_half}
 use Rattle.ipc_parked.proofs.waits.place_of.Goals as goal
 
-pub loop-low-preserved-then-is_below_at : goal.loop-low-preserved-then-is_below_at
-loop-low-preserved-then-is_below_at c =
-    let inv = c.loop-low.invariant in
+pub loop-size-preserved-then-is_below_at : goal.loop-size-preserved-then-is_below_at
+loop-size-preserved-then-is_below_at c =
+    let inv = c.loop-size.invariant in
+    let low = c.loop-size.low in
+    let size = c.loop-size.size in
+    let same : low + size ≡ low + (size - size / 2) + size / 2 = omega arith in
     record {
-      ordered = omega (arith, inv.ordered);
-      within = inv.within;
-      below = rw add-one (lower_half c.args.rows.now _ _ c.requires (sym c.is_below_at.ensures ∙ c.if-is_below_at.true));
-      above = inv.above;
+      within = omega (arith, inv.within);
+      below = lower_half c.args.rows.now (low + size / 2) c.args.bound (low + (size - size / 2)) c.requires (sym c.is_below_at.ensures ∙ c.if-is_below_at.true) (omega arith);
+      above = subst (λ (n : ℕ). AllByRecursion (λ row. c.args.bound ≤ row.id) (drop n c.args.rows.now)) same inv.above;
     }
 
-pub loop-low-preserved : goal.loop-low-preserved
-loop-low-preserved c =
-    let inv = c.loop-low.invariant in
+pub loop-size-preserved : goal.loop-size-preserved
+loop-size-preserved c =
+    let inv = c.loop-size.invariant in
     record {
-      ordered = omega (arith, inv.ordered);
-      within = omega (arith, inv.ordered, inv.within);
+      within = omega (arith, inv.within);
       below = inv.below;
-      above = upper_half c.args.rows.now _ _ c.requires (omega (arith, inv.ordered, inv.within)) (sym c.is_below_at.ensures ∙ c.if-is_below_at.false);
+      above = upper_half c.args.rows.now _ _ c.requires (omega (arith, inv.within, c.loop-size-test.true)) (sym c.is_below_at.ensures ∙ c.if-is_below_at.false);
     }
-
-pub returns : goal.returns
-returns c =
-    let inv = c.loop-low.invariant in
-    place_found c.args.rows.now c.args.bound c.loop-low.low c.loop-low.high (omega (arith, inv.ordered)) inv.within inv.below inv.above

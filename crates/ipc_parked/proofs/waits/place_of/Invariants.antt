@@ -1,15 +1,14 @@
-use Rattle.std.proofs.Common.{◌-◌, ◌<◌, ◌≤◌, length, take, drop}
+use Rattle.std.proofs.Common.{◌+◌, ◌<◌, ◌≤◌, length, take, drop}
 use Rattle.std.specs.List.{AllByRecursion}
 use Rattle.ipc_parked.proofs.waits.place_of.Given as goal
 
--- the rows before low are of lower objects, those from high on are not
-abbrev pub invariant-loop-low : goal.invariant-loop-low
-invariant-loop-low l = record {
-  ordered : l.low ≤ l.high;
-  within : l.high ≤ length l.rows;
+-- the rows before low are of lower objects, those after so many more are not
+abbrev pub invariant-loop-size : goal.invariant-loop-size
+invariant-loop-size l = record {
+  within : l.low + l.size ≤ length l.rows;
   below : AllByRecursion (λ row. row.id < l.bound) (take l.low l.rows);
-  above : AllByRecursion (λ row. l.bound ≤ row.id) (drop l.high l.rows);
+  above : AllByRecursion (λ row. l.bound ≤ row.id) (drop (l.low + l.size) l.rows);
 }
 
-abbrev pub decreases-loop-low : goal.decreases-loop-low
-decreases-loop-low l = l.high - l.low
+abbrev pub decreases-loop-size : goal.decreases-loop-size
+decreases-loop-size l = l.size
