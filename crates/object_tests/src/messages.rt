@@ -168,3 +168,19 @@ fn texts_come_out_as_they_were_put_in(rt: HostRuntime) -> Result<(), Fail> {
     assert_eq!(rt; (queue.bytes(), queue.count()), (0, 0));
     Ok(())
 }
+
+#[test]
+fn a_message_that_has_a_place_goes_through_without_memory(rt: HostRuntime) -> Result<(), Fail> {
+    let alloc = rt.alloc();
+    let mut queue = Queue::new(alloc, 100);
+    put_each(&rt, &mut queue, &[(5, 1), (3, 2), (5, 3)])?;
+    let text = Items::new(vec![in alloc; 7u8; 4]?);
+    queue.reserve_one()?;
+    assert!(rt; queue.fits(text.len()));
+    eprintln!(rt; "quiet begins")?;
+    queue.put(3, text);
+    check_received(&rt, &mut queue, -4, &[(3, 2), (3, 4)]);
+    check_received(&rt, &mut queue, 0, &[(5, 1), (5, 3)]);
+    eprintln!(rt; "quiet ends")?;
+    Ok(())
+}

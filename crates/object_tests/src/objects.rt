@@ -175,3 +175,29 @@ fn keys_are_free_again(rt: HostRuntime) -> Result<(), Fail> {
     ];
     follow(&rt, &mut objects, &steps)
 }
+
+#[test]
+fn objects_are_found_changed_and_removed_without_memory(rt: HostRuntime) -> Result<(), Fail> {
+    let mut objects = Objects::new(rt.alloc(), 3, 0);
+    let steps = [
+        (Step::Add(5, 50), Some(0)),
+        (Step::Add(6, 60), Some(1)),
+        (Step::Add(7, 70), Some(2)),
+    ];
+    follow(&rt, &mut objects, &steps)?;
+    eprintln!(rt; "quiet begins")?;
+    let steps = [
+        (Step::Find(5), Some(0)),
+        (Step::Seek(6), Some(60)),
+        (Step::Write(1, 61), Some(61)),
+        (Step::SetOwner(2), None),
+        (Step::FreeKey(2), None),
+        (Step::KeyOf(2), Some(0)),
+        (Step::Remove(1), Some(61)),
+        (Step::Remove(0), Some(50)),
+        (Step::Remove(2), Some(70)),
+    ];
+    follow(&rt, &mut objects, &steps)?;
+    eprintln!(rt; "quiet ends")?;
+    Ok(())
+}

@@ -173,6 +173,32 @@ fn the_earliest_that_is_due_is_told(rt: HostRuntime) -> Result<(), Fail> {
 }
 
 #[test]
+fn calls_are_found_and_leave_without_memory(rt: HostRuntime) -> Result<(), Fail> {
+    let mut parked = Parked::new(rt.alloc());
+    let steps = [
+        (Step::Park(5, 2, 7), Some(1)),
+        (Step::ParkUntil(3, 9), Some(2)),
+        (Step::Park(9, 6, 8), Some(3)),
+    ];
+    follow(&rt, &mut parked, &steps)?;
+    eprintln!(rt; "quiet begins")?;
+    let steps = [
+        (Step::Earliest(0, 4), Some(3)),
+        (Step::AtQueue(7, 0), Some(5)),
+        (Step::NthAtQueue(7, 1), Some(3)),
+        (Step::PlaceOf(9), Some(6)),
+        (Step::Due(9), Some(3)),
+        (Step::Finish(3), Some(2)),
+        (Step::Due(9), None),
+        (Step::Finish(5), Some(1)),
+        (Step::Finish(9), Some(0)),
+    ];
+    follow(&rt, &mut parked, &steps)?;
+    eprintln!(rt; "quiet ends")?;
+    Ok(())
+}
+
+#[test]
 fn a_send_and_a_receive_wait_on_their_queue(rt: HostRuntime) {
     let (id, kind) = (3, Kind::Queue);
     let send = Call::MsgSnd {

@@ -158,3 +158,28 @@ fn exit_takes_each_row_once(rt: HostRuntime) -> Result<(), Fail> {
         &[(Step::Len(2, 5), Some(1)), (Step::Adj(2, 5, 0), Some(0))],
     )
 }
+
+#[test]
+fn rows_that_are_there_change_and_go_without_memory(rt: HostRuntime) -> Result<(), Fail> {
+    let mut undo = Undo::new(rt.alloc());
+    let steps = [
+        (Step::Ensure(0, 7, 2), Some(2)),
+        (Step::Ensure(0, 8, 2), Some(2)),
+        (Step::Ensure(1, 7, 2), Some(2)),
+    ];
+    follow(&rt, &mut undo, &steps)?;
+    eprintln!(rt; "quiet begins")?;
+    let steps = [
+        (Step::Lower(0, 7, 1, 3), Some(-3)),
+        (Step::Lower(1, 7, 0, 1), Some(-1)),
+        (Step::Lower(0, 8, 0, 2), Some(-2)),
+        (Step::Clear(7, 0), None),
+        (Step::ClearSet(8), None),
+        (Step::Adj(0, 7, 1), Some(-3)),
+    ];
+    follow(&rt, &mut undo, &steps)?;
+    assert!(rt; undo.take_all(0).is_some_and(|row| row.0 == 7));
+    undo.remove_set(7);
+    eprintln!(rt; "quiet ends")?;
+    Ok(())
+}
