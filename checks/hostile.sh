@@ -4,7 +4,20 @@ check_memory() {
     with_program memory_bears
     with_program attempt 'refused allocations of threads' threads_bear_refusals
     attempt 'refused allocations of queues' queues_bear_refusals
+    attempt 'refused allocations of a pass' pass_bears_refusals 1
+    attempt 'refused allocations of a pass, two in a row' pass_bears_refusals 2
+    for test in $quiet_tests; do
+        attempt "allocations of $test" takes_no_memory "${test%%/*}" "${test#*/}"
+    done
 }
+
+# The tests that say between which of their lines nothing is allocated: CRATE/TEST.
+quiet_tests='object_tests/messages::a_message_that_has_a_place_goes_through_without_memory
+    object_tests/parked::calls_are_found_and_leave_without_memory
+    object_tests/undo::rows_that_are_there_change_and_go_without_memory
+    object_tests/objects::objects_are_found_changed_and_removed_without_memory
+    thread_tests/quiet::a_pass_of_calls_that_need_no_memory_takes_none
+    thread_tests/quiet::what_is_around_a_call_takes_no_memory'
 
 # The scripts that run without words.
 plain_scripts() {
@@ -93,6 +106,35 @@ queues_bear_refusals() {
     done
 }
 
+# Each allocation of a pass of eight clients, two of which complete calls of others, is refused in turn, with so many in a row.
+pass_bears_refusals() {
+    preloaded refuse || return 1
+    has_tests thread_tests || return 1
+    number=0
+    answered=no
+    while :; do
+        number=$((number + 1))
+        why="allocation $number of the pass refused, $1 in a row: a call is lost, or none was answered for it"
+        BETWEEN=pass REFUSE="$number" IN_A_ROW="$1" LD_PRELOAD="$scratch/refuse.so" timeout 60 "$(tests_of thread_tests)" \
+            refusals::a_pass_loses_no_call >"$scratch/out" 2>"$scratch/shown" || return 1
+        grep -q '^refused$' "$scratch/shown" || break
+        ! grep -q 'answered Memory' "$scratch/shown" || answered=yes
+    done
+    why='no call was answered that an allocation failed'
+    [ "$answered" = yes ] || return 1
+    why='in the pass that went on to its end there were not as many allocations as were refused'
+    grep -q "^allocations $((number - 1))$" "$scratch/shown"
+}
+
+# takes_no_memory CRATE TEST: no allocation comes between the lines that the test writes, once or more often.
+takes_no_memory() {
+    preloaded refuse || return 1
+    has_tests "$1" || return 1
+    why='it fails, or something is allocated between its lines'
+    BETWEEN=quiet LD_PRELOAD="$scratch/refuse.so" timeout 60 "$(tests_of "$1")" "$2" >"$scratch/out" 2>"$scratch/shown" || return 1
+    grep -q '^allocations 0$' "$scratch/shown" && ! grep -q '^allocations [1-9]' "$scratch/shown"
+}
+
 # A script of each kind, and the row with a removed queue.
 streamed='removed-queue-ends-a-waiter stat-after-every-call semaphore-refusals-and-zero-wait times-of-a-segment three-commands semtimedop setcreds
     exit-undoes-and-detaches interrupt busy-behind-bad-lines last-line-without-an-end carriage-returns'
@@ -110,3 +152,18 @@ streams_break() {
 check_lines() { with_program tries_lines; }
 
 tries_lines() { tries lines "$(the_program)" 1000000; }
+
+check_still() {
+    for clients in three sixty_four; do
+        attempt "each of $clients clients stands still, 10 times" stands_still "still::each_of_${clients}_stands_still"
+    done
+}
+
+# A test of threads that come in another order each time.
+stands_still() {
+    has_tests thread_tests || return 1
+    for round in 1 2 3 4 5 6 7 8 9 10; do
+        why="round $round: it fails"
+        timeout 60 "$(tests_of thread_tests)" "$1" >"$scratch/out" 2>"$scratch/shown" || return 1
+    done
+}

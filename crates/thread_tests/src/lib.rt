@@ -3,7 +3,15 @@
 #![tactic(auto)]
 
 #[cfg(test)]
+mod passes;
+#[cfg(test)]
+mod quiet;
+#[cfg(test)]
+mod refusals;
+#[cfg(test)]
 mod services;
+#[cfg(test)]
+mod still;
 mod waiting;
 
 pub use waiting::wait_for;

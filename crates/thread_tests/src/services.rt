@@ -22,7 +22,7 @@ use std::thread::Threads;
 const ROUNDS: u64 = 1000;
 
 /// A service for so many clients of one user.
-fn service_for(
+pub(crate) fn service_for(
     rt: &(impl Abort + AllocGlobal),
     count: u32,
 ) -> Result<(Service, Vec<Unjoined>), Fail>
@@ -41,12 +41,12 @@ fn service_for(
     Ok(Service::start(alloc, limits, creds)?)
 }
 
-fn has_passed(pass: Pass) -> bool {
+pub(crate) fn has_passed(pass: Pass) -> bool {
     matches!(pass, Pass::Passed)
 }
 
 /// Each client joins, and passes once.
-fn joined(
+pub(crate) fn joined(
     rt: &(impl Abort + AllocGlobal),
     service: &Service,
     clients: Vec<Unjoined>,
@@ -64,7 +64,7 @@ fn joined(
 }
 
 /// One of the clients, the last first.
-fn one_of(rt: &impl Abort, service: &Service, idles: &mut Vec<Idle>) -> Idle
+pub(crate) fn one_of(rt: &impl Abort, service: &Service, idles: &mut Vec<Idle>) -> Idle
     requires { All (λ i. IsOf service.now.list i.joined) idles.old.items }
     ensures one { IsOf service.now.list result.joined }
     ensures rest { All (λ i. IsOf service.now.list i.joined) idles.new.items }
@@ -76,7 +76,7 @@ fn one_of(rt: &impl Abort, service: &Service, idles: &mut Vec<Idle>) -> Idle
 }
 
 /// The reply to a call, which has ended.
-fn ended(rt: &impl Abort, service: &Service, flight: InFlight) -> (Idle, Reply)
+pub(crate) fn ended(rt: &impl Abort, service: &Service, flight: InFlight) -> (Idle, Reply)
     requires { IsOf service.now.list flight.joined }
     ensures { IsOf service.now.list result.0.joined }
 {
@@ -87,7 +87,7 @@ fn ended(rt: &impl Abort, service: &Service, flight: InFlight) -> (Idle, Reply)
 }
 
 /// A call, which waits.
-fn parked(rt: &impl Abort, service: &Service, flight: InFlight) -> InFlight
+pub(crate) fn parked(rt: &impl Abort, service: &Service, flight: InFlight) -> InFlight
     requires { IsOf service.now.list flight.joined }
     ensures { IsOf service.now.list result.joined }
 {
@@ -98,7 +98,7 @@ fn parked(rt: &impl Abort, service: &Service, flight: InFlight) -> InFlight
 }
 
 /// A client calls, passes, and has the reply.
-fn served(rt: &impl Abort, service: &Service, idle: Idle, call: Call) -> (Idle, Reply)
+pub(crate) fn served(rt: &impl Abort, service: &Service, idle: Idle, call: Call) -> (Idle, Reply)
     requires { IsOf service.now.list idle.joined }
     ensures { IsOf service.now.list result.0.joined }
 {
@@ -108,7 +108,7 @@ fn served(rt: &impl Abort, service: &Service, idle: Idle, call: Call) -> (Idle, 
 }
 
 /// A client calls, passes, and waits.
-fn waiting(rt: &impl Abort, service: &Service, idle: Idle, call: Call) -> InFlight
+pub(crate) fn waiting(rt: &impl Abort, service: &Service, idle: Idle, call: Call) -> InFlight
     requires { IsOf service.now.list idle.joined }
     ensures { IsOf service.now.list result.joined }
 {
@@ -126,7 +126,13 @@ fn has_ended(reply: Reply, wanted: Outcome) -> bool {
 }
 
 /// A client calls, passes, and has the reply that is wanted.
-fn replied(rt: &impl Abort, service: &Service, idle: Idle, call: Call, wanted: Outcome) -> Idle
+pub(crate) fn replied(
+    rt: &impl Abort,
+    service: &Service,
+    idle: Idle,
+    call: Call,
+    wanted: Outcome,
+) -> Idle
     requires { IsOf service.now.list idle.joined }
     ensures { IsOf service.now.list result.joined }
 {
@@ -135,12 +141,12 @@ fn replied(rt: &impl Abort, service: &Service, idle: Idle, call: Call, wanted: O
     idle
 }
 
-fn get(key: u32) -> Call {
+pub(crate) fn get(key: u32) -> Call {
     let flags = IPC_CREAT | 0o600;
     Call::MsgGet { key, flags }
 }
 
-fn text(alloc: Global) -> Result<Items<u8>, AllocError> {
+pub(crate) fn text(alloc: Global) -> Result<Items<u8>, AllocError> {
     Ok(Items::new(vec![in alloc; b'h', b'i']?))
 }
 
@@ -291,7 +297,11 @@ fn one_event_ends_sixty_three_waiting_calls(rt: HostRuntime) -> Result<(), Fail>
 }
 
 /// One of the clients that haven't joined, the last first.
-fn one_unjoined(rt: &impl Abort, service: &Service, clients: &mut Vec<Unjoined>) -> Unjoined
+pub(crate) fn one_unjoined(
+    rt: &impl Abort,
+    service: &Service,
+    clients: &mut Vec<Unjoined>,
+) -> Unjoined
     requires { All (λ u. IsUnjoinedOf service.now.list u.fresh) clients.old.items }
     ensures one { IsUnjoinedOf service.now.list result.fresh }
     ensures rest { All (λ u. IsUnjoinedOf service.now.list u.fresh) clients.new.items }
@@ -352,7 +362,7 @@ struct Asked {
     granted: u64,
 }
 
-fn is_granted(reply: Reply) -> bool {
+pub(crate) fn is_granted(reply: Reply) -> bool {
     matches!(
         reply,
         Reply::Entered {
@@ -452,6 +462,11 @@ fn run<R: Threads + Sync + Wait + Abort + AllocGlobal>(rt: &R, count: u32) -> Re
     check_journal(rt, &space, count);
     drop(space);
     Ok(())
+}
+
+#[test]
+fn a_thousand_calls_by_a_client_alone(rt: HostRuntime) -> Result<(), Fail> {
+    run(&rt, 1)
 }
 
 #[test]
