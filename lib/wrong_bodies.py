@@ -342,6 +342,8 @@ def edits_by_crate(names):
 
 def main(names):
     crates, edits = Crates(), edits_by_crate(names)
+    for crate, its in edits.items():
+        groups(TOP / "crates" / crate, its)  # an edit that doesn't apply stops the run before it begins
     tried = sorted(edits, key=lambda it: size(it) + sum(map(size, crates.below(it))) / 20, reverse=True)
     with concurrent.futures.ThreadPoolExecutor(len(os.sched_getaffinity(0))) as pool:
         begun = ([] if names else [pool.submit(plans)]) + [pool.submit(try_bodies, crates, it, edits[it]) for it in tried]
