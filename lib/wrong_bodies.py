@@ -155,7 +155,7 @@ class Verdict:
         self.path, self.text = path, text
         errors = re.findall(rf"^\./proofs/{re.escape(path.replace('::', '/'))}/\S+: error: (.*)$", said, re.M)
         wrong = {it[1] for it in map(OF_ANSWER.match, errors) if it and not OF_NAMES.search(it[2])}
-        resting = [re.sub(r" \(via [^)]*\)| and \d+ more$", "", it[2]).split(", ") for it in map(OF_STEP.match, errors) if it and it[1] in wrong]
+        resting = [it[2].split(", ") for it in map(OF_STEP.match, errors) if it and it[1] in wrong]
         unfound = re.findall(r"`([^`]+)`", " ".join(re.findall(r"`search` did not prove ([^;]*)", text)))
         # goals that have no answer and aren't found, those whose answer is wrong now, and those that rest on a step that is
         self.open = {*notes, *unfound, *wrong, *(name for names in resting for name in names)}
