@@ -35,7 +35,7 @@ KINDS = {"msgget": "q", "semget": "s", "shmget": "m"}
 FILES = {"q": "msg", "s": "sem", "m": "shm"}
 # How many seconds pass between two moments that a script with deadlines tells apart, for each try, since a machine at work may let a deadline
 # pass too late; and how long a client may take for a call.
-STEPS = 0.2, 1, 3
+STEPS = 0.2, 1, 3, 10
 LONGEST = 20
 
 
