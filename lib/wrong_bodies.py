@@ -1,15 +1,23 @@
 """Tries wrong bodies and weakened plans, at the top of a repository that 'rt ci' has proved: each must be refused.
 
-    wrong_bodies.py             all edits of crates/*/wrong and of checks/weakened
+    wrong_bodies.py             all edits of crates/*/wrong, of checks/weakened and of checks/right
     wrong_bodies.py CRATE..     those of crates/CRATE/wrong
 
 An edit has lines 'refuses: FUNCTION', 'file: FILE', and pairs of 'old: TEXT' and 'new: TEXT', in which ⏎ is a line end;
 each old text stands in the file exactly once. Edits of several functions are tried in one check, since what a function's
 caller knows of it are its clauses alone: each must be refused for a goal of its own, and not for a function that it calls.
 So what the other functions of the crate do is left out (lib/stubs.py).
+
+What the prover can't do is no proof that a body is wrong: goals have names after local variables, branches and calls, and a written
+proof cites such names, so it may not fit a right body in other words. So a goal counts only if the function has it as it stands, or if
+nothing is written of the function's proof, and not if only names are lost. In each crate the functions are first tried as they stand, and
+none may be refused; and bodies of checks/right, which are right ones in other words or which no clause excludes ('accepts: FUNCTION'),
+must not be refused either. An edit with a line 'bound: BOUND' calls for a bound that its function hasn't: the compiler must say this and
+nothing else. For each edit the goals are printed.
 """
 
 import concurrent.futures
+import functools
 import os
 import pathlib
 import re
@@ -24,11 +32,11 @@ TOP = pathlib.Path.cwd()
 KIT = pathlib.Path(os.path.realpath(shutil.which("rt") or sys.exit("wrong_bodies: the command rt is not on the path"))).parent.parent
 LOGIC = ["--antt-project", KIT / "rattle/logic/antt-project.json", "--logic-built", KIT / "logic_built"]
 PARTS = ("src", "specs", "proofs")
-# What a check says of a function beside its own goals: where its proof would stand, that what it calls is not proved, and
-# that for this it was not looked at.
-OF_OTHERS = re.compile(r"(no proof: )?(expected |it calls |it passes |the borrow checker's part in its proof is not made yet: a call of )")
 # An error that says only that an edit took away what a proof names.
 OF_NAMES = re.compile(r"has no field|is not in scope|has no `|was not admitted")
+# An error in the answer to a goal, or in a step of its own; and one that names the goals which rest on such a step.
+OF_ANSWER = re.compile(r"`([^`]+)`: (.*)")
+OF_STEP = re.compile(r"\d+ declarations? that depends? on `([^`]+)`, which was rejected, (?:was|were) not checked: (.*)")
 # A line that tells of an item whether it is proved.
 ITEM = re.compile(r"(fn|impl|trait|struct|enum) \S+: ")
 # A function whose plan no edit weakens.
@@ -36,16 +44,18 @@ UNTOUCHED = ("set_calls", "Sets::getpid")
 
 
 class Edit:
-    """A change of files below a folder that one function must refuse."""
+    """A change of files below a folder that one function must refuse, or accept."""
 
     def __init__(self, path):
-        self.path, self.function, self.pairs = path, "", []
+        self.path, self.function, self.is_right, self.bound, self.pairs = path, "", False, "", []
         file = old = ""
         for line in path.read_text(encoding="utf-8").splitlines():
             word, _, text = line.partition(": ")
             text = text.replace("⏎", "\n")
-            if word == "refuses":
-                self.function = text
+            if word in ("refuses", "accepts"):
+                self.function, self.is_right = text, word == "accepts"
+            elif word == "bound":
+                self.bound = text
             elif word == "file":
                 file = text
             elif word == "old":
@@ -70,10 +80,10 @@ class Edit:
 
 
 def groups(folder, edits):
-    """Lists of edits that are tried together, each with its texts by file: in each there is one edit of a function."""
+    """Lists of edits that are tried together, each with its texts by file: in each there is one edit of a function, or one that lacks a bound."""
     found = []
     for edit in edits:
-        fits = (it for it in found if all(edit.function != other.function for other in it[0]) and edit.change(it[1], folder))
+        fits = (it for it in found if not any(edit.function == other.function or edit.bound or other.bound for other in it[0]) and edit.change(it[1], folder))
         group = next(fits, None)
         if group:
             group[0].append(edit)
@@ -109,9 +119,9 @@ class Crates:
 
     def run(self, verb, crate, folder, flags):
         """Runs the prover on a copy of a crate, and returns what it said."""
-        lacking = sorted(name for name in self.below(crate) if not self.library(name).is_dir())
+        lacking = sorted(name for name in self.below(crate) if name not in self.replaced and is_older(name, self.library(name)))
         if lacking:
-            return f"{lacking[0]} is not proved and built: run rt ci first"
+            sys.exit(f"wrong_bodies: the library of {lacking[0]} isn't there, or is older than its sources: run rt ci first")
         words = [KIT / "bin/rattle", verb, "--crate-name", crate, "src/lib.rt"]
         for name in ["std", *self.uses[crate]]:
             words += ["--extern", f"{name}={self.library(name)}"]
@@ -119,6 +129,14 @@ class Crates:
             words += ["-L", f"dependency={path}"]
         how = {"cwd": folder, "stdin": subprocess.DEVNULL, "stdout": subprocess.PIPE, "stderr": subprocess.STDOUT}
         return subprocess.run([str(it) for it in [*words, *LOGIC, *flags, "--jobs", "1"]], text=True, errors="replace", **how).stdout
+
+
+@functools.cache
+def is_older(crate, library):
+    """A library isn't there, or a source of its crate was changed since it came to its place, where it may be a copy of an older one."""
+    made = library / "format"
+    sources = (it for part in PARTS for it in (TOP / "crates" / crate / part).rglob("*") if it.is_file())
+    return not made.is_file() or any(it.stat().st_mtime > made.stat().st_ctime for it in sources)
 
 
 def copied(crate, texts, to):
@@ -133,33 +151,87 @@ def copied(crate, texts, to):
 
 
 class Verdict:
-    """What a check said of a function: its path below the crate, the verdict, and whether a goal of its own isn't proved."""
+    """What a check said of a function: its path below the crate, the verdict, and the goals that aren't proved."""
 
     def __init__(self, path, text, notes, said):
         self.path, self.text = path, text
         errors = re.findall(rf"^\./proofs/{re.escape(path.replace('::', '/'))}/\S+: error: (.*)$", said, re.M)
-        # a goal that has no answer and isn't found, or an answer that is wrong now
-        is_open = notes or text.startswith("no proof: ") and not all(OF_OTHERS.match(it) for it in text.split("; "))
-        self.is_own = text != "proved" and (is_open or not all(OF_NAMES.search(it) for it in errors))
+        wrong = {it[1] for it in map(OF_ANSWER.match, errors) if it and not OF_NAMES.search(it[2])}
+        resting = [re.sub(r" \(via [^)]*\)| and \d+ more$", "", it[2]).split(", ") for it in map(OF_STEP.match, errors) if it and it[1] in wrong]
+        unfound = re.findall(r"`([^`]+)`", " ".join(re.findall(r"`search` did not prove ([^;]*)", text)))
+        # goals that have no answer and aren't found, those whose answer is wrong now, and those that rest on a step that is
+        self.open = {*notes, *unfound, *wrong, *(name for names in resting for name in names)}
 
 
 def verdicts(crate, said):
     """The verdicts of a check on the functions of a crate. The goals that aren't proved are told right before each."""
-    found, notes = [], False
+    found, notes = [], []
     for line in said.splitlines():
         named = re.match(rf"fn {crate}::(\S+): (.*)", line)
         if named:
             found.append(Verdict(*named.groups(), notes, said))
-        notes = line.startswith("note: src/") and "is not proved" in line or notes and not ITEM.match(line)
+        goal = line.startswith("note: src/") and re.search(r"is not proved .*?\(`([^`]+)`\)", line)
+        notes = [*notes, goal[1]] if goal else [] if ITEM.match(line) else notes
     return found
 
 
-def failure(edit, crate, function, said):
-    """Why an edit failed, or None where the check refused its function, or a closure in it, for a goal of its own."""
-    told = [it for it in verdicts(crate, said) if f"::{it.path}".endswith(f"::{function}") or f"fn::{function}::" in it.path]
-    if any(it.is_own for it in told):
-        return None
-    return f"{edit.path.relative_to(TOP)}: {edit.function} is not refused: {[it.text for it in told] or said.rstrip().splitlines()[-1:]}"
+def told_of(function, crate, said):
+    """The verdicts on a function and on the closures in it."""
+    name = function.rpartition("::")[2]
+    return [it for it in verdicts(crate, said) if f"::{it.path}".endswith(f"::{function}") or f"fn::{function}::" in it.path or f"fn::{name}::" in it.path]
+
+
+class Control:
+    """A crate's functions as they stand, beside the stubs: what a check says of them, and each one's goals by its path."""
+
+    def __init__(self, crates, crate, functions, folder, kept):
+        self.said = crates.run("check", crate, folder, ["--incremental", kept, *only(functions)])
+        told = {it.path: it for function in functions for it in told_of(function, crate, self.said)}
+        self.refused = [it for it in told.values() if it.open]
+        self.goals = {path: goals_in(kept, f"Rattle-{crate}-proofs.{path.replace('::', '.')}") for path in told}
+        self.found = {path for path in told if not (folder / "proofs" / path.replace("::", "/")).is_dir()}
+
+    def counts(self, path, goal):
+        """The function has the goal as it stands, or nothing was written of its proof."""
+        return path in self.found or goal in self.goals.get(path, ())
+
+    def lacks(self, function):
+        """None of the paths of a function has a goal: a name that the check doesn't know."""
+        return not any(f"::{path}".endswith(f"::{function}") and goals for path, goals in self.goals.items())
+
+
+def goals_in(kept, proof):
+    """All goals of a proof, those too that are found without an answer, by what a check kept of it. Those with an answer stand apart."""
+    files = (it for part in ("Goals", "Proof") for it in pathlib.Path(kept).glob(f"*/{proof}.{part}.oantt"))
+    return {name.decode() for it in files for name in re.findall(rb'"spelling":"([^"]+)"', it.read_bytes())}
+
+
+class Result:
+    """What came of an edit: the goals for which it was refused, and why it failed, if it did."""
+
+    def __init__(self, edit, goals, why, is_told=True):
+        self.name, self.goals, self.why = os.path.relpath(edit.path, TOP), goals, why
+        as_wanted = is_told and bool(goals) != edit.is_right
+        self.failure = None if as_wanted else f"{self.name}: {edit.function} is {'' if edit.is_right else 'not '}refused: {why}"
+
+    def __str__(self):
+        return f"{self.name}: {', '.join(sorted(self.goals)) or f'accepted: {self.why}'}"
+
+
+def result(edit, crate, function, said, counts=lambda path, goal: True):
+    """An edit's result: its function, or a closure in it, is refused for the goals that count."""
+    told = told_of(function, crate, said)
+    goals = {goal for it in told for goal in it.open if counts(it.path, goal)}
+    others = {goal for it in told for goal in it.open} - goals
+    why = f"goals of other names: {', '.join(sorted(others))}" if others else [it.text for it in told] or said.rstrip().splitlines()[-1:]
+    return Result(edit, goals, why if not goals else f"for {', '.join(sorted(goals))}", bool(told))
+
+
+def unbound(edit, said):
+    """The result of an edit that calls for a bound which its function hasn't: the compiler says this, and nothing else."""
+    errors = re.findall(r"^src/\S+: error.*", said, re.M)
+    lacking = f": {edit.bound}` is not satisfied"
+    return Result(edit, {f"there is no {edit.bound}"} if errors and all(it.endswith(lacking) for it in errors) else set(), errors or [said[-200:]])
 
 
 def only(functions):
@@ -172,16 +244,30 @@ def size(crate):
     return sum(path.stat().st_size for part in PARTS for path in (TOP / "crates" / crate / part).rglob("*") if path.is_file())
 
 
-def try_bodies(crates, crate):
-    """A failure or None for each edit of a crate."""
-    results, folder = [], TOP / "crates" / crate
+def try_bodies(crates, crate, edits):
+    """What came of each edit of a crate, and the failures of its control."""
+    results, functions = [], sorted({it.function for it in edits})
+    names = {it.rpartition("::")[2] for it in functions}
     with tempfile.TemporaryDirectory(prefix="wrong-") as room:
-        for edits, texts in groups(folder, edits_in(folder / "wrong")):
-            copy = copied(crate, texts, pathlib.Path(room) / crate)
-            stubs.keep_only(copy, {edit.function.rpartition("::")[2] for edit in edits})
-            said = crates.run("check", crate, copy, ["--incremental", f"{room}/kept", *only(edit.function for edit in edits)])
-            results += [failure(edit, crate, edit.function, said) for edit in edits]
-    return results
+        kept = f"{room}/kept"
+        control = Control(crates, crate, functions, stubbed(crate, {}, room, names), kept)
+        failed = [f"crates/{crate}: {it.path} is refused as it stands: {', '.join(sorted(it.open))}" for it in control.refused]
+        failed += [f"crates/{crate}: {it} has no goals: {control.why.rstrip().splitlines()[-1:]}" for it in functions if control.lacks(it)]
+        for group, texts in groups(TOP / "crates" / crate, edits):
+            copy = stubbed(crate, texts, room, {it.function.rpartition("::")[2] for it in group})
+            if group[0].bound:
+                results.append(unbound(group[0], crates.run("check", crate, copy, ["--only", ""])))
+                continue
+            said = crates.run("check", crate, copy, ["--incremental", kept, *only(it.function for it in group)])
+            results += [result(it, crate, it.function, said, control.counts) for it in group]
+    return results, failed
+
+
+def stubbed(crate, texts, room, names):
+    """A copy of a crate with these texts by file, in which the functions of these names alone have bodies."""
+    copy = copied(crate, texts, pathlib.Path(room) / crate)
+    stubs.keep_only(copy, names)
+    return copy
 
 
 def by_crate(texts):
@@ -215,14 +301,11 @@ def try_plans(edits, texts, room):
         wanted.setdefault(crate, []).append(function)
     broken = build_between(crates, by_crate(texts), wanted, room)
     if broken is not None:
-        return [f"{edit.path.relative_to(TOP)}: the crates below are not proved: {broken.rstrip().splitlines()[-1:]}" for edit in edits]
+        return [], [f"{edit.path.relative_to(TOP)}: the crates below are not proved: {broken.rstrip().splitlines()[-1:]}" for edit in edits]
     said = {it: crates.run("check", it, copied(it, {}, room / it), only(names)) for it, names in wanted.items()}
-    results = []
-    for edit in edits:
-        crate, _, function = edit.function.partition("::")
-        results.append(failure(edit, crate, function, said[crate]))
-    kept = [it.text for it in verdicts(UNTOUCHED[0], said[UNTOUCHED[0]]) if it.path.endswith(UNTOUCHED[1])] == ["proved"]
-    return [*results, None if kept else f"checks/weakened: {'::'.join(UNTOUCHED)} is not proved over the plans"]
+    results = [result(it, it.crate(), it.function.partition("::")[2], said[it.crate()]) for it in edits]
+    kept = [it.text for it in told_of(UNTOUCHED[1], UNTOUCHED[0], said[UNTOUCHED[0]])] == ["proved"]
+    return results, [] if kept else [f"checks/weakened: {'::'.join(UNTOUCHED)} is not proved over the plans"]
 
 
 def apart(crates, edits):
@@ -240,23 +323,36 @@ def apart(crates, edits):
 
 
 def plans():
-    results = []
+    results, failed = [], []
     for part in apart(Crates(), edits_in(TOP / "checks/weakened")):
         for edits, texts in groups(TOP, part):
             with tempfile.TemporaryDirectory(prefix="weakened-") as room:
-                results += try_plans(edits, texts, pathlib.Path(room))
-    return results
+                more = try_plans(edits, texts, pathlib.Path(room))
+                results, failed = results + more[0], failed + more[1]
+    return results, failed
+
+
+def edits_by_crate(names):
+    """The wrong bodies of these crates, or of all with the right ones of checks/right, whose files begin with crates/CRATE."""
+    found = {it: edits_in(TOP / "crates" / it / "wrong") for it in Crates().uses if not names or it in names}
+    for edit in [] if names else edits_in(TOP / "checks/right"):
+        crate = edit.pairs[0][0].split("/")[1]
+        edit.pairs = [(file.split("/", 2)[2], old, new) for file, old, new in edit.pairs]
+        found[crate].append(edit)
+    return {crate: edits for crate, edits in found.items() if edits}
 
 
 def main(names):
-    crates = Crates()
-    tried = [it for it in crates.uses if (TOP / "crates" / it / "wrong").is_dir() and (not names or it in names)]
-    tried.sort(key=lambda it: size(it) + sum(map(size, crates.below(it))) / 20, reverse=True)
+    crates, edits = Crates(), edits_by_crate(names)
+    for crate, its in edits.items():
+        groups(TOP / "crates" / crate, its)  # an edit that doesn't apply stops the run before it begins
+    tried = sorted(edits, key=lambda it: size(it) + sum(map(size, crates.below(it))) / 20, reverse=True)
     with concurrent.futures.ThreadPoolExecutor(len(os.sched_getaffinity(0))) as pool:
-        begun = ([] if names else [pool.submit(plans)]) + [pool.submit(try_bodies, crates, it) for it in tried]
-    results = [line for it in begun for line in it.result()]
-    failed = [it for it in results if it]
-    print("".join(f"FAILED {line}\n" for line in failed) + f"{len(results) - len(failed)} passed, {len(failed)} failed")
+        begun = ([] if names else [pool.submit(plans)]) + [pool.submit(try_bodies, crates, it, edits[it]) for it in tried]
+    results = [line for it in begun for line in it.result()[0]]
+    failed = [line for it in begun for line in it.result()[1]] + [it.failure for it in results if it.failure]
+    print("".join(f"{it}\n" for it in results if not it.failure) + "".join(f"FAILED {line}\n" for line in failed), end="")
+    print(f"{sum(1 for it in results if not it.failure)} passed, {len(failed)} failed")
     return 1 if failed or not results else 0
 
 
