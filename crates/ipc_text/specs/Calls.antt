@@ -1,6 +1,5 @@
--- The calls that the words behind a client's name make; None where they aren't in the grammar.
-use Rattle.std.specs.Prelude.{ℕ, List, [], ◌∷◌, codes, bytes_eq, nat_eq, Option, Some, None, if◌then◌else◌, option_map}
-use Rattle.std.specs.List.{starts_with}
+-- The calls on queues, on objects of any kind and on processes, as their arguments write them; None where these aren't in the grammar.
+use Rattle.std.specs.Prelude.{ℕ, List, [], ◌∷◌, codes, bytes_eq, Option, Some, None, if◌then◌else◌, option_map}
 use Rattle.ipc_call.specs.declared.calls.Call.{Call}
 use Rattle.ipc_call.specs.declared.calls.Call.TheVariants.{MsgGet, MsgSnd, MsgRcv, IpcStat, IpcSet, IpcRmid}
 use Rattle.ipc_call.specs.declared.calls.Call.TheVariants.{Interrupt, SetCreds, Exit}
@@ -9,8 +8,6 @@ use Rattle.ipc_call.specs.declared.calls.Kind.TheVariants.{Queue, Sems, Segment}
 use Rattle.ipc_text.specs.Grammar.{number_list, of_first_two, of_four, of_one, of_two, only, optional, two_numbers}
 use Rattle.ipc_words.specs.Numbers.{number_32, number_64, signed_64}
 use Rattle.ipc_words.specs.Steps.{◌>>=◌}
-use Rattle.ipc_text.specs.Segments.{segment_call_of}
-use Rattle.ipc_text.specs.Sets.{set_call_of}
 use Rattle.ipc_text.specs.Texts.{text_of}
 
 abbrev pub msgget_words : List ℕ → List ℕ → Option Call
@@ -63,6 +60,12 @@ object_words kind id = do
 abbrev pub object_of : List (List ℕ) → Option (Kind × ℕ)
 object_of words = of_two object_words words
 
+abbrev pub stat_of : List (List ℕ) → Option Call
+stat_of words = option_map (λ object. IpcStat object.0 object.1) (object_of words)
+
+abbrev pub rmid_of : List (List ℕ) → Option Call
+rmid_of words = option_map (λ object. IpcRmid object.0 object.1) (object_of words)
+
 -- [QBYTES]
 abbrev pub qbytes_of : List (List ℕ) → Option (Option ℕ)
 qbytes_of [] = Some None
@@ -114,31 +117,3 @@ setcreds_of words = of_first_two setcreds_words words
 abbrev pub exit_of : List (List ℕ) → Option Call
 exit_of [] = Some Exit
 exit_of (more ∷ others) = None
-
--- the word of a call on a segment, which begins with shm, or on a semaphore set, and its arguments
-abbrev pub object_call_of : List ℕ → List (List ℕ) → Option Call
-object_call_of word words =
-    if starts_with nat_eq word (codes "shm") then segment_call_of word words else set_call_of word words
-
--- the word of a call on a process, on a segment or on a semaphore set, and its arguments
-abbrev pub process_of : List ℕ → List (List ℕ) → Option Call
-process_of word words =
-    if bytes_eq word (codes "interrupt") then interrupt_of words
-    else (if bytes_eq word (codes "setcreds") then setcreds_of words
-    else (if bytes_eq word (codes "exit") then exit_of words else object_call_of word words))
-
--- the word of a control of an object of any kind or of another call that isn't on a queue alone, and its arguments
-unfoldable pub control_of : List ℕ → List (List ℕ) → Option Call
-control_of word words =
-    if bytes_eq word (codes "stat") then option_map (λ object. IpcStat object.0 object.1) (object_of words)
-    else (if bytes_eq word (codes "set") then set_of words
-    else (if bytes_eq word (codes "rmid") then option_map (λ object. IpcRmid object.0 object.1) (object_of words)
-    else process_of word words))
-
--- the word of the call, and its arguments
-unfoldable pub call_of : List (List ℕ) → Option Call
-call_of [] = None
-call_of (word ∷ words) =
-    if bytes_eq word (codes "msgget") then msgget_of words
-    else (if bytes_eq word (codes "msgsnd") then msgsnd_of words
-    else (if bytes_eq word (codes "msgrcv") then msgrcv_of words else control_of word words))

@@ -5,7 +5,7 @@ use Rattle.ipc_commands.specs.Options.{tool_named}
 use Rattle.ipc_commands.specs.declared.parts.Part.{Part}
 use Rattle.ipc_commands.specs.declared.parts.Part.TheVariants.{Plain}
 use Rattle.ipc_commands.specs.declared.tools.Tool.{Tool}
-use Rattle.ipc_text.specs.Calls.{call_of}
+use Rattle.ipc_text.specs.CallWords.{call_of}
 use Rattle.ipc_text.specs.declared.reasons.Reason.{Reason}
 use Rattle.ipc_text.specs.declared.reasons.Reason.TheVariants.{BadCommand, BadLine}
 

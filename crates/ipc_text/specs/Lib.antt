@@ -1,3 +1,4 @@
+pub mod CallWords
 pub mod Calls
 pub mod Commands
 pub mod Grammar

@@ -1,5 +1,5 @@
--- The calls on shared memory segments that words make; None where they aren't in the grammar.
-use Rattle.std.specs.Prelude.{ℕ, List, codes, bytes_eq, Option, Some, None, if◌then◌else◌, option_map}
+-- The calls on shared memory segments, as their arguments write them; None where these aren't in the grammar.
+use Rattle.std.specs.Prelude.{ℕ, List, Option, Some, option_map}
 use Rattle.ipc_call.specs.declared.calls.Call.{Call}
 use Rattle.ipc_call.specs.declared.calls.Call.TheVariants.{ShmGet, ShmAt, ShmDt, ShmRead, ShmWrite}
 use Rattle.ipc_text.specs.Grammar.{of_one, of_three, of_two}
@@ -53,16 +53,3 @@ shmwrite_words att offset text = do
 -- ATT OFFSET TEXT
 abbrev pub shmwrite_of : List (List ℕ) → Option Call
 shmwrite_of words = of_three shmwrite_words words
-
--- the word of a call that reads or writes what is attached, and its arguments
-abbrev pub memory_call_of : List ℕ → List (List ℕ) → Option Call
-memory_call_of word words =
-    if bytes_eq word (codes "shmread") then shmread_of words
-    else (if bytes_eq word (codes "shmwrite") then shmwrite_of words else None)
-
--- the word of a call on a segment, and its arguments
-abbrev pub segment_call_of : List ℕ → List (List ℕ) → Option Call
-segment_call_of word words =
-    if bytes_eq word (codes "shmget") then shmget_of words
-    else (if bytes_eq word (codes "shmat") then shmat_of words
-    else (if bytes_eq word (codes "shmdt") then shmdt_of words else memory_call_of word words))

@@ -1,8 +1,7 @@
--- The calls on semaphore sets that words make; None where they aren't in the grammar.
-use Rattle.std.specs.Prelude.{ℕ, List, [], ◌∷◌, codes, bytes_eq, Option, Some, None, if◌then◌else◌, option_map}
+-- The calls on semaphore sets, as their arguments write them; None where these aren't in the grammar.
+use Rattle.std.specs.Prelude.{ℕ, List, [], ◌∷◌, Option, Some, None, option_map}
 use Rattle.ipc_call.specs.declared.calls.Call.{Call}
-use Rattle.ipc_call.specs.declared.calls.Call.TheVariants.{SemGet, SemOp, SemTimedOp, GetVal, GetPid, GetNcnt, GetZcnt}
-use Rattle.ipc_call.specs.declared.calls.Call.TheVariants.{GetAll, SetVal, SetAll}
+use Rattle.ipc_call.specs.declared.calls.Call.TheVariants.{SemGet, SemOp, SemTimedOp, GetAll, SetVal, SetAll}
 use Rattle.ipc_call.specs.declared.calls.SemOper.{SemOper}
 use Rattle.ipc_text.specs.Grammar.{each_of, of_first_two, of_one, of_three, of_two, two_numbers}
 use Rattle.ipc_words.specs.Numbers.{number_16, number_32, number_64, signed_16, signed_32}
@@ -85,24 +84,6 @@ getall_of words = option_map (λ i. GetAll i) (of_one number_32 words)
 abbrev pub semaphore_of : List (List ℕ) → Option (ℕ × ℕ)
 semaphore_of words = of_two two_numbers words
 
--- the word of a report on one semaphore, and its arguments
-abbrev pub report_of : List ℕ → List (List ℕ) → Option Call
-report_of word words =
-    if bytes_eq word (codes "getval") then option_map (λ s. GetVal s.0 s.1) (semaphore_of words)
-    else (if bytes_eq word (codes "getpid") then option_map (λ s. GetPid s.0 s.1) (semaphore_of words)
-    else (if bytes_eq word (codes "getncnt") then option_map (λ s. GetNcnt s.0 s.1) (semaphore_of words)
-    else (if bytes_eq word (codes "getzcnt") then option_map (λ s. GetZcnt s.0 s.1) (semaphore_of words) else None)))
-
--- the word of a call that sets one value or reports values, and its arguments
-abbrev pub value_call_of : List ℕ → List (List ℕ) → Option Call
-value_call_of word words =
-    if bytes_eq word (codes "setval") then setval_of words
-    else (if bytes_eq word (codes "getall") then getall_of words else report_of word words)
-
--- the word of a call on a semaphore set, and its arguments
-abbrev pub set_call_of : List ℕ → List (List ℕ) → Option Call
-set_call_of word words =
-    if bytes_eq word (codes "semget") then semget_of words
-    else (if bytes_eq word (codes "semop") then semop_of words
-    else (if bytes_eq word (codes "semtimedop") then semtimedop_of words
-    else (if bytes_eq word (codes "setall") then setall_of words else value_call_of word words)))
+-- one number of one semaphore
+abbrev pub report_of : (ℕ → ℕ → Call) → List (List ℕ) → Option Call
+report_of call words = option_map (λ s. call s.0 s.1) (semaphore_of words)

@@ -1,7 +1,8 @@
 // The calls that the words behind a client's name make.
 
-ghost use Rattle.std.specs.Prelude.{◌≡◌, IfOk, option_map};
-ghost use Rattle.ipc_text.specs.Calls.{call_of as call_words, control_of as control_words, exit_of as exit_words, interrupt_of as interrupt_words, process_of as process_words, kind_named as kind_word, msgget_of as msgget_words, object_call_of as object_call_words, object_of as object_words};
+ghost use Rattle.std.specs.Prelude.{◌≡◌, ◌++◌, IfOk, option_map};
+ghost use Rattle.ipc_text.specs.CallWords.{call_of as call_words, controls, process_calls, read_by, segment_calls, set_calls, value_calls};
+ghost use Rattle.ipc_text.specs.Calls.{exit_of as exit_words, interrupt_of as interrupt_words, kind_named as kind_word, msgget_of as msgget_words, object_of as object_words};
 ghost use Rattle.ipc_text.specs.Calls.{groups_option as groups_words, new_groups as new_groups_text, qbytes_of as qbytes_words, set_of as set_line, set_words as set_parts, setcreds_of as setcreds_line, setcreds_words as setcreds_parts};
 ghost use Rattle.ipc_text.specs.Calls.{msgrcv_of as msgrcv_line, msgrcv_words as msgrcv_parts, msgsnd_of as msgsnd_line, msgsnd_words as msgsnd_parts};
 ghost use Rattle.ipc_words.specs.Words.{words_of};
@@ -10,7 +11,6 @@ use crate::arguments::{first_two, four_words, one_word, two_numbers, two_words};
 use crate::grammar::option_text;
 use crate::lists::number_list;
 use crate::segments::segment_call_of;
-use crate::sets::set_call_of;
 use crate::texts::text_of;
 use ipc_call::{Call, Items, Kind};
 use ipc_words::{number, number_32, signed_64, split_word};
@@ -18,37 +18,43 @@ use std::alloc::{AllocError, Global};
 
 /// The call that the words make, of which the first names it; `None` where they make none. `AllocError` comes where
 /// memory was refused.
-#[tactic(auto, unfolding(crate::specs::Calls::call_of))]
+#[tactic(auto, unfolding(crate::specs::CallWords::call_of))]
 pub(crate) fn call_of(alloc: Global, words: &[u8]) -> Result<Option<Call>, AllocError>
     ensures { IfOk result (λ call. call ≡ call_words (words_of words.now)) }
 {
     let Some((word, words)) = split_word(words) else {
         return Ok(None);
     };
-    match word {
-        b"msgget" => Ok(msgget_of(words)),
-        b"msgsnd" => msgsnd_of(alloc, words),
-        b"msgrcv" => Ok(msgrcv_of(words)),
-        _ => control_of(alloc, word, words),
+    if word == b"msgget".as_slice() {
+        Ok(msgget_of(words))
+    } else if word == b"msgsnd".as_slice() {
+        msgsnd_of(alloc, words)
+    } else if word == b"msgrcv".as_slice() {
+        Ok(msgrcv_of(words))
+    } else {
+        control_of(alloc, word, words)
     }
 }
 
-// The control of an object of any kind, or another call that isn't on a queue alone.
-#[tactic(auto, unfolding(crate::specs::Calls::control_of))]
+// A call whose word stands below those of queues in the table.
 fn control_of(alloc: Global, word: &[u8], words: &[u8]) -> Result<Option<Call>, AllocError>
-    ensures { IfOk result (λ call. call ≡ control_words word.now (words_of words.now)) }
+    ensures { IfOk result (λ call. call
+        ≡ read_by (controls ++ process_calls ++ segment_calls ++ set_calls ++ value_calls) word.now (words_of words.now)) }
 {
-    match word {
-        b"stat" => Ok(object_of(words).map(|(kind, id)| Call::IpcStat { kind, id })),
-        b"set" => Ok(set_of(words)),
-        b"rmid" => Ok(object_of(words).map(|(kind, id)| Call::IpcRmid { kind, id })),
-        _ => process_of(alloc, word, words),
+    if word == b"stat".as_slice() {
+        Ok(object_of(words).map(|(kind, id)| Call::IpcStat { kind, id }))
+    } else if word == b"set".as_slice() {
+        Ok(set_of(words))
+    } else if word == b"rmid".as_slice() {
+        Ok(object_of(words).map(|(kind, id)| Call::IpcRmid { kind, id }))
+    } else {
+        process_call_of(alloc, word, words)
     }
 }
 
-// A call on a process, or on one of the other objects.
-fn process_of(alloc: Global, word: &[u8], words: &[u8]) -> Result<Option<Call>, AllocError>
-    ensures { IfOk result (λ call. call ≡ process_words word.now (words_of words.now)) }
+fn process_call_of(alloc: Global, word: &[u8], words: &[u8]) -> Result<Option<Call>, AllocError>
+    ensures { IfOk result (λ call. call
+        ≡ read_by (process_calls ++ segment_calls ++ set_calls ++ value_calls) word.now (words_of words.now)) }
 {
     if word == b"interrupt".as_slice() {
         Ok(interrupt_of(words))
@@ -57,18 +63,7 @@ fn process_of(alloc: Global, word: &[u8], words: &[u8]) -> Result<Option<Call>, 
     } else if word == b"exit".as_slice() {
         Ok(exit_of(words))
     } else {
-        object_call_of(alloc, word, words)
-    }
-}
-
-// A call on a segment, or on a semaphore set.
-fn object_call_of(alloc: Global, word: &[u8], words: &[u8]) -> Result<Option<Call>, AllocError>
-    ensures { IfOk result (λ call. call ≡ object_call_words word.now (words_of words.now)) }
-{
-    if word.starts_with(b"shm") {
         segment_call_of(alloc, word, words)
-    } else {
-        set_call_of(alloc, word, words)
     }
 }
 

@@ -1,24 +1,27 @@
 // The calls on shared memory segments that words make.
 
-ghost use Rattle.std.specs.Prelude.{◌≡◌, IfOk};
-ghost use Rattle.ipc_text.specs.Segments.{memory_call_of as memory_call_words, segment_call_of as segment_call_words, shmat_of as shmat_words, shmdt_of as shmdt_line};
+ghost use Rattle.std.specs.Prelude.{◌≡◌, ◌++◌, IfOk};
+ghost use Rattle.ipc_text.specs.CallWords.{read_by, segment_calls, set_calls, value_calls};
+ghost use Rattle.ipc_text.specs.Segments.{shmat_of as shmat_words, shmdt_of as shmdt_line};
 ghost use Rattle.ipc_text.specs.Segments.{shmget_of as shmget_line, shmget_words as shmget_parts, shmread_of as shmread_line, shmread_words as shmread_parts, shmwrite_of as shmwrite_line, shmwrite_words as shmwrite_parts};
 ghost use Rattle.ipc_words.specs.Words.{words_of};
 
 use crate::arguments::{one_word, three_words, two_words};
+use crate::sets::set_call_of;
 use crate::texts::text_of;
 use ipc_call::Call;
 use ipc_words::{number, number_32};
 use std::alloc::{AllocError, Global};
 
-/// The call on a shared memory segment that this word and those behind it make; `None` where they make none.
-/// `AllocError` comes where memory was refused.
+/// The call on a shared memory segment that this word and those behind it make, or that on a semaphore set; `None` where they
+/// make none. `AllocError` comes where memory was refused.
 pub(crate) fn segment_call_of(
     alloc: Global,
     word: &[u8],
     words: &[u8],
 ) -> Result<Option<Call>, AllocError>
-    ensures { IfOk result (λ call. call ≡ segment_call_words word.now (words_of words.now)) }
+    ensures { IfOk result (λ call. call
+        ≡ read_by (segment_calls ++ set_calls ++ value_calls) word.now (words_of words.now)) }
 {
     if word == b"shmget".as_slice() {
         Ok(shmget_of(words))
@@ -26,21 +29,12 @@ pub(crate) fn segment_call_of(
         Ok(shmat_of(words))
     } else if word == b"shmdt".as_slice() {
         Ok(shmdt_of(words))
-    } else {
-        memory_call_of(alloc, word, words)
-    }
-}
-
-// A call that reads or writes what is attached.
-fn memory_call_of(alloc: Global, word: &[u8], words: &[u8]) -> Result<Option<Call>, AllocError>
-    ensures { IfOk result (λ call. call ≡ memory_call_words word.now (words_of words.now)) }
-{
-    if word == b"shmread".as_slice() {
+    } else if word == b"shmread".as_slice() {
         Ok(shmread_of(words))
     } else if word == b"shmwrite".as_slice() {
         shmwrite_of(alloc, words)
     } else {
-        Ok(None)
+        set_call_of(alloc, word, words)
     }
 }
 

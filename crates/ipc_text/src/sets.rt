@@ -1,7 +1,8 @@
 // The calls on semaphore sets that words make.
 
-ghost use Rattle.std.specs.Prelude.{◌≡◌, IfOk};
-ghost use Rattle.ipc_text.specs.Sets.{getall_of as getall_words, oper_flags as flags_fields, oper_of as oper_word, report_of as report_words, semaphore_of as semaphore_words, set_call_of as set_call_words, value_call_of as value_call_words};
+ghost use Rattle.std.specs.Prelude.{◌≡◌, ◌++◌, IfOk};
+ghost use Rattle.ipc_text.specs.CallWords.{read_by, set_calls, value_calls};
+ghost use Rattle.ipc_text.specs.Sets.{getall_of as getall_words, oper_flags as flags_fields, oper_of as oper_word, semaphore_of as semaphore_words};
 ghost use Rattle.ipc_text.specs.Sets.{semget_of as semget_line, semget_words as semget_parts, semop_of as semop_words, semtimedop_of as semtimedop_words, setall_of as setall_words, setval_of as setval_line, setval_words as setval_parts};
 ghost use Rattle.ipc_words.specs.Words.{fields_of, words_of};
 
@@ -18,7 +19,8 @@ pub(crate) fn set_call_of(
     word: &[u8],
     words: &[u8],
 ) -> Result<Option<Call>, AllocError>
-    ensures { IfOk result (λ call. call ≡ set_call_words word.now (words_of words.now)) }
+    ensures { IfOk result (λ call. call
+        ≡ read_by (set_calls ++ value_calls) word.now (words_of words.now)) }
 {
     if word == b"semget".as_slice() {
         Ok(semget_of(words))
@@ -26,40 +28,31 @@ pub(crate) fn set_call_of(
         semop_of(alloc, words)
     } else if word == b"semtimedop".as_slice() {
         semtimedop_of(alloc, words)
-    } else if word == b"setall".as_slice() {
-        setall_of(alloc, words)
     } else {
-        Ok(value_call_of(word, words))
+        value_call_of(alloc, word, words)
     }
 }
 
-// A call that sets one value or reports values.
-fn value_call_of(word: &[u8], words: &[u8]) -> Option<Call>
-    ensures { result ≡ value_call_words word.now (words_of words.now) }
+// A call that sets or reports values (semctl(2)).
+fn value_call_of(alloc: Global, word: &[u8], words: &[u8]) -> Result<Option<Call>, AllocError>
+    ensures { IfOk result (λ call. call ≡ read_by value_calls word.now (words_of words.now)) }
 {
     if word == b"setval".as_slice() {
-        setval_of(words)
+        Ok(setval_of(words))
+    } else if word == b"setall".as_slice() {
+        setall_of(alloc, words)
     } else if word == b"getall".as_slice() {
-        getall_of(words)
-    } else {
-        report_of(word, words)
-    }
-}
-
-// A report on one semaphore.
-fn report_of(word: &[u8], words: &[u8]) -> Option<Call>
-    ensures { result ≡ report_words word.now (words_of words.now) }
-{
-    if word == b"getval".as_slice() {
-        semaphore_of(words).map(|(id, num)| Call::GetVal { id, num })
+        Ok(getall_of(words))
+    } else if word == b"getval".as_slice() {
+        Ok(semaphore_of(words).map(|(id, num)| Call::GetVal { id, num }))
     } else if word == b"getpid".as_slice() {
-        semaphore_of(words).map(|(id, num)| Call::GetPid { id, num })
+        Ok(semaphore_of(words).map(|(id, num)| Call::GetPid { id, num }))
     } else if word == b"getncnt".as_slice() {
-        semaphore_of(words).map(|(id, num)| Call::GetNcnt { id, num })
+        Ok(semaphore_of(words).map(|(id, num)| Call::GetNcnt { id, num }))
     } else if word == b"getzcnt".as_slice() {
-        semaphore_of(words).map(|(id, num)| Call::GetZcnt { id, num })
+        Ok(semaphore_of(words).map(|(id, num)| Call::GetZcnt { id, num }))
     } else {
-        None
+        Ok(None)
     }
 }
 
