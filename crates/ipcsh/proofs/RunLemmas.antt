@@ -11,7 +11,7 @@ use Rattle.ipcsh.specs.declared.runs.Fault.TheVariants as faults
 use Rattle.ipcsh.specs.Inputs.{HasRead, Takes}
 use Rattle.ipc_words.specs.Lines.{complete_lines, lines_of}
 use Rattle.ipcsh.specs.Output.{Printed}
-use Rattle.ipcsh.specs.Runs.{LeadTo, Transfer, WritesWhole, WritesFront, StopsBy, summary_of}
+use Rattle.ipcsh.specs.Runs.{LeadTo, Transfer, WritesWhole, WritesFront, StopsBy, summary_of, transfer}
 use Rattle.ipcsh.specs.Session.{fresh_session}
 use Rattle.ipcsh.proofs.InputLemmas.{LeadTo-more}
 
@@ -22,9 +22,6 @@ pub record Going (r0 r1 w0 w1 : Option (List ℕ)) (text written : List ℕ) (i 
   pub empty : string_bytes i.rows ≡ []
   pub read : Consumes r0 r1 text
   pub wrote : Appends w0 w1 written
-
-abbrev between : Option (List ℕ) → Option (List ℕ) → Option (List ℕ) → Option (List ℕ) → Transfer
-between r0 r1 w0 w1 = record { read_before = r0; read_after = r1; written_before = w0; written_after = w1 }
 
 -- the session at a place of the input with what was written so far
 abbrev printed : ScriptInput → List ℕ → Printed
@@ -44,7 +41,7 @@ Going-start r w i session pending rows = record {
   wrote = Appends-nil w;
 }
 
-pub at_start : (r w : Option (List ℕ)) → WritesFront (between r r w w)
+pub at_start : (r w : Option (List ℕ)) → WritesFront (transfer r r w w)
 at_start r w = (
   [],
   record { session = fresh_session; output = [] },
@@ -53,7 +50,7 @@ at_start r w = (
   record { within = omega arith; lines = ([], refl, refl); front = refl; moves = record { read = Consumes-nil r; written = Appends-nil w } },
 )
 
-pub at_read_error : (r0 r1 r2 w0 w1 : Option (List ℕ)) (text written : List ℕ) (i : ScriptInput) → Going r0 r1 w0 w1 text written i → Keeps r1 r2 → StopsBy (between r0 r2 w0 w1) faults.Read
+pub at_read_error : (r0 r1 r2 w0 w1 : Option (List ℕ)) (text written : List ℕ) (i : ScriptInput) → Going r0 r1 w0 w1 text written i → Keeps r1 r2 → StopsBy (transfer r0 r2 w0 w1) faults.Read
 at_read_error r0 r1 r2 w0 w1 text written i h kept = (
   text,
   printed i written,
@@ -61,7 +58,7 @@ at_read_error r0 r1 r2 w0 w1 text written i h kept = (
   record { lines = written_all r0 r1 w0 w1 text written i h; moves = record { read = Consumes-kept r0 r1 r2 text h.read kept; written = h.wrote } },
 )
 
-pub at_too_much : (r0 r1 r2 w0 w1 : Option (List ℕ)) (text written bytes : List ℕ) (i : ScriptInput) → Going r0 r1 w0 w1 text written i → length text ≡ 16777216 → length bytes ≡ 1 → Consumes r1 r2 bytes → StopsBy (between r0 r2 w0 w1) faults.TooMuch
+pub at_too_much : (r0 r1 r2 w0 w1 : Option (List ℕ)) (text written bytes : List ℕ) (i : ScriptInput) → Going r0 r1 w0 w1 text written i → length text ≡ 16777216 → length bytes ≡ 1 → Consumes r1 r2 bytes → StopsBy (transfer r0 r2 w0 w1) faults.TooMuch
 at_too_much r0 r1 r2 w0 w1 text written bytes i h full one more = (
   text ++ bytes,
   printed i written,
@@ -73,7 +70,7 @@ at_too_much r0 r1 r2 w0 w1 text written bytes i h full one more = (
 )
 
 -- a front of what the complete lines of some text print was written
-front_of : (r0 r2 w0 w2 : Option (List ℕ)) (a b : List ℕ) (p : Printed) (written rest : List ℕ) → LeadTo (complete_lines a) p → p.output ≡ written ++ rest → length (a ++ b) ≤ 16777216 → Consumes r0 r2 (a ++ b) → Appends w0 w2 written → WritesFront (between r0 r2 w0 w2)
+front_of : (r0 r2 w0 w2 : Option (List ℕ)) (a b : List ℕ) (p : Printed) (written rest : List ℕ) → LeadTo (complete_lines a) p → p.output ≡ written ++ rest → length (a ++ b) ≤ 16777216 → Consumes r0 r2 (a ++ b) → Appends w0 w2 written → WritesFront (transfer r0 r2 w0 w2)
 front_of r0 r2 w0 w2 a b p written rest h front small read wrote =
     let more = LeadTo-more a b p h in (
       a ++ b,
@@ -88,11 +85,11 @@ front_of r0 r2 w0 w2 a b p written rest h front small read wrote =
       },
     )
 
-pub at_no_memory : (r0 r1 r2 w0 w1 : Option (List ℕ)) (text written bytes : List ℕ) (i : ScriptInput) → Going r0 r1 w0 w1 text written i → length text + length bytes ≤ 16777216 → Consumes r1 r2 bytes → WritesFront (between r0 r2 w0 w1)
+pub at_no_memory : (r0 r1 r2 w0 w1 : Option (List ℕ)) (text written bytes : List ℕ) (i : ScriptInput) → Going r0 r1 w0 w1 text written i → length text + length bytes ≤ 16777216 → Consumes r1 r2 bytes → WritesFront (transfer r0 r2 w0 w1)
 at_no_memory r0 r1 r2 w0 w1 text written bytes i h small more =
     front_of r0 r2 w0 w1 text bytes (printed i written) written [] (written_all r0 r1 w0 w1 text written i h) (sym (append-nil written)) (omega (arith, length-append text bytes)) (Consumes-trans r0 r1 r2 text bytes h.read more) h.wrote
 
-pub at_write_error : (r0 r1 r2 w0 w1 w2 : Option (List ℕ)) (text written bytes done rest : List ℕ) (i new : ScriptInput) → Going r0 r1 w0 w1 text written i → length text + length bytes ≤ 16777216 → Consumes r1 r2 bytes → Takes i bytes new → string_bytes new.rows ≡ done ++ rest → Appends w1 w2 done → WritesFront (between r0 r2 w0 w2)
+pub at_write_error : (r0 r1 r2 w0 w1 w2 : Option (List ℕ)) (text written bytes done rest : List ℕ) (i new : ScriptInput) → Going r0 r1 w0 w1 text written i → length text + length bytes ≤ 16777216 → Consumes r1 r2 bytes → Takes i bytes new → string_bytes new.rows ≡ done ++ rest → Appends w1 w2 done → WritesFront (transfer r0 r2 w0 w2)
 at_write_error r0 r1 r2 w0 w1 w2 text written bytes done rest i new h small more takes rows wrote =
     let all = text ++ bytes in
     let read : Consumes r0 r2 (all ++ []) = subst (λ (bs : List ℕ). Consumes r0 r2 bs) (sym (append-nil all)) (Consumes-trans r0 r1 r2 text bytes h.read more) in
@@ -115,7 +112,7 @@ Going-on r0 r1 r2 w0 w1 w2 text written bytes i new flushed h small more takes w
     }
 
 -- the input has ended, and its last line is answered
-pub at_end : (r0 r1 r2 w0 w1 w2 : Option (List ℕ)) (text written : List ℕ) (i new : ScriptInput) (summary : Summary) → Going r0 r1 w0 w1 text written i → Consumes r1 r2 [] → IsAtEnd r2 → LeadTo (lines_of text) (printed new (written ++ string_bytes new.rows)) → Appends w1 w2 (string_bytes new.rows) → summary ≡ summary_of new.session → WritesWhole (between r0 r2 w0 w2) summary
+pub at_end : (r0 r1 r2 w0 w1 w2 : Option (List ℕ)) (text written : List ℕ) (i new : ScriptInput) (summary : Summary) → Going r0 r1 w0 w1 text written i → Consumes r1 r2 [] → IsAtEnd r2 → LeadTo (lines_of text) (printed new (written ++ string_bytes new.rows)) → Appends w1 w2 (string_bytes new.rows) → summary ≡ summary_of new.session → WritesWhole (transfer r0 r2 w0 w2) summary
 at_end r0 r1 r2 w0 w1 w2 text written i new summary h none end lines wrote told = (
   text,
   printed new (written ++ string_bytes new.rows),
@@ -131,7 +128,7 @@ at_end r0 r1 r2 w0 w1 w2 text written i new summary h none end lines wrote told 
   },
 )
 
-pub at_end_write_error : (r0 r1 r2 w0 w1 w2 : Option (List ℕ)) (text written done rest : List ℕ) (i new : ScriptInput) → Going r0 r1 w0 w1 text written i → Consumes r1 r2 [] → LeadTo (lines_of text) (printed new (written ++ string_bytes new.rows)) → string_bytes new.rows ≡ done ++ rest → Appends w1 w2 done → WritesFront (between r0 r2 w0 w2)
+pub at_end_write_error : (r0 r1 r2 w0 w1 w2 : Option (List ℕ)) (text written done rest : List ℕ) (i new : ScriptInput) → Going r0 r1 w0 w1 text written i → Consumes r1 r2 [] → LeadTo (lines_of text) (printed new (written ++ string_bytes new.rows)) → string_bytes new.rows ≡ done ++ rest → Appends w1 w2 done → WritesFront (transfer r0 r2 w0 w2)
 at_end_write_error r0 r1 r2 w0 w1 w2 text written done rest i new h none lines rows wrote = (
   text,
   printed new (written ++ string_bytes new.rows),

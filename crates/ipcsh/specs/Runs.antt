@@ -27,6 +27,11 @@ pub record Transfer : Type 0 where
   pub written_before : Option (List ℕ)
   pub written_after : Option (List ℕ)
 
+-- of a reader before and after, and of a writer
+abbrev pub transfer : Option (List ℕ) → Option (List ℕ) → Option (List ℕ) → Option (List ℕ) → Transfer
+transfer unread left written grown =
+    record { read_before = unread; read_after = left; written_before = written; written_after = grown }
+
 -- this text was read and these bytes were written
 pub record Moves (t : Transfer) (text bytes : List ℕ) : Type 0 where
   pub read : Consumes t.read_before t.read_after text

@@ -1,7 +1,7 @@
 // A run of a script from its first byte to its end or a fault.
 
 ghost use Rattle.std.specs.Prelude.{◌≡◌, [], IfOk, IfErr, length, string_bytes};
-ghost use Rattle.ipcsh.specs.Runs.{WritesWhole, StopsBy};
+ghost use Rattle.ipcsh.specs.Runs.{WritesWhole, StopsBy, transfer};
 ghost use Rattle.ipcsh.specs.Session.{fresh_session};
 ghost use Rattle.ipcsh.specs.declared.runs.Fault.TheVariants.{Memory as out_of_memory};
 
@@ -58,18 +58,12 @@ pub fn run<R: Read, W: Write>(
     reader: &mut R,
     writer: &mut W,
 ) -> Result<Summary, Fault>
-    ensures ok { IfOk result (WritesWhole (record {
-      read_before = R.remaining reader.old;
-      read_after = R.remaining reader.new;
-      written_before = W.contents writer.old;
-      written_after = W.contents writer.new;
-    })) }
-    ensures fault { IfErr result (StopsBy (record {
-      read_before = R.remaining reader.old;
-      read_after = R.remaining reader.new;
-      written_before = W.contents writer.old;
-      written_after = W.contents writer.new;
-    })) }
+    ensures ok { IfOk result (WritesWhole (transfer
+        (R.remaining reader.old) (R.remaining reader.new)
+        (W.contents writer.old) (W.contents writer.new))) }
+    ensures fault { IfErr result (StopsBy (transfer
+        (R.remaining reader.old) (R.remaining reader.new)
+        (W.contents writer.old) (W.contents writer.new))) }
 {
     run_with(alloc, reader, writer, &mut ())
 }
@@ -81,18 +75,12 @@ pub fn run_with<R: Read, W: Write, L: Listener>(
     writer: &mut W,
     listener: &mut L,
 ) -> Result<Summary, Fault>
-    ensures ok { IfOk result (WritesWhole (record {
-      read_before = R.remaining reader.old;
-      read_after = R.remaining reader.new;
-      written_before = W.contents writer.old;
-      written_after = W.contents writer.new;
-    })) }
-    ensures fault { IfErr result (StopsBy (record {
-      read_before = R.remaining reader.old;
-      read_after = R.remaining reader.new;
-      written_before = W.contents writer.old;
-      written_after = W.contents writer.new;
-    })) }
+    ensures ok { IfOk result (WritesWhole (transfer
+        (R.remaining reader.old) (R.remaining reader.new)
+        (W.contents writer.old) (W.contents writer.new))) }
+    ensures fault { IfErr result (StopsBy (transfer
+        (R.remaining reader.old) (R.remaining reader.new)
+        (W.contents writer.old) (W.contents writer.new))) }
 {
     let mut piece = vec![in alloc; 0u8; PIECE]?;
     let mut input = ScriptInput::new(alloc);
@@ -114,18 +102,12 @@ fn answer_all<R: Read, W: Write, L: Listener>(
     requires session { input.old.session ≡ fresh_session }
     requires pending { input.old.pending ≡ [] }
     requires rows { string_bytes input.old.rows ≡ [] }
-    ensures ok { IfOk result (WritesWhole (record {
-      read_before = R.remaining reader.old;
-      read_after = R.remaining reader.new;
-      written_before = W.contents writer.old;
-      written_after = W.contents writer.new;
-    })) }
-    ensures fault { IfErr result (StopsBy (record {
-      read_before = R.remaining reader.old;
-      read_after = R.remaining reader.new;
-      written_before = W.contents writer.old;
-      written_after = W.contents writer.new;
-    })) }
+    ensures ok { IfOk result (WritesWhole (transfer
+        (R.remaining reader.old) (R.remaining reader.new)
+        (W.contents writer.old) (W.contents writer.new))) }
+    ensures fault { IfErr result (StopsBy (transfer
+        (R.remaining reader.old) (R.remaining reader.new)
+        (W.contents writer.old) (W.contents writer.new))) }
 {
     let mut count = 0;
     'pieces: loop {

@@ -3,6 +3,7 @@
 ghost use Rattle.std.specs.Prelude.{◌≡◌, ◌≤◌, ◌++◌, IfErr, IfOk, length, string_bytes};
 ghost use Rattle.ipc_history.specs.History.{run as run_of};
 ghost use Rattle.ipc_model.specs.Listings.{lines_of};
+ghost use Rattle.ipcsh.specs.Runs.{transfer};
 ghost use Rattle.ipcsh_threads.specs.Rows.{count_rows, object_lines};
 ghost use Rattle.ipcsh_threads.specs.Threads.{CanRun, EndsSo, StopsThreads, WritesThreads, setup_of};
 
@@ -27,18 +28,12 @@ pub fn threads<R: Threads + Sync + Wait, I: Read, W: Write>(
     reader: &mut I,
     writer: &mut W,
 ) -> Result<Summary, Fault>
-    ensures ok { IfOk result (WritesThreads (record {
-      read_before = I.remaining reader.old;
-      read_after = I.remaining reader.new;
-      written_before = W.contents writer.old;
-      written_after = W.contents writer.new;
-    })) }
-    ensures fault { IfErr result (StopsThreads (record {
-      read_before = I.remaining reader.old;
-      read_after = I.remaining reader.new;
-      written_before = W.contents writer.old;
-      written_after = W.contents writer.new;
-    })) }
+    ensures ok { IfOk result (WritesThreads (transfer
+        (I.remaining reader.old) (I.remaining reader.new)
+        (W.contents writer.old) (W.contents writer.new))) }
+    ensures fault { IfErr result (StopsThreads (transfer
+        (I.remaining reader.old) (I.remaining reader.new)
+        (W.contents writer.old) (W.contents writer.new))) }
 {
     threads_with(rt, alloc, reader, writer, &mut ())
 }
@@ -51,18 +46,12 @@ pub fn threads_with<R: Threads + Sync + Wait, I: Read, W: Write, L: Listener>(
     writer: &mut W,
     listener: &mut L,
 ) -> Result<Summary, Fault>
-    ensures ok { IfOk result (WritesThreads (record {
-      read_before = I.remaining reader.old;
-      read_after = I.remaining reader.new;
-      written_before = W.contents writer.old;
-      written_after = W.contents writer.new;
-    })) }
-    ensures fault { IfErr result (StopsThreads (record {
-      read_before = I.remaining reader.old;
-      read_after = I.remaining reader.new;
-      written_before = W.contents writer.old;
-      written_after = W.contents writer.new;
-    })) }
+    ensures ok { IfOk result (WritesThreads (transfer
+        (I.remaining reader.old) (I.remaining reader.new)
+        (W.contents writer.old) (W.contents writer.new))) }
+    ensures fault { IfErr result (StopsThreads (transfer
+        (I.remaining reader.old) (I.remaining reader.new)
+        (W.contents writer.old) (W.contents writer.new))) }
 {
     let plan = read_plan_with(alloc, reader, listener)?;
     write_bytes(writer, plan.rows.as_bytes())?;
