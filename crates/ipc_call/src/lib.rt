@@ -13,6 +13,7 @@ mod listings;
 mod perms;
 mod replies;
 mod rules;
+mod sentences;
 mod settings;
 
 pub use boxed::Boxed;

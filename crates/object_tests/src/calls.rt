@@ -1,7 +1,8 @@
-// Lists and calls that are copied.
+// Lists and calls that are copied, and what a rule says.
 
-use ipc_call::{Call, IPC_CREAT, IPC_NOWAIT, Items, Kind};
+use ipc_call::{Call, IPC_CREAT, IPC_NOWAIT, Items, Kind, Rule};
 use std::alloc::Global;
+use std::io;
 use std::test::Fail;
 
 /// These bytes as a list.
@@ -58,5 +59,16 @@ fn a_copied_call_equals_its_source(rt: HostRuntime) -> Result<(), Fail> {
     assert!(rt; is_copied(send)?);
     let (kind, id) = (Kind::Segment, 32768);
     assert!(rt; is_copied(Call::IpcRmid { kind, id })?);
+    Ok(())
+}
+
+#[test]
+fn a_rule_says_why_and_becomes_an_error_of_its_number(rt: HostRuntime) -> Result<(), Fail> {
+    let said = format!(in rt.alloc(); "{}", Rule::OwnerBits)?;
+    let why =
+        "Permission denied: the caller is in the owner class, whose bits deny it (owner-bits)";
+    assert_eq!(rt; said.as_str(), why);
+    let error = io::Error::from(Rule::Removed);
+    assert_eq!(rt; error.raw_os_error(), Some(43));
     Ok(())
 }
