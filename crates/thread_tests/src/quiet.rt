@@ -8,7 +8,7 @@ use crate::passes::{all_posted, pass, put_back, receive};
 use crate::services::{
     ended, get, has_passed, joined, one_of, one_unjoined, served, service_for, text, waiting,
 };
-use ipc_call::{Call, IPC_CREAT, Items, Kind, Reply, SemOper};
+use ipc_call::{Call, IPC_CREAT, Items, Kind, Reply, SEM_UNDO, SemOper};
 use ipc_combiner::{Client, Idle, InFlight, Polled, Seen, Service, Unjoined};
 use std::alloc::{AllocError, Global};
 use std::process::Abort;
@@ -36,7 +36,7 @@ fn attach() -> Call {
     Call::ShmAt { id: 0, flags: 0 }
 }
 
-/// So many gets, each of which adds two rows to the journal. Its room doubles where it ends, so that after 17 events there is
+/// So many gets, each of which adds two rows to the journal. Its room doubles where it ends, so that after 35 events there is
 /// room for those of a pass.
 fn gets(alloc: Global, count: usize) -> Result<Vec<Call>, AllocError> {
     let mut calls = Vec::new(alloc);
@@ -55,7 +55,7 @@ fn made_before(alloc: Global) -> Result<Vec<Call>, AllocError> {
         text: text(alloc)?,
         flags: 0,
     };
-    let mut calls = gets(alloc, 12)?;
+    let mut calls = gets(alloc, 30)?;
     calls.push(sent)?;
     calls.push(attach())?;
     calls.push(Call::ShmGet {
@@ -95,8 +95,24 @@ fn lower(alloc: Global) -> Result<Call, AllocError> {
     Ok(Call::SemOp { id: 0, ops })
 }
 
+/// What a client does that exits in the pass, the last first: it attaches the segment, and raises the second value by 1, which
+/// its exit undoes.
+fn before_exit(alloc: Global) -> Result<Vec<Call>, AllocError> {
+    let up = SemOper {
+        num: 1,
+        op: 1,
+        flags: SEM_UNDO as u16,
+    };
+    let ops = Items::new(vec![in alloc; up]?);
+    let mut calls = Vec::new(alloc);
+    calls.push(Call::SemOp { id: 0, ops })?;
+    calls.push(attach())?;
+    Ok(calls)
+}
+
 /// What the clients call in the pass, the last one's call first, which is served first: the last to join is the first on the
-/// list. None takes memory but for what the call itself brings; the removal ends two calls that wait.
+/// list. None takes memory but for what the call itself brings, nor does an exit after another. The interrupt ends no call: the
+/// list of those that an event ended is handed out, and the next event would need a new one. The removal ends two calls that wait.
 fn quiet_calls(alloc: Global) -> Result<Vec<Call>, AllocError> {
     let (id, kind) = (0, Kind::Queue);
     let written = Call::ShmWrite {
@@ -108,6 +124,8 @@ fn quiet_calls(alloc: Global) -> Result<Vec<Call>, AllocError> {
     let mut calls = Vec::new(alloc);
     calls.push(written)?;
     calls.push(Call::ShmDt { att: 0 })?;
+    calls.push(Call::Exit)?;
+    calls.push(Call::Interrupt { pid: 1 })?;
     calls.push(receive(1))?;
     calls.push(Call::SetAll { id, values })?;
     calls.push(lower(alloc)?)?;
@@ -146,7 +164,7 @@ fn quiet_pass<R: Abort + AllocGlobal + Eprint>(
     eprintln!(rt; "quiet begins")?;
     let passed = pass(service, &mut flights)?;
     eprintln!(rt; "quiet ends")?;
-    assert!(rt; passed && flights.len() == 8);
+    assert!(rt; passed && flights.len() == 10);
     check_granted(rt, service, flights);
     let (_, _) = ended(rt, service, third);
     let (_, _) = ended(rt, service, fourth);
@@ -155,17 +173,23 @@ fn quiet_pass<R: Abort + AllocGlobal + Eprint>(
 
 #[test]
 fn a_pass_of_calls_that_need_no_memory_takes_none(rt: HostRuntime) -> Result<(), Fail> {
-    let (service, clients) = service_for(&rt, 10)?;
+    let (service, clients) = service_for(&rt, 13)?;
     let mut idles = joined(&rt, &service, clients)?;
     let fourth = one_of(&rt, &service, &mut idles);
     let third = one_of(&rt, &service, &mut idles);
     let last = one_of(&rt, &service, &mut idles);
     let other = one_of(&rt, &service, &mut idles);
+    let leaver = one_of(&rt, &service, &mut idles);
+    let gone = one_of(&rt, &service, &mut idles);
     let last = all_granted(&rt, &service, last, made_before(rt.alloc())?);
+    let leaver = all_granted(&rt, &service, leaver, before_exit(rt.alloc())?);
+    let (_, reply) = served(&rt, &service, gone, Call::Exit);
+    assert!(rt; is_granted(reply));
     let third = waiting(&rt, &service, third, receive(3));
     let fourth = waiting(&rt, &service, fourth, receive(4));
     let (other, reply) = served(&rt, &service, other, attach());
     assert!(rt; is_granted(reply));
+    put_back(&service, &mut idles, leaver)?;
     put_back(&service, &mut idles, other)?;
     put_back(&service, &mut idles, last)?;
     let calls = quiet_calls(rt.alloc())?;
