@@ -4,11 +4,11 @@ use Rattle.std.specs.Prelude.{◌==◌, nat_lt}
 use Rattle.std.specs.Ordering.{is_eq}
 use Rattle.std.specs.FinMap as finite
 use Rattle.std.proofs.lemmas.Bool.Decides.{nat_tests}
+use Rattle.client_map.specs.Keys.{key}
+use Rattle.client_map.proofs.Orders.{equal_keys, key_same, key_total}
 use Rattle.shm_seg.specs.declared.attachments.Attachment.{Attachment}
-use Rattle.shm_seg.specs.declared.attachments.Handle.{Handle}
-use Rattle.shm_seg.specs.Attachments.{Attached, attach_count, attachment_at, handle_cmp, with_attachment, without_attachment}
+use Rattle.shm_seg.specs.Attachments.{Attached, Handle, attach_count, attachment_at, handle_cmp, with_attachment, without_attachment}
 use Rattle.shm_seg.proofs.Changes.{attached_count_other, detached_count, there_counted}
-use Rattle.shm_seg.proofs.Handles.{handle, handle_same, handle_total, handles_equal, same_attached}
 use Rattle.ipc_laws.specs.Worlds.{has_attached}
 
 module _ (client : ℕ) where
@@ -16,34 +16,34 @@ module _ (client : ℕ) where
   own m = finite.retain_keys m (λ h. h.client == client)
 
   get-own : (m : Attached) (q : Handle) → finite.get (own m) q ≡ cond (q.client == client) (finite.get m q) None
-  get-own m q = finite.get-retain_keys m (λ h. h.client == client) q (λ x tied. ap (λ (h : Handle). h.client == client) (sym (handle_same q x tied)))
+  get-own m q = finite.get-retain_keys m (λ h. h.client == client) q (λ x tied. ap (λ (h : Handle). h.client == client) (sym (key_same q x tied)))
 
   is-own : (client == client) ≡ true
   is-own = grind arith
 
   at-own : (m : Attached) (n : ℕ) → attachment_at (own m) client n ≡ attachment_at m client n
-  at-own m n = get-own m (handle client n) ∙ ap (λ b. cond b (finite.get m (handle client n)) None) is-own
+  at-own m n = get-own m (key client n) ∙ ap (λ b. cond b (finite.get m (key client n)) None) is-own
 
   module _ (m : Attached) (n : ℕ) where
     own-with : (a : Attachment) → own (with_attachment m client n a) ≡ with_attachment (own m) client n a
-    own-with a = same_attached _ _ (λ q.
-        get-own (with_attachment m client n a) q ∙ ap (λ o. cond (q.client == client) o None) (finite.get-insert handle_total m (handle client n) a q)
-        ∙ by q (is_eq (handle_cmp q (handle client n))) refl
-        ∙ sym (finite.get-insert handle_total (own m) (handle client n) a q ∙ ap (λ o. cond (is_eq (handle_cmp q (handle client n))) (Some a) o) (get-own m q)))
+    own-with a = finite.same_map key_total key_same _ _ (λ q.
+        get-own (with_attachment m client n a) q ∙ ap (λ o. cond (q.client == client) o None) (finite.get-insert key_total m (key client n) a q)
+        ∙ by q (is_eq (handle_cmp q (key client n))) refl
+        ∙ sym (finite.get-insert key_total (own m) (key client n) a q ∙ ap (λ o. cond (is_eq (handle_cmp q (key client n))) (Some a) o) (get-own m q)))
       where
-        by : (q : Handle) (b : Bool) → is_eq (handle_cmp q (handle client n)) ≡ b → cond (q.client == client) (cond (is_eq (handle_cmp q (handle client n))) (Some a) (finite.get m q)) None
-            ≡ cond (is_eq (handle_cmp q (handle client n))) (Some a) (cond (q.client == client) (finite.get m q) None)
+        by : (q : Handle) (b : Bool) → is_eq (handle_cmp q (key client n)) ≡ b → cond (q.client == client) (cond (is_eq (handle_cmp q (key client n))) (Some a) (finite.get m q)) None
+            ≡ cond (is_eq (handle_cmp q (key client n))) (Some a) (cond (q.client == client) (finite.get m q) None)
         by q true is =
-            let mine : (q.client == client) ≡ true = ap (λ (x : Handle). x.client == client) (handles_equal q (handle client n) is) ∙ is-own in
+            let mine : (q.client == client) ≡ true = ap (λ (x : Handle). x.client == client) (equal_keys key_total key_same q (key client n) is) ∙ is-own in
             ap (λ b. cond (q.client == client) (cond b (Some a) (finite.get m q)) None) is ∙ ap (λ b. cond b (Some a) None) mine ∙ sym (ap (λ b. cond b (Some a) (cond (q.client == client) (finite.get m q) None)) is)
         by q false isnt =
             ap (λ b. cond (q.client == client) (cond b (Some a) (finite.get m q)) None) isnt ∙ sym (ap (λ b. cond b (Some a) (cond (q.client == client) (finite.get m q) None)) isnt)
 
     own-without : own (without_attachment m client n) ≡ without_attachment (own m) client n
-    own-without = same_attached _ _ (λ q.
-        get-own (without_attachment m client n) q ∙ ap (λ o. cond (q.client == client) o None) (finite.get-remove handle_total m (handle client n) q)
-        ∙ by (q.client == client) (is_eq (handle_cmp q (handle client n))) (finite.get m q)
-        ∙ sym (finite.get-remove handle_total (own m) (handle client n) q ∙ ap (λ o. cond (is_eq (handle_cmp q (handle client n))) None o) (get-own m q)))
+    own-without = finite.same_map key_total key_same _ _ (λ q.
+        get-own (without_attachment m client n) q ∙ ap (λ o. cond (q.client == client) o None) (finite.get-remove key_total m (key client n) q)
+        ∙ by (q.client == client) (is_eq (handle_cmp q (key client n))) (finite.get m q)
+        ∙ sym (finite.get-remove key_total (own m) (key client n) q ∙ ap (λ o. cond (is_eq (handle_cmp q (key client n))) None o) (get-own m q)))
       where
         by : (mine same : Bool) (o : Option Attachment) → cond mine (cond same None o) None ≡ cond same None (cond mine o None)
         by true true o = refl

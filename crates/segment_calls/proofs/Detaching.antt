@@ -3,10 +3,11 @@ use Rattle.std.proofs.Common.{◌≡◌, ◌∙◌, ℕ, zero, suc, ◌+◌, ◌
 use Rattle.std.specs.Prelude.{IsSome, is_some}
 use Rattle.std.specs.FinMap as finite
 use Rattle.std.proofs.lemmas.Bool.{cases_eq, true≢false}
+use Rattle.client_map.specs.Keys.{key}
+use Rattle.client_map.proofs.Orders.{key_total}
 use Rattle.shm_seg.specs.declared.attachments.Attachment.{Attachment}
 use Rattle.shm_seg.specs.Attachments.{Attached, attachment_at, first_number, without_attachment}
 use Rattle.shm_seg.proofs.Changes.{attached_again, detached_apart, detached_here, detached_none, first_is_least, first_none}
-use Rattle.shm_seg.proofs.Handles.{handle, handle_total}
 use Rattle.ipc_model.specs.State.{Caller, Shared}
 use Rattle.ipc_model.specs.Segments.{after_detaches, detached, detached_from, without_number}
 
@@ -80,7 +81,7 @@ module _ (who : Caller) where
             let left = without_attachment s.attached who.client number in
             let less = ap (λ (m : Attached). finite.len m) (attached-left s number) in
             let one = ap (λ (m : Attached). finite.len m) (sym (attached_again s.attached who.client number a is))
-            ∙ finite.len-insert handle_total left (handle who.client number) a
+            ∙ finite.len-insert key_total left (key who.client number) a
             ∙ ap (λ (b : Bool). cond b (finite.len left) (finite.len left + 1)) (ap is_some (detached_here s.attached who.client number)) in
             omega arith
 

@@ -2,13 +2,15 @@
 use Rattle.std.proofs.Common.{◌≡◌, ◌∙◌, ℕ, ◌<◌, ap, arith, refl, sym, Bool, true, false, List, [], length, length-set, set, ⊎_elim}
 use Rattle.std.specs.Prelude.{ℤ, pos, Option, Some, None, option_map, unwrap_or, if◌then◌else◌}
 use Rattle.std.specs.FinMap as finite
-use Rattle.std.specs.Global.{Vec}
-use Rattle.std.proofs.lemmas.Bool.{cases_eq, false_from_ne_true}
+use Rattle.std.proofs.lemmas.Bool.{cases_eq}
 use Rattle.std.proofs.lemmas.List.{get_or-set_same, get_or-set_other}
+use Rattle.client_map.specs.declared.map.Key.{Key}
+use Rattle.client_map.specs.Keys.{key as row_key}
+use Rattle.client_map.proofs.Orders.{itself, key_same, key_total, keys_differ}
 use Rattle.sem_undo.specs.Entries.{Adjusted, Entries, Place, place_cmp, with_adj}
-use Rattle.sem_undo.specs.Rows.{AreOfClients, adj_in, entries_in, is_here, lens_in, row_in}
+use Rattle.sem_undo.specs.Rows.{AreOfClients, RowMap, adj_in, entries_in, is_here, lens_in, row_in}
 use Rattle.sem_undo.proofs.Entries.{entry_of, get_entries, get_lens, get_with_apart, get_with_here, key, place, same_entries}
-use Rattle.sem_undo.proofs.Keys.{place_itself, place_same, place_total, places_equal}
+use Rattle.sem_undo.proofs.Keys.{place_same, place_total}
 
 abbrev pub Lens : Type 0
 Lens = finite.FinMap place_cmp ℕ
@@ -32,13 +34,13 @@ there_is None num h = absurd (omega arith)
 there_is (Some r) num h = refl
 
 pub is_here_here : (client set : ℕ) → is_here client set client set ≡ true
-is_here_here client set = place_itself (place client set)
+is_here_here client set = itself key_total (row_key client set)
 
 pub is_here_apart : (client set c s : ℕ) → (c ≡ client → s ≡ set → ⊥) → is_here client set c s ≡ false
 is_here_apart client set c s ne =
-    false_from_ne_true _ (λ is. let same = places_equal (place client set) (place c s) is in ne (sym (ap (λ (p : Place). p.client) same)) (sym (ap (λ (p : Place). p.set) same)))
+    keys_differ key_total key_same (row_key c s) (row_key client set) (λ is. ne (ap (λ (k : Key). k.client) is) (ap (λ (k : Key). k.number) is))
 
-module _ (es es' : List (Place × Vec ℤ)) (client set : ℕ) (new : Option (List ℤ)) (is : (c s : ℕ) → row_in es' c s ≡ (if is_here client set c s then new else row_in es c s)) where
+module _ (es es' : RowMap) (client set : ℕ) (new : Option (List ℤ)) (is : (c s : ℕ) → row_in es' c s ≡ (if is_here client set c s then new else row_in es c s)) where
   row_here : row_in es' client set ≡ new
   row_here = is client set ∙ ap (λ (b : Bool). if b then new else row_in es client set) (is_here_here client set)
 
@@ -81,7 +83,7 @@ module _ (es es' : List (Place × Vec ℤ)) (client set : ℕ) (new : Option (Li
   clients_are few of c s h = row_apart c s (λ e _. absurd (omega arith)) ∙ of c s h
 
 -- a semadj is written into a row
-module _ (es es' : List (Place × Vec ℤ)) (client at num : ℕ) (adj : ℤ) (within : num < length (unwrap_or (row_in es client at) [])) (is : (c s : ℕ) → row_in es' c s ≡ (if is_here client at c s then Some (set (unwrap_or (row_in es client at) []) num adj) else row_in es c s)) where
+module _ (es es' : RowMap) (client at num : ℕ) (adj : ℤ) (within : num < length (unwrap_or (row_in es client at) [])) (is : (c s : ℕ) → row_in es' c s ≡ (if is_here client at c s then Some (set (unwrap_or (row_in es client at) []) num adj) else row_in es c s)) where
   written : (n : ℕ) → entry_of (adj_in (set (unwrap_or (row_in es client at) []) num adj) n) ≡ finite.get (with_adj (entries_in es) (key client at num) adj) (key client at n)
   written n =
       ⊎_elim

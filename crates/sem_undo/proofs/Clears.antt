@@ -2,11 +2,10 @@
 use Rattle.std.proofs.Common.{◌≡◌, ◌∙◌, ℕ, ◌<◌, ◌≤◌, ap, arith, cond, refl, sym, Bool, true, false, List, [], length, length-set, set, ⊎_elim}
 use Rattle.std.specs.Prelude.{◌==◌, ◌&&◌, not, nat_lt, ℤ, pos, Option, Some, None, if◌then◌else◌, unwrap_or}
 use Rattle.std.specs.FinMap as finite
-use Rattle.std.specs.Global.{Vec}
 use Rattle.std.proofs.lemmas.Bool.{cases_eq, cases_lt}
 use Rattle.std.proofs.lemmas.List.{get_or_past, get_or-set_same, get_or-set_other, length-replicate}
 use Rattle.sem_undo.specs.Entries.{Place, Undone, cleared}
-use Rattle.sem_undo.specs.Rows.{AreOfClients, adj_in, entries_in, lens_in, removed, row_in, undone_in, with_each, zeroed, zeroed_at}
+use Rattle.sem_undo.specs.Rows.{AreOfClients, RowMap, adj_in, entries_in, lens_in, removed, row_in, undone_in, with_each, zeroed, zeroed_at}
 use Rattle.sem_undo.proofs.Changes.{same_lens, size}
 use Rattle.sem_undo.proofs.Entries.{entry_of, get_entries, get_kept, get_lens, same_entries}
 use Rattle.sem_undo.proofs.Keys.{place_same}
@@ -25,7 +24,7 @@ none_either : (here : Bool) (x y : Option (List ℤ)) → x ≡ None → y ≡ N
 none_either true x y e f = e
 none_either false x y e f = f
 
-module _ (es es' : List (Place × Vec ℤ)) (at : ℕ) (change : Option (List ℤ) → Option (List ℤ)) (none : change None ≡ None) (of : AreOfClients es) (is : (c s : ℕ) → row_in es' c s ≡ with_each 64 at change (row_in es) c s) where
+module _ (es es' : RowMap) (at : ℕ) (change : Option (List ℤ) → Option (List ℤ)) (none : change None ≡ None) (of : AreOfClients es) (is : (c s : ℕ) → row_in es' c s ≡ with_each 64 at change (row_in es) c s) where
   each_row : (c s : ℕ) → row_in es' c s ≡ (if s == at then change (row_in es c s) else row_in es c s)
   each_row c s =
       ⊎_elim
@@ -98,7 +97,7 @@ pub size_all : (o : Option (List ℤ)) → size (zeroed o) ≡ size o
 size_all None = refl
 size_all (Some r) = ap (λ n. Some n) (length-replicate (length r) (pos 0))
 
-module _ (es es' : List (Place × Vec ℤ)) (u : Undone) (e : undone_in es ≡ u) (at : ℕ) (of : AreOfClients es) where
+module _ (es es' : RowMap) (u : Undone) (e : undone_in es ≡ u) (at : ℕ) (of : AreOfClients es) where
   pub clear_value : (num : ℕ) → ((c s : ℕ) → row_in es' c s ≡ with_each 64 at (zeroed_at num) (row_in es) c s) → undone_in es' ≡ record u { entries = cleared u.entries at (λ n. n == num) }
   clear_value num is =
       λ i. record {
@@ -117,7 +116,7 @@ gone_len : (here : Bool) (o : Option (List ℤ)) → size (if here then None els
 gone_len true o = refl
 gone_len false o = refl
 
-module _ (es es' : List (Place × Vec ℤ)) (u : Undone) (e : undone_in es ≡ u) (at : ℕ) (of : AreOfClients es) where
+module _ (es es' : RowMap) (u : Undone) (e : undone_in es ≡ u) (at : ℕ) (of : AreOfClients es) where
   pub remove_set_value : ((c s : ℕ) → row_in es' c s ≡ with_each 64 at removed (row_in es) c s) → undone_in es' ≡ record { entries = cleared u.entries at (λ _. true); rows = finite.retain_keys u.rows (λ p. not (p.set == at)) }
   remove_set_value is =
       let lens : lens_in es' ≡ finite.retain_keys (lens_in es) (λ p. not (p.set == at)) =

@@ -4,12 +4,13 @@ use Rattle.std.specs.Prelude.{ℤ, pos, not, ◌&&◌, ◌==◌, Option, Some, N
 use Rattle.std.specs.Ordering.{eq_by_cmp, int_eq, is_eq}
 use Rattle.std.proofs.lemmas.Bool.{true≢false}
 use Rattle.std.specs.FinMap as finite
-use Rattle.std.specs.BTreeMap as tree
-use Rattle.std.specs.Map.{lookup}
 use Rattle.std.specs.Global.{Vec}
+use Rattle.client_map.specs.declared.map.Key.{Key}
+use Rattle.client_map.specs.Keys.{key as row_key, key_cmp}
+use Rattle.client_map.proofs.Orders.{equal_keys, itself, key_same, key_total, keys_differ}
 use Rattle.sem_undo.specs.Entries.{Adjusted, Entries, Place, adjusted_cmp, place_cmp, with_adj, without_row}
-use Rattle.sem_undo.specs.Rows.{adj_in, entries_in, items_of, lens_in, over_row, row_in}
-use Rattle.sem_undo.proofs.Keys.{adjusted_same, adjusted_total, key_itself, keys_apart, place_itself, place_total, places_equal}
+use Rattle.sem_undo.specs.Rows.{RowMap, adj_in, entries_in, entries_of, items_of, lens_in, lens_of, over_row, row_in}
+use Rattle.sem_undo.proofs.Keys.{adjusted_same, adjusted_total, place_total}
 
 -- the entry of a semadj
 abbrev pub entry_of : ℤ → Option ℤ
@@ -36,10 +37,10 @@ get_with m k q v = written m k q v (int_eq v (pos 0))
 
 pub get_with_here : (m : Entries) (k q : Adjusted) (v : ℤ) → q ≡ k → finite.get (with_adj m k v) q ≡ entry_of v
 get_with_here m k q v e =
-    get_with m k q v ∙ ap (λ b. cond b (entry_of v) (finite.get m q)) (ap (λ (x : Adjusted). eq_by_cmp adjusted_cmp x k) e ∙ key_itself k)
+    get_with m k q v ∙ ap (λ b. cond b (entry_of v) (finite.get m q)) (ap (λ (x : Adjusted). eq_by_cmp adjusted_cmp x k) e ∙ itself adjusted_total k)
 
 pub get_with_apart : (m : Entries) (k q : Adjusted) (v : ℤ) → (q ≡ k → ⊥) → finite.get (with_adj m k v) q ≡ finite.get m q
-get_with_apart m k q v ne = get_with m k q v ∙ ap (λ b. cond b (entry_of v) (finite.get m q)) (keys_apart q k ne)
+get_with_apart m k q v ne = get_with m k q v ∙ ap (λ b. cond b (entry_of v) (finite.get m q)) (keys_differ adjusted_total adjusted_same q k ne)
 
 module _ (client set : ℕ) where
   get_in_row : (num : ℕ) (adjs : List ℤ) (m : Entries) (j x : ℕ) → x ≡ num + j → finite.get m (key client set x) ≡ None → finite.get (over_row client set num adjs m) (key client set x) ≡ entry_of (adj_in adjs j)
@@ -75,43 +76,55 @@ module _ (client set : ℕ) where
   pub get_without_apart : (m : Entries) (q : Adjusted) → (q.client ≡ client → q.set ≡ set → ⊥) → finite.get (without_row m client set) q ≡ finite.get m q
   get_without_apart m q ne = get_kept m _ q ∙ kept_all q.client q.set (finite.get m q) ne
 
-places_apart : (p q : Place) → is_eq (place_cmp p q) ≡ false → p.client ≡ q.client → p.set ≡ q.set → ⊥
-places_apart p q is c s =
-    let same : q ≡ p = λ i. record { client = sym c i; set = sym s i } in
-    true≢false (sym (place_itself p) ∙ ap (λ (x : Place). is_eq (place_cmp p x)) (sym same) ∙ is)
+keys_apart : (client set : ℕ) (k : Key) → is_eq (key_cmp (row_key client set) k) ≡ false → client ≡ k.client → set ≡ k.number → ⊥
+keys_apart client set k is c s =
+    true≢false (sym (itself key_total (row_key client set)) ∙ (λ i. is_eq (key_cmp (row_key client set) (row_key (c i) (s i)))) ∙ is)
 
-module _ (e : Place × Vec ℤ) (es : List (Place × Vec ℤ)) (client set num : ℕ) (rest : finite.get (entries_in es) (key client set num) ≡ entry_of (adj_in (unwrap_or (row_in es client set) []) num)) where
-  entries_step : (b : Bool) → is_eq (place_cmp (place client set) e.0) ≡ b → finite.get (over_row e.0.client e.0.set 0 e.1.items (without_row (entries_in es) e.0.client e.0.set)) (key client set num) ≡ entry_of (adj_in (unwrap_or (items_of (cond b (Some e.1) (lookup (tree.is_at (place_cmp (place client set))) es))) []) num)
+abbrev listed : List (Key × Vec ℤ) → ℕ → ℕ → Option (List ℤ)
+listed es client set = items_of (finite.find key_cmp (row_key client set) es)
+
+module _ (e : Key × Vec ℤ) (es : List (Key × Vec ℤ)) (client set num : ℕ) (rest : finite.get (entries_of es) (key client set num) ≡ entry_of (adj_in (unwrap_or (listed es client set) []) num)) where
+  entries_step : (b : Bool) → is_eq (key_cmp (row_key client set) e.0) ≡ b → finite.get (over_row e.0.client e.0.number 0 e.1.items (without_row (entries_of es) e.0.client e.0.number)) (key client set num) ≡ entry_of (adj_in (unwrap_or (items_of (cond b (Some e.1) (finite.find key_cmp (row_key client set) es))) []) num)
   entries_step true is =
-      let same : place client set ≡ e.0 = places_equal (place client set) e.0 is in
-      let m = without_row (entries_in es) e.0.client e.0.set in
-      let there : key client set num ≡ key e.0.client e.0.set num = λ i. key (same i).client (same i).set num in
+      let same : row_key client set ≡ e.0 = equal_keys key_total key_same (row_key client set) e.0 is in
+      let m = without_row (entries_of es) e.0.client e.0.number in
+      let there : key client set num ≡ key e.0.client e.0.number num = λ i. key (same i).client (same i).number num in
       let at : num ≡ 0 + num = omega arith in
-      ap (λ (k : Adjusted). finite.get (over_row e.0.client e.0.set 0 e.1.items m) k) there
-      ∙ get_in_row e.0.client e.0.set 0 e.1.items m num num at (get_without e.0.client e.0.set (entries_in es) (key e.0.client e.0.set num) refl refl)
+      ap (λ (k : Adjusted). finite.get (over_row e.0.client e.0.number 0 e.1.items m) k) there
+      ∙ get_in_row e.0.client e.0.number 0 e.1.items m num num at (get_without e.0.client e.0.number (entries_of es) (key e.0.client e.0.number num) refl refl)
   entries_step false is =
-      let apart = places_apart (place client set) e.0 is in
-      let m = without_row (entries_in es) e.0.client e.0.set in
-      get_off_row e.0.client e.0.set 0 e.1.items m (key client set num) apart
-      ∙ get_without_apart e.0.client e.0.set (entries_in es) (key client set num) apart
+      let apart = keys_apart client set e.0 is in
+      let m = without_row (entries_of es) e.0.client e.0.number in
+      get_off_row e.0.client e.0.number 0 e.1.items m (key client set num) apart
+      ∙ get_without_apart e.0.client e.0.number (entries_of es) (key client set num) apart
       ∙ rest
 
+get_listed : (es : List (Key × Vec ℤ)) (client set num : ℕ) → finite.get (entries_of es) (key client set num) ≡ entry_of (adj_in (unwrap_or (listed es client set) []) num)
+unfolding entries_of
+get_listed [] client set num = finite.get-empty adjusted_cmp (key client set num)
+get_listed (e ∷ es) client set num =
+    entries_step e es client set num (get_listed es client set num) (is_eq (key_cmp (row_key client set) e.0)) refl
+
 -- the entries of rows are their semadj that aren't 0
-pub get_entries : (es : List (Place × Vec ℤ)) (client set num : ℕ) → finite.get (entries_in es) (key client set num) ≡ entry_of (adj_in (unwrap_or (row_in es client set) []) num)
-unfolding entries_in
-get_entries [] client set num = finite.get-empty adjusted_cmp (key client set num)
-get_entries (e ∷ es) client set num =
-    entries_step e es client set num (get_entries es client set num) (is_eq (place_cmp (place client set) e.0)) refl
+pub get_entries : (m : RowMap) (client set num : ℕ) → finite.get (entries_in m) (key client set num) ≡ entry_of (adj_in (unwrap_or (row_in m client set) []) num)
+get_entries m client set num =
+    get_listed (finite.entries m) client set num
+    ∙ ap (λ (o : Option (Vec ℤ)). entry_of (adj_in (unwrap_or (items_of o) []) num)) (sym (finite.get-entries m (row_key client set)))
 
 -- their lengths
 lens_at : (b : Bool) (row : Vec ℤ) (o : Option (Vec ℤ)) → cond b (Some (length row.items)) (option_map (λ (r : List ℤ). length r) (items_of o)) ≡ option_map (λ (r : List ℤ). length r) (items_of (cond b (Some row) o))
 lens_at true row o = refl
 lens_at false row o = refl
 
-pub get_lens : (es : List (Place × Vec ℤ)) (client set : ℕ) → finite.get (lens_in es) (place client set) ≡ option_map (λ (r : List ℤ). length r) (row_in es client set)
-unfolding lens_in
-get_lens [] client set = finite.get-empty place_cmp (place client set)
-get_lens (e ∷ es) client set =
-    finite.get-insert place_total (lens_in es) e.0 (length e.1.items) (place client set)
-    ∙ ap (λ o. cond (eq_by_cmp place_cmp (place client set) e.0) (Some (length e.1.items)) o) (get_lens es client set)
-    ∙ lens_at (eq_by_cmp place_cmp (place client set) e.0) e.1 (lookup (tree.is_at (place_cmp (place client set))) es)
+lens_listed : (es : List (Key × Vec ℤ)) (client set : ℕ) → finite.get (lens_of es) (place client set) ≡ option_map (λ (r : List ℤ). length r) (listed es client set)
+unfolding lens_of
+lens_listed [] client set = finite.get-empty place_cmp (place client set)
+lens_listed (e ∷ es) client set =
+    finite.get-insert place_total (lens_of es) (place e.0.client e.0.number) (length e.1.items) (place client set)
+    ∙ ap (λ o. cond (is_eq (key_cmp (row_key client set) e.0)) (Some (length e.1.items)) o) (lens_listed es client set)
+    ∙ lens_at (is_eq (key_cmp (row_key client set) e.0)) e.1 (finite.find key_cmp (row_key client set) es)
+
+pub get_lens : (m : RowMap) (client set : ℕ) → finite.get (lens_in m) (place client set) ≡ option_map (λ (r : List ℤ). length r) (row_in m client set)
+get_lens m client set =
+    lens_listed (finite.entries m) client set
+    ∙ ap (λ (o : Option (Vec ℤ)). option_map (λ (r : List ℤ). length r) (items_of o)) (sym (finite.get-entries m (row_key client set)))

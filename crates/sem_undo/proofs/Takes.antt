@@ -3,18 +3,19 @@ use Rattle.std.proofs.Common.{◌≡◌, ◌<◌, ◌∙◌, ℕ, ap, arith, con
 use Rattle.std.specs.Prelude.{◌==◌, not, ℤ, Option, Some, None, IfNone, IfSome, if◌then◌else◌, unwrap_or}
 use Rattle.std.specs.FinMap as finite
 use Rattle.std.specs.Global.{Vec}
+use Rattle.client_map.proofs.Orders.{get_gone, get_gone_apart}
 use Rattle.sem_undo.specs.Entries.{Adjusted, Place, Undone, adj_of, without_client, without_row}
-use Rattle.sem_undo.specs.Rows.{adj_in, entries_in, is_here, lens_in, row_in, undone_in}
+use Rattle.sem_undo.specs.Rows.{RowMap, adj_in, entries_in, is_here, lens_in, row_in, undone_in}
 use Rattle.sem_undo.proofs.Changes.{entries_are, lens_are, size}
 use Rattle.sem_undo.proofs.Entries.{entry_of, get_entries, get_kept, get_lens, get_without, get_without_apart, key, place, same_entries}
 use Rattle.sem_undo.proofs.Values.{row_adjs}
-use Rattle.sem_undo.proofs.Keys.{get_removed_place, get_removed_place_apart}
+use Rattle.sem_undo.proofs.Keys.{place_same, place_total}
 
 kept_either : (here : Bool) (o : Option ℤ) → (here ≡ true → o ≡ None) → cond (not here) o None ≡ o
 kept_either true o h = sym (h refl)
 kept_either false o h = refl
 
-module _ (es : List (Place × Vec ℤ)) (u : Undone) (e : undone_in es ≡ u) (client : ℕ) where
+module _ (es : RowMap) (u : Undone) (e : undone_in es ≡ u) (client : ℕ) where
   len_is : (at : ℕ) (row : Option (List ℤ)) → row_in es client at ≡ row → finite.get u.rows (place client at) ≡ size row
   len_is at row is = ap (λ (v : Undone). finite.get v.rows (place client at)) (sym e) ∙ get_lens es client at ∙ ap size is
 
@@ -32,7 +33,7 @@ module _ (es : List (Place × Vec ℤ)) (u : Undone) (e : undone_in es ≡ u) (c
       ∙ kept_either (q.client == client) (finite.get (entries_in es) q) (none_left none q))
       ∙ ap (λ (v : Undone). v.entries) e
 
-  take_value : (es' : List (Place × Vec ℤ)) (at : ℕ) → ((c s : ℕ) → row_in es' c s ≡ (if is_here client at c s then None else row_in es c s)) → undone_in es' ≡ record { entries = without_row u.entries client at; rows = finite.remove u.rows (place client at) }
+  take_value : (es' : RowMap) (at : ℕ) → ((c s : ℕ) → row_in es' c s ≡ (if is_here client at c s then None else row_in es c s)) → undone_in es' ≡ record { entries = without_row u.entries client at; rows = finite.remove u.rows (place client at) }
   take_value es' at is =
       let entries : entries_in es' ≡ without_row (entries_in es) client at =
       entries_are es es' client at None is (without_row (entries_in es) client at)
@@ -40,8 +41,8 @@ module _ (es : List (Place × Vec ℤ)) (u : Undone) (e : undone_in es ≡ u) (c
       (λ q ne. sym (get_without_apart client at (entries_in es) q ne)) in
       let lens : lens_in es' ≡ finite.remove (lens_in es) (place client at) =
       lens_are es es' client at None is (finite.remove (lens_in es) (place client at))
-      (sym (get_removed_place (lens_in es) (place client at)))
-      (λ p ne. sym (get_removed_place_apart (lens_in es) (place client at) p (λ q. ne (ap (λ (x : Place). x.client) q) (ap (λ (x : Place). x.set) q)))) in
+      (sym (get_gone place_total place_same (lens_in es) (place client at)))
+      (λ p ne. sym (get_gone_apart place_total place_same (lens_in es) (place client at) p (λ q. ne (ap (λ (x : Place). x.client) q) (ap (λ (x : Place). x.set) q)))) in
       λ i. record {
         entries = (entries ∙ ap (λ (v : Undone). without_row v.entries client at) e) i;
         rows = (lens ∙ ap (λ (v : Undone). finite.remove v.rows (place client at)) e) i;
@@ -69,6 +70,6 @@ module _ (es : List (Place × Vec ℤ)) (u : Undone) (e : undone_in es ≡ u) (c
   least_clause None h = h
   least_clause (Some x) h = λ s l. len_is s None (h s l)
 
-  pub rest_clause : (es' : List (Place × Vec ℤ)) (r : Option (ℕ × Vec ℤ)) → IfSome r (λ x. (c s : ℕ) → row_in es' c s ≡ (if is_here client x.0 c s then None else row_in es c s)) → IfSome r (λ x. undone_in es' ≡ record { entries = without_row u.entries client x.0; rows = finite.remove u.rows (place client x.0) })
+  pub rest_clause : (es' : RowMap) (r : Option (ℕ × Vec ℤ)) → IfSome r (λ x. (c s : ℕ) → row_in es' c s ≡ (if is_here client x.0 c s then None else row_in es c s)) → IfSome r (λ x. undone_in es' ≡ record { entries = without_row u.entries client x.0; rows = finite.remove u.rows (place client x.0) })
   rest_clause es' None h = h
   rest_clause es' (Some x) h = take_value es' x.0 h

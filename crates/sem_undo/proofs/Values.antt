@@ -7,15 +7,19 @@ use Rattle.std.specs.Global.{Vec}
 use Rattle.std.proofs.lemmas.Bool.{cases_Bool, cases_lt}
 use Rattle.std.proofs.lemmas.Int.{ints}
 use Rattle.std.proofs.lemmas.List.{length-replicate}
-use Rattle.sem_undo.specs.Entries.{Place, Undone, adj_of, nothing_undone, row_len, with_adj}
-use Rattle.sem_undo.specs.Rows.{AreOfClients, adj_in, entries_in, grown, is_here, lens_in, row_in, undone_in}
-use Rattle.sem_undo.proofs.Changes.{entries_are, entries_written, lens_are, lens_place, lens_written}
-use Rattle.sem_undo.proofs.Entries.{entry_of, get_entries, get_lens, key, place}
-use Rattle.sem_undo.proofs.Keys.{get_put_place, get_put_place_apart}
+use Rattle.client_map.specs.Keys.{key as row_key, key_cmp}
+use Rattle.client_map.proofs.Orders.{get_put, get_put_apart}
+use Rattle.sem_undo.specs.Entries.{Place, adjusted_cmp, place_cmp, Undone, adj_of, nothing_undone, row_len, with_adj}
+use Rattle.sem_undo.specs.Rows.{AreOfClients, RowMap, items_of, adj_in, entries_in, grown, is_here, lens_in, row_in, undone_in}
+use Rattle.sem_undo.proofs.Changes.{entries_are, entries_written, lens_are, lens_place, lens_written, same_lens, size}
+use Rattle.sem_undo.proofs.Entries.{entry_of, get_entries, get_lens, key, place, same_entries}
+use Rattle.sem_undo.proofs.Keys.{place_same, place_total}
 
-pub undone_none : undone_in [] ≡ nothing_undone
-unfolding entries_in lens_in
-undone_none = refl
+pub undone_none : undone_in finite.empty ≡ nothing_undone
+undone_none = λ i. record {
+  entries = same_entries _ _ (λ q. get_entries finite.empty q.client q.set q.num ∙ ap (λ (o : Option (Vec ℤ)). entry_of (adj_in (unwrap_or (items_of o) []) q.num)) (finite.get-empty key_cmp (row_key q.client q.set)) ∙ sym (finite.get-empty adjusted_cmp q)) i;
+  rows = same_lens _ _ (λ p. get_lens finite.empty p.client p.set ∙ ap (λ (o : Option (Vec ℤ)). size (items_of o)) (finite.get-empty key_cmp (row_key p.client p.set)) ∙ sym (finite.get-empty place_cmp p)) i;
+}
 
 is_zero : (z : ℤ) → int_eq z (pos 0) ≡ true → pos 0 ≡ z
 is_zero z h = grind (arith, ints)
@@ -45,14 +49,14 @@ grown_len : (row : List ℤ) (nsems : ℕ) → length row ≤ nsems → length (
 grown_len row nsems within =
     length-append row (replicate (nsems - length row) (pos 0)) ∙ ap (λ n. length row + n) (length-replicate (nsems - length row) (pos 0)) ∙ (let e : length row + (nsems - length row) ≡ nsems = omega arith in e)
 
-pub few_of : (es : List (Place × Vec ℤ)) (client at num : ℕ) → AreOfClients es → num < length (unwrap_or (row_in es client at) []) → client < 64
+pub few_of : (es : RowMap) (client at num : ℕ) → AreOfClients es → num < length (unwrap_or (row_in es client at) []) → client < 64
 few_of es client at num of h =
     ⊎_elim
     (λ (l : client < 64). l)
     (λ (g : 64 ≤ client). absurd (let e : length (unwrap_or (row_in es client at) []) ≡ 0 = ap (λ (o : Option (List ℤ)). length (unwrap_or o [])) (of client at g) in omega arith))
     (cases_lt client 64)
 
-module _ (es : List (Place × Vec ℤ)) (u : Undone) (e : undone_in es ≡ u) (client at : ℕ) where
+module _ (es : RowMap) (u : Undone) (e : undone_in es ≡ u) (client at : ℕ) where
   pub row_lens : length (unwrap_or (row_in es client at) []) ≡ row_len u client at
   row_lens =
       sym (lens_place (row_in es client at))
@@ -65,21 +69,21 @@ module _ (es : List (Place × Vec ℤ)) (u : Undone) (e : undone_in es ≡ u) (c
       ∙ ap (λ (o : Option ℤ). unwrap_or o (pos 0)) (sym (get_entries es client at num))
       ∙ ap (λ (v : Undone). adj_of v.entries client at num) e
 
-  pub put_value : (es' : List (Place × Vec ℤ)) (num : ℕ) (adj : ℤ) → num < length (unwrap_or (row_in es client at) []) → ((c s : ℕ) → row_in es' c s ≡ (if is_here client at c s then Some (set (unwrap_or (row_in es client at) []) num adj) else row_in es c s)) → undone_in es' ≡ record u { entries = with_adj u.entries (key client at num) adj }
+  pub put_value : (es' : RowMap) (num : ℕ) (adj : ℤ) → num < length (unwrap_or (row_in es client at) []) → ((c s : ℕ) → row_in es' c s ≡ (if is_here client at c s then Some (set (unwrap_or (row_in es client at) []) num adj) else row_in es c s)) → undone_in es' ≡ record u { entries = with_adj u.entries (key client at num) adj }
   put_value es' num adj within is =
       λ i. record {
         entries = (entries_written es es' client at num adj within is ∙ ap (λ (v : Undone). with_adj v.entries (key client at num) adj) e) i;
         rows = (lens_written es es' client at num adj within is ∙ ap (λ (v : Undone). v.rows) e) i;
       }
 
-  pub grown_value : (es' : List (Place × Vec ℤ)) (nsems : ℕ) → length (unwrap_or (row_in es client at) []) ≤ nsems → ((c s : ℕ) → row_in es' c s ≡ (if is_here client at c s then Some (grown nsems (unwrap_or (row_in es client at) [])) else row_in es c s)) → undone_in es' ≡ record u { rows = finite.insert u.rows (place client at) nsems }
+  pub grown_value : (es' : RowMap) (nsems : ℕ) → length (unwrap_or (row_in es client at) []) ≤ nsems → ((c s : ℕ) → row_in es' c s ≡ (if is_here client at c s then Some (grown nsems (unwrap_or (row_in es client at) [])) else row_in es c s)) → undone_in es' ≡ record u { rows = finite.insert u.rows (place client at) nsems }
   grown_value es' nsems within is =
       let row = unwrap_or (row_in es client at) [] in
       let same : entries_in es' ≡ entries_in es = entries_are es es' client at (Some (grown nsems row)) is (entries_in es) (λ n. ap entry_of (grown_adj row nsems n) ∙ sym (get_entries es client at n)) (λ q ne. refl) in
       let lens : lens_in es' ≡ finite.insert (lens_in es) (place client at) nsems =
       lens_are es es' client at (Some (grown nsems row)) is (finite.insert (lens_in es) (place client at) nsems)
-      (ap (λ (n : ℕ). Some n) (grown_len row nsems within) ∙ sym (get_put_place (lens_in es) (place client at) nsems))
-      (λ p ne. sym (get_put_place_apart (lens_in es) (place client at) nsems p (λ q. ne (ap (λ (x : Place). x.client) q) (ap (λ (x : Place). x.set) q)))) in
+      (ap (λ (n : ℕ). Some n) (grown_len row nsems within) ∙ sym (get_put place_total place_same (lens_in es) (place client at) nsems))
+      (λ p ne. sym (get_put_apart place_total place_same (lens_in es) (place client at) nsems p (λ q. ne (ap (λ (x : Place). x.client) q) (ap (λ (x : Place). x.set) q)))) in
       λ i. record {
         entries = (same ∙ ap (λ (v : Undone). v.entries) e) i;
         rows = (lens ∙ ap (λ (v : Undone). finite.insert v.rows (place client at) nsems) e) i;

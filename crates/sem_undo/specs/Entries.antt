@@ -3,7 +3,6 @@ use Rattle.std.specs.Prelude.{ℕ, ◌==◌, ◌&&◌, ℤ, pos, Bool, not, unwr
 use Rattle.std.specs.declared.cmp.Ordering.{Ordering}
 use Rattle.std.specs.Ordering.{int_eq, nat_cmp, ordering_then}
 use Rattle.std.specs.FinMap as finite
-pub use Rattle.sem_undo.specs.declared.rows.Place.{Place}
 
 -- the semaphore of this number of the set, for the client
 pub record Adjusted : Type 0 where
@@ -16,6 +15,10 @@ adjusted_cmp a b =
     ordering_then (nat_cmp a.client b.client) (ordering_then (nat_cmp a.set b.set) (nat_cmp a.num b.num))
 
 -- a client at a set
+pub record Place : Type 0 where
+  pub client : ℕ
+  pub set : ℕ
+
 abbrev pub place_cmp : Place → Place → Ordering
 place_cmp a b = ordering_then (nat_cmp a.client b.client) (nat_cmp a.set b.set)
 

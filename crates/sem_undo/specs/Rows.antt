@@ -2,12 +2,13 @@
 use Rattle.std.specs.Prelude.{◌≡◌, ◌≤◌, ◌==◌, ◌&&◌, nat_lt, ℕ, ◌+◌, ◌-◌, ℤ, pos, Bool, if◌then◌else◌}
 use Rattle.std.specs.Prelude.{List, [], ◌∷◌, ◌++◌, length, replicate, slice_set, slice_index_or}
 use Rattle.std.specs.Prelude.{Option, None, option_map, unwrap_or}
-use Rattle.std.specs.BTreeMap as tree
 use Rattle.std.specs.FinMap as finite
-use Rattle.std.specs.Map.{lookup}
 use Rattle.std.specs.Global.{Vec}
+use Rattle.std.specs.Ordering.{eq_by_cmp}
+use Rattle.client_map.specs.declared.map.Key.{Key}
+use Rattle.client_map.specs.Keys.{key, key_cmp}
 use Rattle.sem_undo.specs.declared.rows.Rows.{Rows}
-use Rattle.sem_undo.specs.Entries.{Entries, Place, place_cmp, Undone, with_adj, without_row}
+use Rattle.sem_undo.specs.Entries.{Entries, place_cmp, Undone, with_adj, without_row}
 
 -- the semadj of a number in a row; past its end 0
 abbrev pub adj_in : List ℤ → ℕ → ℤ
@@ -16,18 +17,22 @@ adj_in row num = slice_index_or row num (pos 0)
 abbrev pub items_of : Option (Vec ℤ) → Option (List ℤ)
 items_of o = option_map (λ v. v.items) o
 
-abbrev pub row_in : List (Place × Vec ℤ) → ℕ → ℕ → Option (List ℤ)
-row_in es client set = items_of (lookup (tree.is_at (place_cmp (record { client = client; set = set }))) es)
+-- the rows by client and set
+abbrev pub RowMap : Type 0
+RowMap = finite.FinMap key_cmp (Vec ℤ)
+
+abbrev pub row_in : RowMap → ℕ → ℕ → Option (List ℤ)
+row_in m client set = items_of (finite.get m (key client set))
 
 abbrev pub row_of : Rows → ℕ → ℕ → Option (List ℤ)
-row_of u client set = row_in u.rows.entries client set
+row_of u client set = row_in u.rows client set
 
 -- the row, empty where there is none
 abbrev pub row_at : Rows → ℕ → ℕ → List ℤ
 row_at u client set = unwrap_or (row_of u client set) []
 
 abbrev pub is_here : ℕ → ℕ → ℕ → ℕ → Bool
-is_here client set c s = tree.is_at (place_cmp (record { client = client; set = set })) (record { client = c; set = s })
+is_here client set c s = eq_by_cmp key_cmp (key c s) (key client set)
 
 -- a row with zeros at its end, as long as this or longer
 abbrev pub grown : ℕ → List ℤ → List ℤ
@@ -40,21 +45,28 @@ over_row client set num (adj ∷ adjs) entries =
     with_adj (over_row client set (num + 1) adjs entries) (record { client = client; set = set; num = num }) adj
 
 -- the entries of all rows
-unfoldable pub entries_in : List (Place × Vec ℤ) → Entries
-entries_in [] = finite.empty
-entries_in (e ∷ es) = over_row e.0.client e.0.set 0 e.1.items (without_row (entries_in es) e.0.client e.0.set)
+unfoldable pub entries_of : List (Key × Vec ℤ) → Entries
+entries_of [] = finite.empty
+entries_of (e ∷ es) = over_row e.0.client e.0.number 0 e.1.items (without_row (entries_of es) e.0.client e.0.number)
+
+abbrev pub entries_in : RowMap → Entries
+entries_in m = entries_of (finite.entries m)
 
 -- the length of each row
-unfoldable pub lens_in : List (Place × Vec ℤ) → finite.FinMap place_cmp ℕ
-lens_in [] = finite.empty
-lens_in (e ∷ es) = finite.insert (lens_in es) e.0 (length e.1.items)
+unfoldable pub lens_of : List (Key × Vec ℤ) → finite.FinMap place_cmp ℕ
+lens_of [] = finite.empty
+lens_of (e ∷ es) =
+    finite.insert (lens_of es) (record { client = e.0.client; set = e.0.number }) (length e.1.items)
 
-abbrev pub undone_in : List (Place × Vec ℤ) → Undone
-undone_in es = record { entries = entries_in es; rows = lens_in es }
+abbrev pub lens_in : RowMap → finite.FinMap place_cmp ℕ
+lens_in m = lens_of (finite.entries m)
+
+abbrev pub undone_in : RowMap → Undone
+undone_in m = record { entries = entries_in m; rows = lens_in m }
 
 -- there are at most 64 clients
-abbrev pub AreOfClients : List (Place × Vec ℤ) → Type 0
-AreOfClients es = (c s : ℕ) → 64 ≤ c → row_in es c s ≡ None
+abbrev pub AreOfClients : RowMap → Type 0
+AreOfClients m = (c s : ℕ) → 64 ≤ c → row_in m c s ≡ None
 
 -- what the rows at a set become, those of the clients below a number; where no row is there, there is none afterwards
 abbrev pub with_each : ℕ → ℕ → (Option (List ℤ) → Option (List ℤ)) → (ℕ → ℕ → Option (List ℤ)) → ℕ → ℕ

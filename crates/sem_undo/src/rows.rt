@@ -1,35 +1,29 @@
 //! Rows of semadj by client and set.
 
-ghost use Rattle.std.specs.Prelude.{◌≡◌, ◌<◌, ◌≤◌, ℕ, [], length, pos, replicate};
-ghost use Rattle.std.specs.Prelude.{if◌then◌else◌, slice_set, IfNone, IfOk, IfSome, IsSome, OnErr, OnOk};
+ghost use Rattle.std.specs.FinMap as finite;
+ghost use Rattle.std.specs.Prelude.{◌≡◌, ◌<◌, ◌≤◌, ℕ, length, pos, replicate};
+ghost use Rattle.std.specs.Prelude.{if◌then◌else◌, slice_set, IfNone, IfOk, IfSome, OnErr, OnOk};
 ghost use Rattle.sem_undo.specs.Rows.{grown, is_here, removed, row_at, row_of, with_each, zeroed, zeroed_at};
 
+use client_map::ClientMap;
 use ipc_call::Memory;
 use std::alloc::Global;
-use std::collections::BTreeMap;
 
 /// The most clients.
 const CLIENTS: u32 = 64;
 
-/// Where a row stands: a client at a set.
-#[derive(Clone, Copy, Debug, PartialEq, Eq, PartialOrd, Ord)]
-pub(crate) struct Place {
-    pub(crate) client: u32,
-    pub(crate) set: u32,
-}
-
-/// The rows, each of the semadj of a client by semaphore number.
+/// The rows by client and set, each of the semadj by semaphore number.
 #[derive(Debug, Drop)]
 pub(crate) struct Rows {
-    rows: BTreeMap<Place, Vec<i32>>,
+    rows: ClientMap<Vec<i32>>,
 }
 
 impl Rows {
     pub(crate) fn new(alloc: Global) -> Rows
-        ensures { result.rows.entries ≡ [] }
+        ensures { result.rows ≡ finite.empty }
     {
         Rows {
-            rows: BTreeMap::new(alloc),
+            rows: ClientMap::new(alloc),
         }
     }
 
@@ -37,7 +31,7 @@ impl Rows {
     pub(crate) fn row(&self, client: u32, set: u32) -> &[i32]
         ensures { result.now ≡ row_at self.now client set }
     {
-        match self.rows.get(&Place { client, set }) {
+        match self.rows.get(client, set) {
             None => &[],
             Some(row) => row.as_slice(),
         }
@@ -56,10 +50,10 @@ impl Rows {
             ≡ (if is_here client set c s
             then Some (grown nsems (row_at self.old client set))
             else row_of self.old c s)) }
-        ensures err { OnErr result (self.new.rows.entries ≡ self.old.rows.entries) }
+        ensures err { OnErr result (self.new.rows ≡ self.old.rows) }
     {
         let row = grown_row(alloc, self.row(client, set), nsems)?;
-        self.rows.insert(Place { client, set }, row)?;
+        self.rows.insert(client, set, row)?;
         Ok(())
     }
 
@@ -71,7 +65,7 @@ impl Rows {
             then Some (slice_set (row_at self.old client set) num adj)
             else row_of self.old c s) }
     {
-        let row = self.rows.get_mut(&Place { client, set }).unwrap();
+        let row = self.rows.get_mut(client, set).unwrap();
         row[num] = adj;
     }
 
@@ -112,7 +106,7 @@ impl Rows {
             then zeroed (row_of self.old client set)
             else row_of self.old c s) }
     {
-        if let Some(row) = self.rows.get_mut(&Place { client, set }) {
+        if let Some(row) = self.rows.get_mut(client, set) {
             zero_all(row);
         }
     }
@@ -126,29 +120,11 @@ impl Rows {
         ensures rest { IfSome result (λ r. (c s : ℕ) → row_of self.new c s
             ≡ (if is_here client r.0 c s then None else row_of self.old c s)) }
     {
-        match self.first(client) {
+        match self.rows.first(client) {
             None => None,
             Some(set) => {
-                let row = self.rows.remove(&Place { client, set }).unwrap();
+                let row = self.rows.remove(client, set).unwrap();
                 Some((set, row))
-            }
-        }
-    }
-
-    /// The least set where a client has a row.
-    fn first(&self, client: u32) -> Option<u32>
-        ensures none { IfNone result ((s : ℕ) → row_of self.now client s ≡ None) }
-        ensures there { IfSome result (λ set. IsSome (row_of self.now client set)) }
-        ensures least { IfSome result (λ set. (s : ℕ) → s < set → row_of self.now client s ≡ None) }
-    {
-        match self.rows.range(Place { client, set: 0 }..).next() {
-            None => None,
-            Some((place, _)) => {
-                if place.client == client {
-                    Some(place.set)
-                } else {
-                    None
-                }
             }
         }
     }
@@ -158,7 +134,7 @@ impl Rows {
         ensures { (c s : ℕ) → row_of self.new c s
             ≡ (if is_here client set c s then None else row_of self.old c s) }
     {
-        self.rows.remove(&Place { client, set });
+        self.rows.remove(client, set);
     }
 }
 

@@ -30,9 +30,9 @@ impl Model for Undo {
 
     ghost use Rattle.sem_undo.specs.Rows.{AreOfClients, undone_in};
 
-    ghost view = { λ u. undone_in u.rows.rows.entries };
+    ghost view = { λ u. undone_in u.rows.rows };
 
-    ghost invariant = { λ u. AreOfClients u.rows.rows.entries };
+    ghost invariant = { λ u. AreOfClients u.rows.rows };
 }
 
 impl Undo {

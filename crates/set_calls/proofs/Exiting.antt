@@ -15,10 +15,10 @@ use Rattle.ipc_objects.specs.Objects.{changed, with_perm}
 use Rattle.sem_set.specs.declared.sets.Semaphore.{Semaphore}
 use Rattle.sem_set.specs.Exits.{any_from, undone_from}
 use Rattle.sem_set.specs.Trials.{adj_in}
-use Rattle.sem_undo.specs.declared.rows.Place.{Place}
-use Rattle.sem_undo.specs.Entries.{Entries, Undone, adj_of, place_cmp, without_client, without_row}
+use Rattle.client_map.proofs.Orders.{get_gone_apart}
+use Rattle.sem_undo.specs.Entries.{Entries, Place, Undone, adj_of, place_cmp, without_client, without_row}
 use Rattle.sem_undo.proofs.Entries.{get_kept, key, place, same_entries}
-use Rattle.sem_undo.proofs.Keys.{get_removed_place_apart, place_total}
+use Rattle.sem_undo.proofs.Keys.{place_same, place_total}
 use Rattle.ipc_model.specs.State.{Caller, SemSet, Sems, pid_of}
 use Rattle.ipc_model.specs.Semaphores.{after_exit, exited, undone_set}
 use Rattle.set_calls.specs.Held.{Held, row_at, sems_of}
@@ -155,7 +155,7 @@ module _ (t : Table (Object SemSet)) (u : Undone) (now : Held) (view : record { 
   other-rows other set ne =
       ap (λ (o : Option ℕ). unwrap_or o 0)
       (ap (λ (rows : finite.FinMap place_cmp ℕ). finite.get rows (place other set)) rows-left
-      ∙ get_removed_place_apart u.rows (place client id) (place other set) (λ same. ne (ap (λ (p : Place). p.client) same ∙ is)))
+      ∙ get_gone_apart place_total place_same u.rows (place client id) (place other set) (λ same. ne (ap (λ (p : Place). p.client) same ∙ is)))
       ∙ ap (λ (h : Held). row_at h other set) view
 
   -- a row was there

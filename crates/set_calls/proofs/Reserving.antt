@@ -7,10 +7,11 @@ use Rattle.std.proofs.lemmas.Bool.{cases_Bool, cases_eq, false≢true}
 use Rattle.ipc_call.specs.declared.calls.SemOper.{SemOper}
 use Rattle.sem_set.specs.declared.sets.Semaphore.{Semaphore}
 use Rattle.sem_set.specs.Trials.{are_in, undoes}
+use Rattle.client_map.proofs.Orders.{get_put, get_put_apart}
 use Rattle.sem_undo.specs.Entries.{Undone, row_len}
 use Rattle.sem_undo.proofs.Changes.{by_place}
 use Rattle.sem_undo.proofs.Entries.{place}
-use Rattle.sem_undo.proofs.Keys.{get_put_place, get_put_place_apart}
+use Rattle.sem_undo.proofs.Keys.{place_same, place_total}
 
 both : (a b : Bool) → (a && b) ≡ true → (a ≡ true) × (b ≡ true)
 both true b is = (refl, is)
@@ -31,12 +32,12 @@ module _ (u : Undone) (client at nsems : ℕ) where
   longer = record u { rows = finite.insert u.rows (place client at) nsems }
 
   len-here : row_len longer client at ≡ nsems
-  len-here = ap (λ (o : Option ℕ). unwrap_or o 0) (get_put_place u.rows (place client at) nsems)
+  len-here = ap (λ (o : Option ℕ). unwrap_or o 0) (get_put place_total place_same u.rows (place client at) nsems)
 
   len-apart : (c s : ℕ) → (c ≡ client → s ≡ at → ⊥) → row_len longer c s ≡ row_len u c s
   len-apart c s ne =
       ap (λ (o : Option ℕ). unwrap_or o 0)
-      (get_put_place_apart u.rows (place client at) nsems (place c s) (λ q. ne (λ i. (q i).client) (λ i. (q i).set)))
+      (get_put_apart place_total place_same u.rows (place client at) nsems (place c s) (λ q. ne (λ i. (q i).client) (λ i. (q i).set)))
 
   module _ (new : Undone) (is : new ≡ (if nat_lt (row_len u client at) nsems then longer else u)) where
     shorter : nat_lt (row_len u client at) nsems ≡ true → new ≡ longer

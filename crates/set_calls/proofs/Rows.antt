@@ -2,8 +2,7 @@
 use Rattle.std.proofs.Common.{◌≡◌, ◌∙◌, ℕ, ap, arith, cond, sym}
 use Rattle.std.specs.Prelude.{◌==◌, false, not, None, Option, unwrap_or}
 use Rattle.std.specs.FinMap as finite
-use Rattle.sem_undo.specs.declared.rows.Place.{Place}
-use Rattle.sem_undo.specs.Entries.{Undone, place_cmp, row_len}
+use Rattle.sem_undo.specs.Entries.{Place, Undone, place_cmp, row_len}
 use Rattle.sem_undo.proofs.Keys.{place_same}
 
 -- a row at another set is as long as it was

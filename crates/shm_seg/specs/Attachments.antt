@@ -3,13 +3,17 @@ use Rattle.std.specs.Prelude.{ℕ, zero, suc, ◌+◌, ◌==◌, Bool, Option, S
 use Rattle.std.specs.Prelude.{if◌then◌else◌}
 use Rattle.std.specs.List.{count_by}
 use Rattle.std.specs.declared.cmp.Ordering.{Ordering}
-use Rattle.std.specs.Ordering.{nat_cmp, ordering_then}
 use Rattle.std.specs.FinMap as finite
+use Rattle.client_map.specs.declared.map.Key.{Key}
+use Rattle.client_map.specs.Keys.{key, key_cmp}
 pub use Rattle.shm_seg.specs.declared.attachments.Attachment.{Attachment}
-pub use Rattle.shm_seg.specs.declared.attachments.Handle.{Handle}
+
+-- where an attachment stands: a number of a client
+abbrev pub Handle : Type 0
+Handle = Key
 
 abbrev pub handle_cmp : Handle → Handle → Ordering
-handle_cmp a b = ordering_then (nat_cmp a.client b.client) (nat_cmp a.number b.number)
+handle_cmp = key_cmp
 
 -- the attachments there are
 abbrev pub Attached : Type 0
@@ -24,14 +28,14 @@ shmseg = 4096
 
 -- what a client has attached under a number
 abbrev pub attachment_at : Attached → ℕ → ℕ → Option Attachment
-attachment_at attached client number = finite.get attached (record { client = client; number = number })
+attachment_at attached client number = finite.get attached (key client number)
 
 abbrev pub with_attachment : Attached → ℕ → ℕ → Attachment → Attached
 with_attachment attached client number attachment =
-    finite.insert attached (record { client = client; number = number }) attachment
+    finite.insert attached (key client number) attachment
 
 abbrev pub without_attachment : Attached → ℕ → ℕ → Attached
-without_attachment attached client number = finite.remove attached (record { client = client; number = number })
+without_attachment attached client number = finite.remove attached (key client number)
 
 -- the least of `left` numbers from a start that passes
 unfoldable pub least_from : (ℕ → Bool) → ℕ → ℕ → Option ℕ

@@ -2,12 +2,8 @@
 use Rattle.std.specs.Prelude.{ℕ, Bool, refl}
 use Rattle.std.specs.Coded.{Coded, code_by, coded×, coded_ℕ, coded_bool}
 use Rattle.std.specs.FinMap as finite
-use Rattle.shm_seg.specs.Attachments.{Attached, Attachment, Handle}
-
-abbrev pub handle_code : Coded Handle
-handle_code =
-    code_by (ℕ × ℕ) (coded× coded_ℕ coded_ℕ) (λ h. (h.client, h.number))
-    (λ c. record { client = c.0; number = c.1 }) (λ _. refl)
+use Rattle.client_map.specs.Keys.{key_code}
+use Rattle.shm_seg.specs.Attachments.{Attached, Attachment}
 
 abbrev pub attachment_code : Coded Attachment
 attachment_code =
@@ -15,4 +11,4 @@ attachment_code =
     (λ c. record { segment = c.0; is_read_only = c.1 }) (λ _. refl)
 
 abbrev pub attached_code : Coded Attached
-attached_code = finite.code handle_code attachment_code
+attached_code = finite.code key_code attachment_code

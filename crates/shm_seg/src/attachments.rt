@@ -5,8 +5,9 @@ ghost use Rattle.std.specs.Prelude.{if◌then◌else◌};
 ghost use Rattle.shm_seg.specs.Attachments.{attach_count, attachment_at, first_number};
 ghost use Rattle.shm_seg.specs.Attachments.{free_number as least_free, none_attached};
 ghost use Rattle.shm_seg.specs.Attachments.{with_attachment, without_attachment};
-ghost use Rattle.shm_seg.specs.Inside.{counted_at, entry_at, AreNumbered};
+ghost use Rattle.shm_seg.specs.Inside.{counted_at};
 
+use client_map::ClientMap;
 use ipc_call::Memory;
 use std::alloc::Global;
 use std::collections::BTreeMap;
@@ -14,13 +15,6 @@ use std::marker::Model;
 
 /// The most attachments of a client (shmget(2), SHMSEG), a limit of the project's own.
 const SHMSEG: u32 = 4096;
-
-/// Where an attachment stands: a number of a client.
-#[derive(Clone, Copy, Debug, PartialEq, Eq, PartialOrd, Ord)]
-pub(crate) struct Handle {
-    pub(crate) client: u32,
-    pub(crate) number: u32,
-}
 
 /// What is attached (shmop(2)).
 #[derive(Clone, Copy, Debug, PartialEq, Eq)]
@@ -35,7 +29,7 @@ pub struct Attachment {
 /// (SHMSEG). A client or a segment is any number.
 #[derive(Debug, Drop)]
 pub struct Attachments {
-    attached: BTreeMap<Handle, Attachment>,
+    attached: ClientMap<Attachment>,
     // How many attachments are to each segment, where there are any.
     counts: BTreeMap<u32, u64>,
 }
@@ -48,11 +42,11 @@ impl Model for Attachments {
 
     ghost coded = { attached_code };
 
-    ghost use Rattle.shm_seg.specs.Inside.{AreKept, attached_in};
+    ghost use Rattle.shm_seg.specs.Inside.{AreKept};
 
-    ghost view = { λ a. attached_in a.attached.entries };
+    ghost view = { λ a. a.attached };
 
-    ghost invariant = { λ a. AreKept a.attached.entries a.counts.entries };
+    ghost invariant = { λ a. AreKept a.attached a.counts.entries };
 }
 
 impl Attachments {
@@ -61,7 +55,7 @@ impl Attachments {
         ensures { result ≡ none_attached }
     {
         Attachments {
-            attached: BTreeMap::new(alloc),
+            attached: ClientMap::new(alloc),
             counts: BTreeMap::new(alloc),
         }
     }
@@ -70,7 +64,7 @@ impl Attachments {
     pub fn get(&self, client: u32, number: u32) -> Option<Attachment>
         ensures { result ≡ attachment_at self.now client number }
     {
-        self.attached.get(&Handle { client, number }).copied()
+        self.attached.get(client, number).copied()
     }
 
     /// The least number below 4096 under which a client has nothing attached; None where it has 4096 attachments. The
@@ -80,8 +74,7 @@ impl Attachments {
         ensures number { IfSome result (λ number. number < 4096) }
         ensures free { IfSome result (λ number. attachment_at self.now client number ≡ None) }
     {
-        let number = leading(&self.attached, client);
-        if number < SHMSEG { Some(number) } else { None }
+        self.attached.first_free(client, SHMSEG)
     }
 
     /// Attaches under a number below 4096 that is free for the client. The error comes only where an allocation fails,
@@ -94,12 +87,11 @@ impl Attachments {
     {
         // Memory holds fewer than 2^63 attachments, so that no count overflows.
         prove!(self.attached.len() < usize::MAX);
-        let handle = Handle { client, number };
-        self.attached.insert(handle, attachment)?;
+        self.attached.insert(client, number, attachment)?;
         match raise(&mut self.counts, attachment.segment) {
             Ok(()) => Ok(()),
             Err(memory) => {
-                self.attached.remove(&handle);
+                self.attached.remove(client, number);
                 Err(memory)
             }
         }
@@ -111,7 +103,7 @@ impl Attachments {
         ensures told { result ≡ attachment_at self.old client number }
         ensures left { self.new ≡ without_attachment self.old client number }
     {
-        match self.attached.remove(&Handle { client, number }) {
+        match self.attached.remove(client, number) {
             None => None,
             Some(attachment) => {
                 lower(&mut self.counts, attachment.segment);
@@ -127,16 +119,7 @@ impl Attachments {
         ensures there { IfSome result (λ number. IsSome (attachment_at self.now client number)) }
         ensures none { IfNone result ((number : ℕ) → attachment_at self.now client number ≡ None) }
     {
-        match self.attached.range(Handle { client, number: 0 }..).next() {
-            None => None,
-            Some((handle, _)) => {
-                if handle.client == client {
-                    Some(handle.number)
-                } else {
-                    None
-                }
-            }
-        }
+        self.attached.first(client)
     }
 
     /// How many attachments are to a segment, those of all clients (shmctl(2), shm_nattch). The time is logarithmic in
@@ -146,23 +129,6 @@ impl Attachments {
     {
         count_in(&self.counts, segment)
     }
-}
-
-/// How many numbers a client has in use from 0 on, up to the first that is free.
-fn leading(attached: &BTreeMap<Handle, Attachment>, client: u32) -> u32
-    requires { AreNumbered attached.now.entries }
-    ensures taken { (n : ℕ) → n < result
-        → IsSome (entry_at attached.now.entries (record { client = client; number = n })) }
-    ensures free { entry_at attached.now.entries (record { client = client; number = result }) ≡ None }
-{
-    let mut number = 0;
-    for (handle, _) in attached.range(Handle { client, number: 0 }..) {
-        if handle.client != client || handle.number != number {
-            return number;
-        }
-        number += 1;
-    }
-    number
 }
 
 /// The count of a segment, 0 where there is none.

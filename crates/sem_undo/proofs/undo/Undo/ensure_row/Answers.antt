@@ -9,14 +9,14 @@ use Rattle.sem_undo.proofs.undo.Undo.ensure_row.Goals as goal
 
 pub grow-requires : goal.grow-requires
 grow-requires c =
-    let lens = row_lens c.self.inside.rows.rows.entries c.args.self.now c.self.view_is c.args.client c.args.set in
+    let lens = row_lens c.self.inside.rows.rows c.args.self.now c.self.view_is c.args.client c.args.set in
     omega (arith, c.if-row-nsems.true, c.row.ensures.len, lens)
 
 pub returns-in_ok-grow-clause-ok : goal.returns-in_ok-grow-clause-ok
 returns-in_ok-grow-clause-ok c =
     let u = c.args.self.now in
-    let lens = row_lens c.self.inside.rows.rows.entries u c.self.view_is c.args.client c.args.set in
+    let lens = row_lens c.self.inside.rows.rows u c.self.view_is c.args.client c.args.set in
     let within : length (row_at c.self.inside.rows c.args.client c.args.set) ≤ c.args.nsems = omega (arith, c.if-row-nsems.true, c.row.ensures.len, lens) in
     let shorter : nat_lt (row_len u c.args.client c.args.set) c.args.nsems ≡ true = grind (arith, c.if-row-nsems.true, c.row.ensures.len) in
-    grown_value c.self.inside.rows.rows.entries u c.self.view_is c.args.client c.args.set _ c.args.nsems within c.in_ok-grow.ensures.ok
+    grown_value c.self.inside.rows.rows u c.self.view_is c.args.client c.args.set _ c.args.nsems within c.in_ok-grow.ensures.ok
     ∙ ap (λ (b : Bool). if b then (record u { rows = finite.insert u.rows (place c.args.client c.args.set) c.args.nsems }) else u) (sym shorter)

@@ -9,19 +9,19 @@ use Rattle.sem_undo.proofs.undo.Undo.put.Goals as goal
 
 pub write-requires : goal.write-requires
 write-requires c =
-    let lens = row_lens c.self.inside.rows.rows.entries c.args.self.now c.self.view_is c.args.client c.args.set in
+    let lens = row_lens c.self.inside.rows.rows c.args.self.now c.self.view_is c.args.client c.args.set in
     omega (arith, c.requires)
 
 pub invariant_of-self : goal.invariant_of-self
 invariant_of-self c =
-    let lens = row_lens c.self.inside.rows.rows.entries c.args.self.now c.self.view_is c.args.client c.args.set in
+    let lens = row_lens c.self.inside.rows.rows c.args.self.now c.self.view_is c.args.client c.args.set in
     let within : c.args.num < length (row_at c.self.inside.rows c.args.client c.args.set) = omega (arith, c.requires) in
-    clients_are c.self.inside.rows.rows.entries _ c.args.client c.args.set _ c.write.ensures (few_of c.self.inside.rows.rows.entries c.args.client c.args.set c.args.num c.self.invariant within) c.self.invariant
+    clients_are c.self.inside.rows.rows _ c.args.client c.args.set _ c.write.ensures (few_of c.self.inside.rows.rows c.args.client c.args.set c.args.num c.self.invariant within) c.self.invariant
 
 pub returns : goal.returns
 returns c =
     let u = c.args.self.now in
-    let lens = row_lens c.self.inside.rows.rows.entries u c.self.view_is c.args.client c.args.set in
+    let lens = row_lens c.self.inside.rows.rows u c.self.view_is c.args.client c.args.set in
     let within : c.args.num < length (row_at c.self.inside.rows c.args.client c.args.set) = omega (arith, c.requires) in
-    put_value c.self.inside.rows.rows.entries u c.self.view_is c.args.client c.args.set _ c.args.num _ within c.write.ensures
+    put_value c.self.inside.rows.rows u c.self.view_is c.args.client c.args.set _ c.args.num _ within c.write.ensures
     ∙ (λ i. record u { entries = with_adj u.entries (key c.args.client c.args.set c.args.num) (to_z-of_z w32 c.args.adj c.ranges.adj i) })

@@ -1,0 +1,7 @@
+//! A map by client and number: of each client what it has under its numbers, in the order of clients and then of numbers.
+//! Only `ClientMap::insert` can fail for want of memory.
+#![tactic(auto)]
+
+mod map;
+
+pub use map::ClientMap;
