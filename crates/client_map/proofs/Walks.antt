@@ -22,7 +22,7 @@ use Rattle.client_map.specs.Keys.{Key, key, key_cmp}
 use Rattle.client_map.proofs.Orders.{equal_keys, itself, key_same, key_total, keys_differ}
 use Rattle.client_map.proofs.Trees.{entry_at, get_map, map_of}
 
--- a key in order
+-- keys in order
 not_above : (n m : ℕ) → n < m → is_gt (nat_cmp (n + 1) m) ≡ false
 not_above n m h = grind (arith, nat_tests)
 
@@ -59,7 +59,7 @@ pub record Walk {X : Type 0} (m : finite.FinMap key_cmp X) (client n : ℕ) (es 
   pub low : IsFrom client n es
   pub rest : (k : ℕ) → n ≤ k → finite.get m (key client k) ≡ entry_at es (key client k)
 
--- from the least on
+-- the keys from a client's least one on
 abbrev within : ℕ → Key → Bool
 within client k = range_contains key_cmp (Included (key client 0)) Unbounded k
 
@@ -69,6 +69,7 @@ le_within Equal h = refl
 le_within Greater h = absurd (true≢false h)
 
 module _ {X : Type 0} (client : ℕ) where
+  -- the entries from there on
   abbrev pub from_client : List (Key × X) → List (Key × X)
   from_client es = entries_between key_cmp (Included (key client 0)) Unbounded es
 
