@@ -20,19 +20,6 @@ use Rattle.ipc_combiner.specs.States.{Records}
 abbrev Known : Type 0
 Known = Work Entry (ℕ × Call) Reply
 
-pub further_refl : (v : Known) → IsFurther v v
-further_refl v = record {
-  stage = refl;
-  posts = refl;
-  entered = refl;
-  got = refl;
-  seen = ([], sym (append-nil v.seen));
-  heard = refl;
-  passed = λ r k is. is;
-  begun = omega arith;
-  met = λ r is. is;
-}
-
 further : (v u w : Known) → IsFurther v u → IsFurther u w → IsFurther v w
 further v u w a b = record {
   stage = b.stage ∙ a.stage;

@@ -18,8 +18,7 @@ use Rattle.ipc_space.specs.Telling.{told_to, told_of, replies_in}
 use Rattle.ipc_space.proofs.Balance.{told_once, told_known, replies_push, is_free}
 use Rattle.pub_rule.specs.Lists.{IsOn}
 use Rattle.pub_rule.specs.Work.{GoesOn}
-use Rattle.pub_rule.specs.WorkSteps.{with_work, refusing, leaving, paying}
-use Rattle.pub_rule.specs.WorkPlays.{replying}
+use Rattle.pub_rule.specs.WorkSteps.{with_work, refusing, leaving, paying, replying}
 use Rattle.pub_list.specs.Combining.{MayAnswer, MayPark, EntersCall}
 use Rattle.pub_list.specs.declared.asking.Answer.TheVariants as answers
 use Rattle.pub_list.specs.Passing.{HasTaken, IsAsFar, HasDealt}

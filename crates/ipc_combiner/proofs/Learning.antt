@@ -45,7 +45,7 @@ module _ {g : Ghosts Shared Entry (ℕ × Call) Reply} (list : Records) where
       );
       goes_on = subst (λ z. GoesOn (work o).seen z.work.seen) (sym t.5) t.3;
       is_legal = subst (λ z. legal z.work.seen) (sym t.5) t.4;
-      heard = ap (λ z. z.work.heard) t.5 ∙ ap (λ r. (r, (work o).posts) ∷ (work v).heard) o.own.working.own;
+      heard = ap (λ z. z.work.heard) t.5 ∙ ap (λ (r : ℕ). record { client = r; post = (work o).posts } ∷ (work v).heard) o.own.working.own;
       passed = ap (λ z. z.work.passed) t.5;
       begun = ap (λ z. z.work.begun) t.5;
       met = ap (λ z. z.work.met) t.5;

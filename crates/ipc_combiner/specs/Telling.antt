@@ -22,7 +22,7 @@ module _ {g : Ghosts Shared Entry (ℕ × Call) Reply} where
     pub far : IsAsFar (view v) (view w)
     pub goes_on : GoesOn (work o).seen (work w).seen
     pub is_legal : legal (work w).seen
-    pub heard : (work w).heard ≡ (o.client, (work o).posts) ∷ (work v).heard
+    pub heard : (work w).heard ≡ record { client = o.client; post = (work o).posts } ∷ (work v).heard
     pub passed : (work w).passed ≡ (work o).passed ++ (work v).passed
     pub begun : (work w).begun ≡ (work v).begun
     pub met : (work w).met ≡ (work v).met

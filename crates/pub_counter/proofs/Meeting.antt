@@ -2,8 +2,7 @@
 use Rattle.std.proofs.Common.{◌≡◌, ◌≢◌, ℕ, List, [], ◌∷◌, ◌++◌, length, cond, eqb, true, ⊎_elim, None, sym, refl, ap, ◌∙◌, subst, inl, inr, arith, eq-eqb, ne_eqb, length-append}
 use mathlib.Core.Logic.{dite}
 use native.Mathlib.Decide.{ℕ_discrete}
-use Rattle.pub_rule.specs.WorkSteps.{with_work, refusing, leaving, entering, resuming}
-use Rattle.pub_rule.specs.WorkPlays.{replying}
+use Rattle.pub_rule.specs.WorkSteps.{with_work, refusing, leaving, entering, resuming, replying}
 use Rattle.pub_list.specs.Combining.{MayAnswer, MayPark, IsCombining, IsOwed, IsTook}
 use Rattle.pub_list.specs.declared.combining.Took.{Took}
 use Rattle.pub_list.specs.declared.combining.Took.TheVariants as took

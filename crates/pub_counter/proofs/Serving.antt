@@ -3,8 +3,7 @@ use Rattle.std.proofs.Common.{◌≡◌, ◌⊎◌, ℕ, ◌<◌, ◌^◌, List,
 use mathlib.Core.Logic.{dite}
 use native.Mathlib.Decide.{ℕ_discrete}
 use Rattle.pub_rule.specs.Lists.{IsOn}
-use Rattle.pub_rule.specs.WorkSteps.{with_work, refusing}
-use Rattle.pub_rule.specs.WorkPlays.{replying}
+use Rattle.pub_rule.specs.WorkSteps.{with_work, refusing, replying}
 use Rattle.pub_list.specs.Combining.{MayAnswer}
 use Rattle.pub_list.specs.declared.asking.Answer.TheVariants.{Reply}
 use Rattle.pub_counter.specs.declared.counter.Turn.{Turn}

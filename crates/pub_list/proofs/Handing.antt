@@ -1,7 +1,7 @@
 -- A client's seat that is handed in as the list is closed.
 use Rattle.std.proofs.Common.{◌≡◌, ℕ, false, List, [], ◌∷◌, sym, ap, ◌∙◌, subst}
-use mathlib.Core.Option.{none}
-use Rattle.atomic_table.specs.Table.{Me, step, rest, Allows}
+use Rattle.atomic_table.specs.Table.{Me, rest, Allows}
+use Rattle.pub_rule.specs.declared.served.Served.{Ghosts}
 use Rattle.pub_rule.specs.declared.walk.View.{View}
 use Rattle.pub_rule.specs.declared.work.Work.{Work}
 use Rattle.pub_rule.specs.declared.work.Stage.TheVariants.{Free}
@@ -20,7 +20,7 @@ module _ {E C R S : Type 0} where
   pub own_in_hands : (client n : ℕ) (w : Work E C R) (hands : List (ℕ × Slot C R S)) → IsWorking client n w hands → w.holds ≡ false → w.stage ≡ Free client → hands ≡ (client, slots.Empty) ∷ rest hands
   own_in_hands client n w hands i free is = let one : hands ≡ (client, slots.Empty) ∷ [] = alone client n w hands (Free client) i is free in one ∙ ap (λ (l : List (ℕ × Slot C R S)). (client, slots.Empty) ∷ rest l) (sym one)
 
-  pub give_at : (history : S → List E) (legal : List E → Type 0) (own : List E → ℕ → List C) (replies : List E → ℕ → List R) (n size id client word m : ℕ) (me : Me (Slot C R S) (View (Work E C R))) → word ≡ state_word client → IsWorking client m me.0.work me.1 → me.0.work.holds ≡ false
-      → Allows (Ruled n (Serves history legal own replies n)) size id me word (λ k. k) (slot_given (step size word 0 0 none) me)
-  give_at history legal own replies n size id client word m me is i free = subst (λ (w : ℕ). Allows (Ruled n (Serves history legal own replies n)) size id me w (λ k. k) (slot_given (step size w 0 0 none) me)) (sym is)
-      (give history legal own replies n size id client me (is_client client m me.0.work me.1 i) (λ stage. own_in_hands client m me.0.work me.1 i free stage))
+  pub give_at : (served : Ghosts S E C R) (n size id client word m : ℕ) (me : Me (Slot C R S) (View (Work E C R))) → word ≡ state_word client → IsWorking client m me.0.work me.1 → me.0.work.holds ≡ false
+      → Allows (Ruled n (Serves served n)) size id me word (λ k. k) (λ k m'. slot_given me m')
+  give_at served n size id client word m me is i free = subst (λ (w : ℕ). Allows (Ruled n (Serves served n)) size id me w (λ k. k) (λ k m'. slot_given me m')) (sym is)
+      (give served n size id client me (is_client client m me.0.work me.1 i) (λ stage. own_in_hands client m me.0.work me.1 i free stage))

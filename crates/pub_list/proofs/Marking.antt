@@ -2,6 +2,7 @@
 use Rattle.std.proofs.Common.{◌≡◌, ◌⊎◌, ℕ, ◌+◌, ◌<◌, ◌≤◌, Bool, true, false, List, [], ◌∷◌, ◌++◌, cond, eqb, if◌then◌else◌, ⊎_elim, sym, refl, ap, ◌∙◌, subst, inl, inr, arith, eq-eqb}
 use Rattle.std.proofs.lemmas.Bool.{eqb-true, true≢false, cases_Bool, cases_lt}
 use Rattle.std.specs.Prelude.{◌==◌, ◌||◌}
+use Rattle.pub_rule.specs.declared.work.Mark.{Mark}
 use Rattle.pub_rule.specs.declared.walk.View.{View}
 use Rattle.pub_rule.specs.declared.work.Work.{Work}
 use Rattle.pub_rule.specs.Lists.{IsOn}
@@ -29,17 +30,17 @@ goes_further a b c h k = (h.0 ++ k.0, k.1 ∙ ap (λ l. l ++ k.0) h.1 ∙ append
     append_all [] y z = refl
     append_all (e ∷ x) y z = ap (λ l. e ∷ l) (append_all x y z)
 
-marked_if : (b : Bool) (r k : ℕ) (x : ℕ × ℕ) (a l : List (ℕ × ℕ)) → IsMarked r k (a ++ l) → IsMarked r k (cond b (x ∷ a) a ++ l)
+marked_if : (b : Bool) (r k : ℕ) (x : Mark) (a l : List Mark) → IsMarked r k (a ++ l) → IsMarked r k (cond b (x ∷ a) a ++ l)
 marked_if true r k x a l m = inr m
 marked_if false r k x a l m = m
 
-marked_on : (r k : ℕ) (heard l : List (ℕ × ℕ)) → IsMarked r k heard → IsMarked r k (marks_of r heard ++ l)
+marked_on : (r k : ℕ) (heard l : List Mark) → IsMarked r k heard → IsMarked r k (marks_of r heard ++ l)
 marked_on r k [] l m = absurd m
 marked_on r k (x ∷ heard) l m = ⊎_elim
-    (λ (here : (r ≡ x.0) × (k ≡ x.1)). subst (λ b. IsMarked r k (cond b (x ∷ marks_of r heard) (marks_of r heard) ++ l)) (sym (eq-eqb x.0 r (sym here.0))) (inl here))
-    (λ (there : IsMarked r k heard). marked_if (eqb x.0 r) r k x (marks_of r heard) l (marked_on r k heard l there)) m
+    (λ (here : (r ≡ x.client) × (k ≡ x.post)). subst (λ b. IsMarked r k (cond b (x ∷ marks_of r heard) (marks_of r heard) ++ l)) (sym (eq-eqb x.client r (sym here.0))) (inl here))
+    (λ (there : IsMarked r k heard). marked_if (eqb x.client r) r k x (marks_of r heard) l (marked_on r k heard l there)) m
 
-marked_behind : (r k : ℕ) (a l : List (ℕ × ℕ)) → IsMarked r k l → IsMarked r k (a ++ l)
+marked_behind : (r k : ℕ) (a l : List Mark) → IsMarked r k l → IsMarked r k (a ++ l)
 marked_behind r k [] l m = m
 marked_behind r k (x ∷ a) l m = inr (marked_behind r k a l m)
 
@@ -48,11 +49,11 @@ stays_past true past e = refl
 stays_past false past e = e
 
 -- after the visits
-kept_by : (r k : ℕ) (visits : List ℕ) (heard passed : List (ℕ × ℕ)) → IsMarked r k passed → IsMarked r k (passed_by visits heard passed)
+kept_by : (r k : ℕ) (visits : List ℕ) (heard passed : List Mark) → IsMarked r k passed → IsMarked r k (passed_by visits heard passed)
 kept_by r k [] heard passed m = m
 kept_by r k (c ∷ cs) heard passed m = kept_by r k cs heard (marks_of c heard ++ passed) (marked_behind r k (marks_of c heard) passed m)
 
-pub marked_by : (r k : ℕ) (visits : List ℕ) (heard passed : List (ℕ × ℕ)) → IsOn r visits → IsMarked r k heard → IsMarked r k (passed_by visits heard passed)
+pub marked_by : (r k : ℕ) (visits : List ℕ) (heard passed : List Mark) → IsOn r visits → IsMarked r k heard → IsMarked r k (passed_by visits heard passed)
 marked_by r k [] heard passed on m = absurd on
 marked_by r k (c ∷ cs) heard passed on m = ⊎_elim
     (λ (here : r ≡ c). kept_by r k cs heard (marks_of c heard ++ passed) (subst (λ q. IsMarked r k (marks_of q heard ++ passed)) here (marked_on r k heard passed m)))
@@ -60,7 +61,7 @@ marked_by r k (c ∷ cs) heard passed on m = ⊎_elim
     on
 
 -- after one visit more
-pub passed_last : (x : ℕ) (visits : List ℕ) (heard passed : List (ℕ × ℕ)) → passed_by (visits ++ x ∷ []) heard passed ≡ marks_of x heard ++ passed_by visits heard passed
+pub passed_last : (x : ℕ) (visits : List ℕ) (heard passed : List Mark) → passed_by (visits ++ x ∷ []) heard passed ≡ marks_of x heard ++ passed_by visits heard passed
 passed_last x [] heard passed = refl
 passed_last x (c ∷ cs) heard passed = passed_last x cs heard (marks_of c heard ++ passed)
 

@@ -2,20 +2,19 @@
 use Rattle.std.proofs.Common.{◌≡◌, ℕ, true, eqb, ◌+◌, ◌-◌, ◌<◌, List, ◌∷◌, sym, refl, ap, ◌∙◌, subst, ⊎_elim, arith}
 use mathlib.Core.Option.{Option, some, none}
 use prog.Atomic.{either}
-use Rattle.atomic_table.specs.Table.{Me, step, rest, Allows}
+use Rattle.atomic_table.specs.Table.{Me, rest, Allows}
 use Rattle.atomic_table.specs.declared.shared.Seat.{Seat}
+use Rattle.pub_rule.specs.declared.served.Served.{Ghosts}
 use Rattle.pub_rule.specs.declared.walk.View.{View}
 use Rattle.pub_rule.specs.declared.work.Work.{Work}
 use Rattle.pub_rule.specs.declared.work.Serving.{Serving}
 use Rattle.pub_rule.specs.declared.work.Serving.TheVariants.{Nothing, Posted, Parked}
 use Rattle.pub_rule.specs.declared.served.Slot.{Slot}
 use Rattle.pub_rule.specs.declared.served.Slot.TheVariants as slots
-use Rattle.pub_rule.specs.Served.{AddsCall, AddsNoOther, AddsAtMostOneReply, HasNoMoreReplies}
 use Rattle.pub_rule.specs.Rule.{Ruled}
 use Rattle.pub_rule.specs.Words.{state_word}
 use Rattle.pub_rule.specs.Work.{IsClient, IsTaken, Serves}
-use Rattle.pub_rule.specs.WorkSteps.{with_work, entering, leaving, refusing, paying, call_parked, call_refused}
-use Rattle.pub_rule.specs.WorkPlays.{replying, reply_put}
+use Rattle.pub_rule.specs.WorkSteps.{with_work, entering, leaving, refusing, paying, replying, call_parked, call_refused, reply_put}
 use Rattle.pub_rule.proofs.Numbers.{state_from_state}
 use Rattle.pub_rule.proofs.Exchanging.{by_exchange}
 use Rattle.pub_rule.proofs.Answering.{answer}
@@ -101,63 +100,63 @@ module _ {E C R S : Type 0} where
 
       module _ (word : ℕ) (at : word ≡ state_word r) (new : Seat (Slot C R S) (View (Work E C R))) where
         -- Memory
-        refused_now : call_refused (step 0 word 0 0 none) mid.me 0 new.me → new.me ≡ (with_work (refusing r old.me.0.work) old.me.0, others)
-        refused_now did = let same : did.0 ≡ r = state_from_state did.0 r (sym did.1 ∙ at) in
-            rests (with_work (refusing r old.me.0.work) old.me.0) mid.me.1 new (did.2 ∙ (λ i. (with_work (refusing (same i) (view_put i).work) (view_put i), rest mid.me.1))) x list_put
+        refused_now : call_refused mid.me new.me word → new.me ≡ (with_work (refusing r old.me.0.work) old.me.0, others)
+        refused_now did = let same : did.client ≡ r = state_from_state did.client r (sym did.at ∙ at) in
+            rests (with_work (refusing r old.me.0.work) old.me.0) mid.me.1 new (did.left ∙ (λ i. (with_work (refusing (same i) (view_put i).work) (view_put i), rest mid.me.1))) x list_put
 
-        pub refuses : call_refused (step 0 word 0 0 none) mid.me 0 new.me → new.me.0 ≡ with_work (refusing r old.me.0.work) old.me.0
+        pub refuses : call_refused mid.me new.me word → new.me.0 ≡ with_work (refusing r old.me.0.work) old.me.0
         refuses did = ap (λ (m : Me (Slot C R S) (View (Work E C R))). m.0) (refused_now did)
 
-        pub refused_joined : call_refused (step 0 word 0 0 none) mid.me 0 new.me → new.table_id ≡ old.table_id → IsJoined p new
+        pub refused_joined : call_refused mid.me new.me word → new.table_id ≡ old.table_id → IsJoined p new
         refused_joined did same = rejoins (refusing r old.me.0.work) new (refused_now did) (after_refusal p (old.table_id.slots - 1) r old.me.0.work old.me.1 own.working holds) refl same
 
-        module _ (history : S → List E) (state : S) where
+        module _ (served : Ghosts S E C R) (state : S) where
           -- parked
-          parked_now : call_parked (step 0 word 0 0 (some (slots.State state))) mid.me 0 new.me history → new.me ≡ (with_work (leaving r (history state) old.me.0.work) old.me.0, others)
-          parked_now did = let same : did.0 ≡ r = state_from_state did.0 r (sym did.2 ∙ at) in let its : did.1 ≡ state = sym (ap (said_in state) did.3) in
-              rests (with_work (leaving r (history state) old.me.0.work) old.me.0) mid.me.1 new (did.4 ∙ (λ i. (with_work (leaving (same i) (history (its i)) (view_put i).work) (view_put i), rest mid.me.1))) x list_put
+          parked_now : call_parked served mid.me new.me word (some (slots.State state)) → new.me ≡ (with_work (leaving r (served.history state) old.me.0.work) old.me.0, others)
+          parked_now did = let same : did.on.client ≡ r = state_from_state did.on.client r (sym did.on.at ∙ at) in let its : did.state ≡ state = sym (ap (said_in state) did.it_said) in
+              rests (with_work (leaving r (served.history state) old.me.0.work) old.me.0) mid.me.1 new (did.on.left ∙ (λ i. (with_work (leaving (same i) (served.history (its i)) (view_put i).work) (view_put i), rest mid.me.1))) x list_put
 
-          pub parks : call_parked (step 0 word 0 0 (some (slots.State state))) mid.me 0 new.me history → new.me.0 ≡ with_work (leaving r (history state) old.me.0.work) old.me.0
+          pub parks : call_parked served mid.me new.me word (some (slots.State state)) → new.me.0 ≡ with_work (leaving r (served.history state) old.me.0.work) old.me.0
           parks did = ap (λ (m : Me (Slot C R S) (View (Work E C R))). m.0) (parked_now did)
 
-          pub parked_joined : call_parked (step 0 word 0 0 (some (slots.State state))) mid.me 0 new.me history → new.table_id ≡ old.table_id → IsJoined p new
-          parked_joined did same = rejoins (leaving r (history state) old.me.0.work) new (parked_now did) (after_park p (old.table_id.slots - 1) r (history state) old.me.0.work old.me.1 own.working holds) refl same
+          pub parked_joined : call_parked served mid.me new.me word (some (slots.State state)) → new.table_id ≡ old.table_id → IsJoined p new
+          parked_joined did same = rejoins (leaving r (served.history state) old.me.0.work) new (parked_now did) (after_park p (old.table_id.slots - 1) r (served.history state) old.me.0.work old.me.1 own.working holds) refl same
 
           -- replied
           module _ (size k : ℕ) where
-            by_serving : (serving : Serving C) → reply_put history serving (step size word 2 4 (some (slots.State state))) mid.me k new.me → new.me ≡ (with_work (replying serving r (history state) mid.me.0.work) mid.me.0, rest mid.me.1)
-            by_serving Nothing did = let same : did.0 ≡ r = state_from_state did.0 r (sym did.2 ∙ at) in let its : did.1 ≡ state = sym (ap (said_in state) did.3) in did.4 ∙ (λ i. (with_work (entering (same i) (history (its i)) mid.me.0.work) mid.me.0, rest mid.me.1))
-            by_serving (Posted q c) did = let same : did.0 ≡ r = state_from_state did.0 r (sym did.2 ∙ at) in let its : did.1 ≡ state = sym (ap (said_in state) did.3) in did.4 ∙ (λ i. (with_work (entering (same i) (history (its i)) mid.me.0.work) mid.me.0, rest mid.me.1))
-            by_serving (Parked q c) did = let same : did.0 ≡ r = state_from_state did.0 r (sym did.1 ∙ at) in did.2 ∙ (λ i. (with_work (paying (same i) mid.me.0.work) mid.me.0, rest mid.me.1))
+            by_serving : (serving : Serving C) → reply_put served mid.me new.me word (some (slots.State state)) serving → new.me ≡ (with_work (replying serving r (served.history state) mid.me.0.work) mid.me.0, rest mid.me.1)
+            by_serving Nothing did = let same : did.on.client ≡ r = state_from_state did.on.client r (sym did.on.at ∙ at) in let its : did.state ≡ state = sym (ap (said_in state) did.it_said) in did.on.left ∙ (λ i. (with_work (entering (same i) (served.history (its i)) mid.me.0.work) mid.me.0, rest mid.me.1))
+            by_serving (Posted q c) did = let same : did.on.client ≡ r = state_from_state did.on.client r (sym did.on.at ∙ at) in let its : did.state ≡ state = sym (ap (said_in state) did.it_said) in did.on.left ∙ (λ i. (with_work (entering (same i) (served.history (its i)) mid.me.0.work) mid.me.0, rest mid.me.1))
+            by_serving (Parked q c) did = let same : did.client ≡ r = state_from_state did.client r (sym did.at ∙ at) in did.left ∙ (λ i. (with_work (paying (same i) mid.me.0.work) mid.me.0, rest mid.me.1))
 
-            replied_now : reply_put history mid.me.0.work.serving (step size word 2 4 (some (slots.State state))) mid.me k new.me → new.me ≡ (with_work (replying old.me.0.work.serving r (history state) old.me.0.work) old.me.0, others)
-            replied_now did = rests (with_work (replying old.me.0.work.serving r (history state) old.me.0.work) old.me.0) mid.me.1 new
-                (by_serving mid.me.0.work.serving did ∙ (λ i. (with_work (replying (view_put i).work.serving r (history state) (view_put i).work) (view_put i), rest mid.me.1))) x list_put
+            replied_now : reply_put served mid.me new.me word (some (slots.State state)) mid.me.0.work.serving → new.me ≡ (with_work (replying old.me.0.work.serving r (served.history state) old.me.0.work) old.me.0, others)
+            replied_now did = rests (with_work (replying old.me.0.work.serving r (served.history state) old.me.0.work) old.me.0) mid.me.1 new
+                (by_serving mid.me.0.work.serving did ∙ (λ i. (with_work (replying (view_put i).work.serving r (served.history state) (view_put i).work) (view_put i), rest mid.me.1))) x list_put
 
-            pub replies_now : reply_put history mid.me.0.work.serving (step size word 2 4 (some (slots.State state))) mid.me k new.me → new.me.0 ≡ with_work (replying old.me.0.work.serving r (history state) old.me.0.work) old.me.0
+            pub replies_now : reply_put served mid.me new.me word (some (slots.State state)) mid.me.0.work.serving → new.me.0 ≡ with_work (replying old.me.0.work.serving r (served.history state) old.me.0.work) old.me.0
             replies_now did = ap (λ (m : Me (Slot C R S) (View (Work E C R))). m.0) (replied_now did)
 
-            pub replied_joined : reply_put history mid.me.0.work.serving (step size word 2 4 (some (slots.State state))) mid.me k new.me → new.table_id ≡ old.table_id → IsJoined p new
-            replied_joined did same = rejoins (replying old.me.0.work.serving r (history state) old.me.0.work) new (replied_now did) (after_reply p (old.table_id.slots - 1) r (history state) old.me.0.work old.me.1 old.me.0.work.serving own.working holds) (heard_still old.me.0.work.serving r (history state) old.me.0.work) same
+            pub replied_joined : reply_put served mid.me new.me word (some (slots.State state)) mid.me.0.work.serving → new.table_id ≡ old.table_id → IsJoined p new
+            replied_joined did same = rejoins (replying old.me.0.work.serving r (served.history state) old.me.0.work) new (replied_now did) (after_reply p (old.table_id.slots - 1) r (served.history state) old.me.0.work old.me.1 old.me.0.work.serving own.working holds) (heard_still old.me.0.work.serving r (served.history state) old.me.0.work) same
 
   -- the laws at a word that the code names
-  module _ (history : S → List E) (legal : List E → Type 0) (owns : List E → ℕ → List C) (replies : List E → ℕ → List R) (n size id word : ℕ) (me : Me (Slot C R S) (View (Work E C R))) (p r clients : ℕ) (e : word ≡ state_word r) (key : n ≡ clients) (is : IsClient p me.0.work.stage) (holds : me.0.work.holds ≡ true) where
-    pub word_refuses : (c : C) → me.0.work.serving ≡ Posted r c → me.1 ≡ (r, slots.Memory) ∷ rest me.1 → Allows (Ruled n (Serves history legal owns replies n)) size id me word (λ _. 4) (λ _. call_refused (step size word 4 0 none) me 4)
-    word_refuses c takes hands = subst (λ (i : ℕ). Allows (Ruled n (Serves history legal owns replies n)) size id me i (λ _. 4) (λ _. call_refused (step size i 4 0 none) me 4)) (sym e) (refuse history legal owns replies n size id p r c me is holds takes hands)
+  module _ (served : Ghosts S E C R) (n size id word : ℕ) (me : Me (Slot C R S) (View (Work E C R))) (p r clients : ℕ) (e : word ≡ state_word r) (key : n ≡ clients) (is : IsClient p me.0.work.stage) (holds : me.0.work.holds ≡ true) where
+    pub word_refuses : (c : C) → me.0.work.serving ≡ Posted r c → me.1 ≡ (r, slots.Memory) ∷ rest me.1 → Allows (Ruled n (Serves served n)) size id me word (λ _. 4) (λ _ m'. call_refused me m' word)
+    word_refuses c takes hands = subst (λ (i : ℕ). Allows (Ruled n (Serves served n)) size id me i (λ _. 4) (λ _ m'. call_refused me m' i)) (sym e) (refuse served n size id p r c me record { client = is; holds = holds; serves = takes } hands)
 
-    module _ (by : E → ℕ) (call : E → C) (own_call : AddsCall legal owns by call) (own_other : AddsNoOther legal owns by) (one_more : AddsAtMostOneReply legal replies) (no_more : HasNoMoreReplies legal owns replies) (state : S) where
-      pub word_parks : MayPark history legal by call clients r me.0 state owns replies → me.1 ≡ (r, slots.Empty) ∷ rest me.1
-          → Allows (Ruled n (Serves history legal owns replies n)) size id me word (λ k. either (eqb k 2) 3 k) (λ k m'. call_parked (step size word 2 3 (some (slots.State state))) me k m' history)
-      word_parks may hands = let t = may.0 in subst (λ (i : ℕ). Allows (Ruled n (Serves history legal owns replies n)) size id me i (λ k. either (eqb k 2) 3 k) (λ k m'. call_parked (step size i 2 3 (some (slots.State state))) me k m' history)) (sym e)
-          (by_exchange history legal owns replies n size id r 3 me (λ k m'. call_parked (step size (state_word r) 2 3 (some (slots.State state))) me k m' history) holds (subst (IsTaken r) (sym t.2) refl)
-          (park history legal owns replies n by call own_call own_other one_more no_more size id p r t.0 t.1 state me is holds t.2 t.3 t.4 t.5 t.6 may.1 (subst (λ (z : ℕ). OwesNothing replies z me.0) (sym key) t.7) hands))
+    module _ (state : S) where
+      pub word_parks : MayPark served.history served.legal served.client served.call clients r me.0 state served.own served.replies → me.1 ≡ (r, slots.Empty) ∷ rest me.1
+          → Allows (Ruled n (Serves served n)) size id me word (λ k. either (eqb k 2) 3 k) (λ k m'. call_parked served me m' word (some (slots.State state)))
+      word_parks may hands = let t = may.0 in subst (λ (i : ℕ). Allows (Ruled n (Serves served n)) size id me i (λ k. either (eqb k 2) 3 k) (λ k m'. call_parked served me m' i (some (slots.State state)))) (sym e)
+          (by_exchange served n size id r 3 me (λ k m'. call_parked served me m' (state_word r) (some (slots.State state))) holds (subst (IsTaken r) (sym t.2) refl)
+          (park served n size id p r t.0 t.1 state me record { client = is; holds = holds; serves = t.2 } record { by = t.3; asks = t.4; one_more = t.5; is_legal = t.6; owes_nothing = subst (λ (z : ℕ). OwesNothing served.replies z me.0) (sym key) t.7 } may.1 hands))
 
-      pub word_replies : (y : R) → MayAnswer history legal by call clients r me.0 state replies (answers.Reply y) → me.1 ≡ (r, slots.Reply y) ∷ rest me.1
-          → Allows (Ruled n (Serves history legal owns replies n)) size id me word (λ k. either (eqb k 2) 4 k) (λ k m'. reply_put history me.0.work.serving (step size word 2 4 (some (slots.State state))) me k m')
-      word_replies y may hands = subst (λ (i : ℕ). Allows (Ruled n (Serves history legal owns replies n)) size id me i (λ k. either (eqb k 2) 4 k) (λ k m'. reply_put history me.0.work.serving (step size i 2 4 (some (slots.State state))) me k m')) (sym e) (⊎_elim
-          (λ u. let t = u.0 in subst (λ (d : Serving C). Allows (Ruled n (Serves history legal owns replies n)) size id me (state_word r) (λ k. either (eqb k 2) 4 k) (λ k m'. reply_put history d (step size (state_word r) 2 4 (some (slots.State state))) me k m')) (sym t.2)
-          (by_exchange history legal owns replies n size id r 4 me (λ k m'. reply_put history (Posted r t.0) (step size (state_word r) 2 4 (some (slots.State state))) me k m') holds (subst (IsTaken r) (sym t.2) refl)
-          (answer history legal owns replies n by call own_call own_other one_more no_more size id p r t.0 t.1 state y me is holds t.2 t.3 t.4 t.5 t.6 u.1 (subst (λ (z : ℕ). OwesNothing replies z me.0) (sym key) t.7) hands)))
-          (λ u. subst (λ (d : Serving C). Allows (Ruled n (Serves history legal owns replies n)) size id me (state_word r) (λ k. either (eqb k 2) 4 k) (λ k m'. reply_put history d (step size (state_word r) 2 4 (some (slots.State state))) me k m')) (sym u.2)
-          (by_exchange history legal owns replies n size id r 4 me (λ k m'. reply_put history (Parked r u.0) (step size (state_word r) 2 4 (some (slots.State state))) me k m') holds (subst (IsTaken r) (sym u.2) refl)
-          (hand history legal owns replies n size id p r u.0 u.1 y me is holds u.2 u.4 hands))) may)
+      pub word_replies : (y : R) → MayAnswer served.history served.legal served.client served.call clients r me.0 state served.replies (answers.Reply y) → me.1 ≡ (r, slots.Reply y) ∷ rest me.1
+          → Allows (Ruled n (Serves served n)) size id me word (λ k. either (eqb k 2) 4 k) (λ k m'. reply_put served me m' word (some (slots.State state)) me.0.work.serving)
+      word_replies y may hands = subst (λ (i : ℕ). Allows (Ruled n (Serves served n)) size id me i (λ k. either (eqb k 2) 4 k) (λ k m'. reply_put served me m' i (some (slots.State state)) me.0.work.serving)) (sym e) (⊎_elim
+          (λ u. let t = u.0 in subst (λ (d : Serving C). Allows (Ruled n (Serves served n)) size id me (state_word r) (λ k. either (eqb k 2) 4 k) (λ k m'. reply_put served me m' (state_word r) (some (slots.State state)) d)) (sym t.2)
+          (by_exchange served n size id r 4 me (λ k m'. reply_put served me m' (state_word r) (some (slots.State state)) (Posted r t.0)) holds (subst (IsTaken r) (sym t.2) refl)
+          (answer served n size id p r t.0 t.1 state y me record { client = is; holds = holds; serves = t.2 } record { by = t.3; asks = t.4; one_more = t.5; is_legal = t.6; owes_nothing = subst (λ (z : ℕ). OwesNothing served.replies z me.0) (sym key) t.7 } u.1 hands)))
+          (λ u. subst (λ (d : Serving C). Allows (Ruled n (Serves served n)) size id me (state_word r) (λ k. either (eqb k 2) 4 k) (λ k m'. reply_put served me m' (state_word r) (some (slots.State state)) d)) (sym u.2)
+          (by_exchange served n size id r 4 me (λ k m'. reply_put served me m' (state_word r) (some (slots.State state)) (Parked r u.0)) holds (subst (IsTaken r) (sym u.2) refl)
+          (hand served n size id p r u.0 u.1 y me record { client = is; holds = holds; serves = u.2 } u.4 hands))) may)

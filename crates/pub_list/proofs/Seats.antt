@@ -8,18 +8,21 @@ use prog.Atomic.{either}
 use Rattle.atomic_table.specs.Table.{Me, step, Allows, opening}
 use Rattle.atomic_table.specs.Seated.{TableId}
 use Rattle.atomic_table.specs.declared.shared.Seat.{Seat}
+use Rattle.pub_rule.specs.declared.served.Served.{Ghosts}
+use Rattle.pub_rule.specs.declared.work.Mark.{Mark}
 use Rattle.pub_rule.specs.declared.walk.View.{View}
 use Rattle.pub_rule.specs.declared.walk.Role.TheVariants as roles
 use Rattle.pub_rule.specs.Words.{head_word, next_word, state_word, word_count}
 use Rattle.pub_rule.specs.Lists.{IsOn, IsListOf, EndsWith, link_to, head_of, after}
 use Rattle.pub_rule.specs.Rule.{Ruled, slots_of, opening_view}
-use Rattle.pub_rule.specs.Deaf.{opening_work, deaf, deep}
+use Rattle.pub_rule.specs.Independent.{independent, sized}
 use Rattle.pub_rule.specs.Work.{IsMarked, Serves}
-use Rattle.pub_rule.specs.WorkSteps.{slot_fetched}
-use Rattle.pub_rule.specs.WorkSplits.{Opens, token_made, view_taught, taught, is_marked}
+use Rattle.pub_rule.specs.WorkSteps.{Fetches}
+use Rattle.pub_rule.specs.WorkSplits.{opening_work, token_made, view_taught, taught, is_marked}
 use Rattle.pub_rule.specs.declared.work.Work.{Work}
 use Rattle.pub_rule.specs.declared.work.Stage.TheVariants.{Away}
 use Rattle.pub_rule.proofs.Clientwork.{fetch}
+use Rattle.pub_rule.proofs.Splitting.{opens}
 use Rattle.pub_rule.specs.declared.served.Slot.{Slot}
 use Rattle.pub_rule.specs.Steps.{IsKnown, with_list, with_walk, head_loaded, next_stored, head_exchanged, next_loaded, client_of}
 use Rattle.pub_rule.proofs.Clients.{by_equal}
@@ -38,27 +41,27 @@ list_after n c [] l = l
 list_after n c (x ∷ xs) l = let rest : IsListOf n xs = (l.0.1, λ q h. l.1 q (inr h)) in by_equal (λ b. IsListOf n (cond b xs (after c xs))) x c (λ _. rest) (λ _. list_after n c xs rest)
 
 -- the rule where a state is served
-module _ {E C R S : Type 0} (history : S → List E) (legal : List E → Type 0) (own : List E → ℕ → List C) (replies : List E → ℕ → List R) (n : ℕ) where
-  abbrev pub served : List ℕ → List (Option (Slot C R S)) → List (Work E C R) → Type 0
-  served = Serves history legal own replies n
+module _ {E C R S : Type 0} (served : Ghosts S E C R) (n : ℕ) where
+  abbrev pub rule : List ℕ → List (Option (Slot C R S)) → List (Work E C R) → Type 0
+  rule = Serves served n
 
   module _ (slots id word : ℕ) (me : Me (Slot C R S) (View (Work E C R))) where
-    pub head_loads : word ≡ head_word → Allows (Ruled n served) slots id me word (λ x. x) (head_loaded (step slots word 0 0 none) me)
-    head_loads e = subst (λ (i : ℕ). Allows (Ruled n served) slots id me i (λ x. x) (head_loaded (step slots i 0 0 none) me)) (sym e) (load_head n served (deaf history legal own replies n) (deep history legal own replies n) slots id me)
+    pub head_loads : word ≡ head_word → Allows (Ruled n rule) slots id me word (λ x. x) (head_loaded (step slots word 0 0 none) me)
+    head_loads e = subst (λ (i : ℕ). Allows (Ruled n rule) slots id me i (λ x. x) (head_loaded (step slots i 0 0 none) me)) (sym e) (load_head n rule (independent served n) (sized served n) slots id me)
 
-    pub next_loads : (c : ℕ) → word ≡ next_word c → IsKnown c me.0.walk → Allows (Ruled n served) slots id me word (λ x. x) (next_loaded (step slots word 0 0 none) me)
-    next_loads c e known = subst (λ (i : ℕ). Allows (Ruled n served) slots id me i (λ x. x) (next_loaded (step slots i 0 0 none) me)) (sym e) (load_next n served (deaf history legal own replies n) (deep history legal own replies n) slots id c me known)
+    pub next_loads : (c : ℕ) → word ≡ next_word c → IsKnown c me.0.walk → Allows (Ruled n rule) slots id me word (λ x. x) (next_loaded (step slots word 0 0 none) me)
+    next_loads c e known = subst (λ (i : ℕ). Allows (Ruled n rule) slots id me i (λ x. x) (next_loaded (step slots i 0 0 none) me)) (sym e) (load_next n rule (independent served n) (sized served n) slots id c me known)
 
-    pub next_stores : (c x : ℕ) → word ≡ next_word c → me.0.walk.role ≡ roles.Fresh c → Allows (Ruled n served) slots id me word (λ _. x) (λ _. next_stored (step slots word x 0 none) me x)
-    next_stores c x e is = subst (λ (i : ℕ). Allows (Ruled n served) slots id me i (λ _. x) (λ _. next_stored (step slots i x 0 none) me x)) (sym e) (store_next n served (deaf history legal own replies n) (deep history legal own replies n) slots id c x me is)
+    pub next_stores : (c x : ℕ) → word ≡ next_word c → me.0.walk.role ≡ roles.Fresh c → Allows (Ruled n rule) slots id me word (λ _. x) (λ _. next_stored (step slots word x 0 none) me x)
+    next_stores c x e is = subst (λ (i : ℕ). Allows (Ruled n rule) slots id me i (λ _. x) (λ _. next_stored (step slots i x 0 none) me x)) (sym e) (store_next n rule (independent served n) (sized served n) slots id c x me is)
 
     pub head_exchanges : (c old new : ℕ) → word ≡ head_word → me.0.walk.role ≡ roles.Fresh c → me.0.walk.stored ≡ old → link_to me.0.walk.list ≡ old → new ≡ c + 1
-        → Allows (Ruled n served) slots id me word (λ k. either (eqb k old) new k) (head_exchanged (step slots word old new none) me)
-    head_exchanges c old new e is stored loaded number = subst (λ (i : ℕ). Allows (Ruled n served) slots id me i (λ k. either (eqb k old) new k) (head_exchanged (step slots i old new none) me)) (sym e)
-        (exchange_head n served (deaf history legal own replies n) (deep history legal own replies n) slots id c old new me is stored loaded number)
+        → Allows (Ruled n rule) slots id me word (λ k. either (eqb k old) new k) (head_exchanged (step slots word old new none) me)
+    head_exchanges c old new e is stored loaded number = subst (λ (i : ℕ). Allows (Ruled n rule) slots id me i (λ k. either (eqb k old) new k) (head_exchanged (step slots i old new none) me)) (sym e)
+        (exchange_head n rule (independent served n) (sized served n) slots id c old new me is stored loaded number)
 
-    pub slot_fetches : (c : ℕ) → word ≡ state_word c → me.0.work.stage ≡ Away c → Allows (Ruled n served) slots id me word (λ k. k) (slot_fetched (step slots word 0 0 none) me)
-    slot_fetches c e is = subst (λ (i : ℕ). Allows (Ruled n served) slots id me i (λ k. k) (slot_fetched (step slots i 0 0 none) me)) (sym e) (fetch history legal own replies n slots id c me is)
+    pub slot_fetches : (c : ℕ) → word ≡ state_word c → me.0.work.stage ≡ Away c → Allows (Ruled n rule) slots id me word (λ k. k) (λ k m'. Fetches me m')
+    slot_fetches c e is = subst (λ (i : ℕ). Allows (Ruled n rule) slots id me i (λ k. k) (λ k m'. Fetches me m')) (sym e) (fetch served n slots id c me is)
 
 -- who is known to have joined is one of the clients
 pub known_small : {E C R S : Type 0} (client clients slots : ℕ) (seat : Seat (Slot C R S) (View (Work E C R))) → IsJoined client seat → seat.table_id.slots ≡ slots → slots ≡ clients + 1 → (c : ℕ) → IsKnown c seat.me.0.walk → c < clients
@@ -80,20 +83,20 @@ module _ {E C R S : Type 0} (client clients slots : ℕ) (old new : Seat (Slot C
   counted list l = subst (λ (k : ℕ). IsListOf k list) (omega arith) l
 
   pub first_read : (word k : ℕ) → head_loaded (step slots word 0 0 none) old.me k new.me → IsJoined client new × (SeesAll client old new × IsListOf clients (seen new)) × (k ≤ clients) × (k ≡ link_to (seen new))
-  first_read word k did = let now : seen new ≡ did.0 = ap (λ (m : Me (Slot C R S) (View (Work E C R))). m.0.walk.list) did.1 in let l = counted did.0 did.3.clients in (
-    joined_still did.0 did.1 did.3.clients,
-    subst (λ (l : List ℕ). (IsOn client l × ((c : ℕ) → IsOn c (told old) → IsOn c l) × EndsWith l (seen old)) × IsListOf clients l) (sym now) ((did.3.joined client own.role, did.3.told, did.3.grown), l),
-    subst (λ (x : ℕ). x ≤ clients) (sym did.2) (link_small clients did.0 l),
-    did.2 ∙ ap link_to (sym now),
+  first_read word k did = let now : seen new ≡ did.list = ap (λ (m : Me (Slot C R S) (View (Work E C R))). m.0.walk.list) did.left in let l = counted did.list did.saw.clients in (
+    joined_still did.list did.left did.saw.clients,
+    subst (λ (l : List ℕ). (IsOn client l × ((c : ℕ) → IsOn c (told old) → IsOn c l) × EndsWith l (seen old)) × IsListOf clients l) (sym now) ((did.saw.joined client own.role, did.saw.told, did.saw.grown), l),
+    subst (λ (x : ℕ). x ≤ clients) (sym did.link) (link_small clients did.list l),
+    did.link ∙ ap link_to (sym now),
   )
 
   pub next_read : (word k c : ℕ) → word ≡ next_word c → IsKnown c old.me.0.walk → next_loaded (step slots word 0 0 none) old.me k new.me
       → IsJoined client new × (SeesFrom c old new × IsListOf clients (seen new)) × (k ≤ clients) × (k ≡ link_to (after c (seen new)))
-  next_read word k c is known did = let d = did c is known in let now : seen new ≡ d.0 = ap (λ (m : Me (Slot C R S) (View (Work E C R))). m.0.walk.list) d.1 in let l = counted d.0 d.5 in (
-    joined_still d.0 d.1 d.5,
-    subst (λ (l : List ℕ). (IsOn c l × EndsWith l (seen old) × (IsOn c (seen old) → l ≡ seen old)) × IsListOf clients l) (sym now) ((d.3, d.6, d.4), l),
-    subst (λ (x : ℕ). x ≤ clients) (sym d.2) (link_small clients (after c d.0) (list_after clients c d.0 l)),
-    d.2 ∙ ap (λ (l : List ℕ). link_to (after c l)) (sym now),
+  next_read word k c is known did = let d = did c is known in let now : seen new ≡ d.list = ap (λ (m : Me (Slot C R S) (View (Work E C R))). m.0.walk.list) d.left in let l = counted d.list d.clients in (
+    joined_still d.list d.left d.clients,
+    subst (λ (l : List ℕ). (IsOn c l × EndsWith l (seen old) × (IsOn c (seen old) → l ≡ seen old)) × IsListOf clients l) (sym now) ((d.on, d.grown, d.same), l),
+    subst (λ (x : ℕ). x ≤ clients) (sym d.link) (link_small clients (after c d.list) (list_after clients c d.list l)),
+    d.link ∙ ap (λ (l : List ℕ). link_to (after c l)) (sym now),
   )
 
 -- the client that a link leads to
@@ -131,8 +134,8 @@ module _ {E C R S : Type 0} (client teacher : ℕ) (old new from said : Seat (Sl
   pub told_more : told new ≡ teacher ∷ told old
   told_more = ap (λ (m : Me (Slot C R S) (View (Work E C R))). m.0.walk.known) did ∙ (ap (λ (m : Me (Slot C R S) (View (Work E C R))). m.0.walk.known ++ told old) tells ∙ ap (λ (c : ℕ). c ∷ told old) (ap client_of its.role))
 
-  heard_more : (work new).heard ≡ (teacher, (work from).posts) ∷ (work old).heard
-  heard_more = ap (λ (v : View (Work E C R)). v.work.heard) teaches ∙ ap (λ (c : ℕ). (c, (work from).posts) ∷ (work old).heard) its.working.own
+  heard_more : (work new).heard ≡ record { client = teacher; post = (work from).posts } ∷ (work old).heard
+  heard_more = ap (λ (v : View (Work E C R)). v.work.heard) teaches ∙ ap (λ (c : ℕ). record { client = c; post = (work from).posts } ∷ (work old).heard) its.working.own
 
   still_working : {n : ℕ} → IsWorking client n (work old) old.me.1 → IsWorking client n (taught (work old) (work said)) old.me.1
   still_working w = record { own = w.own; live = w.live; hands_are = w.hands_are; quiet = w.quiet; below = w.below }
@@ -149,13 +152,13 @@ module _ {E C R S : Type 0} (client teacher : ℕ) (old new from said : Seat (Sl
   }
 
 -- a post that is marked
-pub is_marked_by : (r k : ℕ) (l : List (ℕ × ℕ)) → IsMarked r k l → is_marked r k l ≡ true
+pub is_marked_by : (r k : ℕ) (l : List Mark) → IsMarked r k l → is_marked r k l ≡ true
 is_marked_by r k [] h = absurd h
-is_marked_by r k (x ∷ xs) h = ⊎_elim (λ (e : (r ≡ x.0) × (k ≡ x.1)). (λ i. (eqb (e.0 i) x.0 && eqb (e.1 i) x.1) || is_marked r k xs) ∙ ((λ i. (eq-eqb x.0 x.0 refl i && eq-eqb x.1 x.1 refl i) || is_marked r k xs)))
-    (λ t. (λ i. (eqb r x.0 && eqb k x.1) || is_marked_by r k xs t i) ∙ or_true (eqb r x.0 && eqb k x.1)) h
+is_marked_by r k (x ∷ xs) h = ⊎_elim (λ (e : (r ≡ x.client) × (k ≡ x.post)). (λ i. (eqb (e.0 i) x.client && eqb (e.1 i) x.post) || is_marked r k xs) ∙ ((λ i. (eq-eqb x.client x.client refl i && eq-eqb x.post x.post refl i) || is_marked r k xs)))
+    (λ t. (λ i. (eqb r x.client && eqb k x.post) || is_marked_by r k xs t i) ∙ or_true (eqb r x.client && eqb k x.post)) h
 
 -- past holds where the other knows so
-pub past_by : (a : Bool) (q client k : ℕ) (l : List (ℕ × ℕ)) → q ≡ client → IsMarked client k l → (a || is_marked q k l) ≡ true
+pub past_by : (a : Bool) (q client k : ℕ) (l : List Mark) → q ≡ client → IsMarked client k l → (a || is_marked q k l) ≡ true
 past_by true q client k l e h = refl
 past_by false q client k l e h = is_marked_by q k l (subst (λ (z : ℕ). IsMarked z k l) (sym e) h)
 
@@ -168,8 +171,8 @@ placed_push P (y ∷ ys) x (suc n) e h p zero = h zero
 placed_push P (y ∷ ys) x (suc n) e h p (suc k) = placed_push (λ j. P (suc j)) ys x n (omega arith) (λ j. h (suc j)) p k
 
 -- the table at the start
-module _ {E C R S : Type 0} (history : S → List E) (legal : List E → Type 0) (own : List E → ℕ → List C) (replies : List E → ℕ → List R) (opens : (n : ℕ) → Opens history legal own replies n) where
-  pub opens_at : (n m k : ℕ) (words : List ℕ) (slots : List (Slot C R S)) (state kept : S) → kept ≡ state → legal (history state) → ((r : ℕ) → own (history state) r ≡ []) → m ≡ n → words ≡ replicate k 0 → k ≡ word_count n → slots ≡ slots_of n state
-      → Ruled m (Serves history legal own replies m) (opening words slots (opening_view (opening_work (history kept))))
-  opens_at n m k words slots state kept same law uncalled number w count s = subst (λ (z : ℕ × List ℕ × List (Slot C R S) × S). Ruled z.0 (Serves history legal own replies z.0) (opening z.1 z.2 (opening_view (opening_work (history z.3)))))
-      (λ i. (sym number i, sym (w ∙ ap (λ (j : ℕ). replicate j 0) count) i, sym s i, sym same i)) (opens n state law uncalled)
+module _ {E C R S : Type 0} (served : Ghosts S E C R) where
+  pub opens_at : (n m k : ℕ) (words : List ℕ) (slots : List (Slot C R S)) (state kept : S) → kept ≡ state → served.legal (served.history state) → ((r : ℕ) → served.own (served.history state) r ≡ []) → m ≡ n → words ≡ replicate k 0 → k ≡ word_count n → slots ≡ slots_of n state
+      → Ruled m (Serves served m) (opening words slots (opening_view (opening_work (served.history kept))))
+  opens_at n m k words slots state kept same law uncalled number w count s = subst (λ (z : ℕ × List ℕ × List (Slot C R S) × S). Ruled z.0 (Serves served z.0) (opening z.1 z.2 (opening_view (opening_work (served.history z.3)))))
+      (λ i. (sym number i, sym (w ∙ ap (λ (j : ℕ). replicate j 0) count) i, sym s i, sym same i)) (opens served n state law uncalled)

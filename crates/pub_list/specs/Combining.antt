@@ -6,8 +6,8 @@ use Rattle.pub_rule.specs.declared.work.Serving.TheVariants as servings
 use Rattle.pub_rule.specs.Lists.{IsOn}
 use Rattle.pub_rule.specs.declared.work.Stage.TheVariants.{Asking}
 use Rattle.pub_rule.specs.Work.{GoesOn, IsClient}
-use Rattle.pub_rule.specs.WorkSteps.{with_work, holding, meeting, taking, resuming, dealt, leaving, refusing, released}
-use Rattle.pub_rule.specs.WorkPlays.{replying}
+use Rattle.pub_rule.specs.WorkSteps.{with_work, holding, meeting, taking, resuming, dealt, leaving, refusing, replying}
+use Rattle.pub_rule.specs.WorkSteps.{released}
 use Rattle.pub_list.specs.declared.asking.Answer.{Answer}
 use Rattle.pub_list.specs.declared.asking.Answer.TheVariants.{Reply, Memory}
 use Rattle.pub_list.specs.declared.records.WordState.{WordState}

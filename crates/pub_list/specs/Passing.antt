@@ -2,6 +2,7 @@
 use Rattle.std.specs.Prelude.{◌≡◌, ℕ, true, ◌+◌, ◌<◌, ◌≤◌, List, [], ◌∷◌, ◌++◌, length, if◌then◌else◌}
 use Rattle.pub_rule.specs.declared.walk.View.{View}
 use Rattle.pub_rule.specs.declared.work.Work.{Work}
+use Rattle.pub_rule.specs.declared.work.Mark.{Mark}
 use Rattle.pub_rule.specs.declared.work.Serving.TheVariants.{Posted}
 use Rattle.pub_rule.specs.Lists.{IsListOf}
 use Rattle.pub_rule.specs.Work.{GoesOn, IsMarked}
@@ -10,7 +11,7 @@ use Rattle.pub_list.specs.Combining.{IsCombining, OwesNothing}
 
 -- the posts that are passed, of those that were heard of, after one visit to the record of each of these clients, in
 -- this order
-abbrev pub passed_by : List ℕ → List (ℕ × ℕ) → List (ℕ × ℕ) → List (ℕ × ℕ)
+abbrev pub passed_by : List ℕ → List Mark → List Mark → List Mark
 passed_by [] heard passed = passed
 passed_by (c ∷ cs) heard passed = passed_by cs heard (marks_of c heard ++ passed)
 

@@ -4,7 +4,7 @@ ghost use Rattle.pub_list.specs.Clients.{view, work, BelongsTo, IsSame};
 ghost use Rattle.pub_list.specs.Asking.{IsIdle, IsPosted, IsCollected};
 
 use crate::joined::Joined;
-use crate::lists::{List, let_go};
+use crate::lists::{List, drop_empty};
 use crate::records::{WordState, state_of};
 use pub_rule::{ANSWERED, CollectReply, FREE, POSTED, PostCall, Served, Slot, state_word};
 
@@ -28,7 +28,7 @@ impl<S: Served> Joined<S> {
         ensures posted { IsPosted self.old.client call (view self.old) (view self.new) }
     {
         let table = &list.table.shared;
-        let_go::<S>(table.exchange(&mut self.seat, self.client as usize, Slot::Call(call)));
+        drop_empty::<S>(table.exchange(&mut self.seat, self.client as usize, Slot::Call(call)));
         table.store::<PostCall>(&mut self.seat, state_word(self.client), POSTED);
     }
 

@@ -8,14 +8,14 @@ ghost use Rattle.pub_list.specs.Closing.{told_at_close, IsCloser, last_words, Ar
 use crate::combining::state_in;
 use crate::fresh::Fresh;
 use crate::joined::Joined;
-use crate::lists::{List, Place, Records};
+use crate::lists::{List, Records, Seat};
 use pub_rule::{EnterCloser, GiveSlot, MergeClient, Served, head_word, state_word};
 
 /// A list that is closed: no thread shares it any more. It is the project's own.
 #[derive(Drop)]
 pub struct Closing<S: Served> {
     pub(crate) table: Records<S>,
-    pub(crate) closer: Place<S>,
+    pub(crate) closer: Seat<S>,
     pub(crate) clients: u32,
     ghost own: { IsCloser table.shared.table_id table.shared.key.0 clients closer },
 }
@@ -71,7 +71,7 @@ impl<S: Served> Closing<S> {
     }
 
     // Takes in the seat of a client, whose slot is at home.
-    fn merge(&mut self, seat: Place<S>)
+    fn merge(&mut self, seat: Seat<S>)
         requires list { seat.table_id ≡ self.old.table.shared.table_id }
         requires home { IsAtHome (work seat).stage × (seat.me.1 ≡ []) }
         requires unheld { (work seat).holds ≡ false }

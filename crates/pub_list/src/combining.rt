@@ -23,7 +23,7 @@ ghost use Rattle.pub_list.specs.Combining.{
 
 use crate::asking::Answer;
 use crate::joined::Joined;
-use crate::lists::{List, Record, let_go};
+use crate::lists::{List, Record, drop_empty};
 use crate::records::WordState;
 use pub_rule::{
     ANSWERED, AnswerCall, PARKED, POSTED, ParkCall, PeekAt, PeekLock, RefuseCall, ReleaseState,
@@ -37,7 +37,7 @@ pub enum Took<C> {
     FromPosted(C),
     /// It was parked, and its client is owed a reply. This is the project's own.
     FromParked,
-    /// Its word was another one.
+    /// It was not taken: its word was another one.
     Not,
 }
 
@@ -192,16 +192,16 @@ impl<S: Served> Joined<S> {
         ensures state { result ≡ state }
     {
         let table = &list.table.shared;
-        let_go::<S>(table.exchange(&mut self.seat, client as usize, Slot::Reply(reply)));
-        let said = Slot::State(state);
+        drop_empty::<S>(table.exchange(&mut self.seat, client as usize, Slot::Reply(reply)));
+        let announced = Slot::State(state);
         table.compare_exchange_with::<AnswerCall>(
             &mut self.seat,
             state_word(client),
             TAKEN,
             ANSWERED,
-            &said,
+            &announced,
         );
-        state_in(said)
+        state_in(announced)
     }
 
     fn refuse(&mut self, list: &List<S>, client: u32)
@@ -211,7 +211,7 @@ impl<S: Served> Joined<S> {
         ensures refused { view self.new ≡ with_work (refusing client (work self.old)) (view self.old) }
     {
         let table = &list.table.shared;
-        let_go::<S>(table.exchange(&mut self.seat, client as usize, Slot::Memory));
+        drop_empty::<S>(table.exchange(&mut self.seat, client as usize, Slot::Memory));
         table.store::<RefuseCall>(&mut self.seat, state_word(client), ANSWERED);
     }
 
@@ -225,17 +225,15 @@ impl<S: Served> Joined<S> {
         ensures parked { IsParked S.history client (view self.old) (view self.new) state }
         ensures state { result ≡ state }
     {
-        let said = Slot::State(state);
-        list.table
-            .shared
-            .compare_exchange_with::<ParkCall>(
-                &mut self.seat,
-                state_word(client),
-                TAKEN,
-                PARKED,
-                &said,
-            );
-        state_in(said)
+        let announced = Slot::State(state);
+        list.table.shared.compare_exchange_with::<ParkCall>(
+            &mut self.seat,
+            state_word(client),
+            TAKEN,
+            PARKED,
+            &announced,
+        );
+        state_in(announced)
     }
 
     /// Gives the state back to the list (flat combining: Hendler, Incze, Shavit, Tzafrir 2010). The caller
@@ -249,17 +247,17 @@ impl<S: Served> Joined<S> {
         ensures released { IsReleased (view self.old) (view self.new) }
     {
         let table = &list.table.shared;
-        let_go::<S>(table.exchange(&mut self.seat, list.clients as usize, Slot::State(state)));
+        drop_empty::<S>(table.exchange(&mut self.seat, list.clients as usize, Slot::State(state)));
         table.store::<ReleaseState>(&mut self.seat, lock_word(), 0);
     }
 }
 
 // The state that was announced.
-pub(crate) fn state_in<S: Served>(said: Record<S>) -> S
-    requires { (x : S) × (said ≡ slots.State x) }
-    ensures { said ≡ slots.State result }
+pub(crate) fn state_in<S: Served>(announced: Record<S>) -> S
+    requires { (x : S) × (announced ≡ slots.State x) }
+    ensures { announced ≡ slots.State result }
 {
-    match said {
+    match announced {
         Slot::State(state) => state,
         _ => unreachable!(),
     }

@@ -2,14 +2,14 @@
 ghost use Rattle.std.specs.Prelude.{◌≡◌};
 ghost use Rattle.pub_list.specs.Fresh.{IsFresh};
 
-use crate::lists::Place;
+use crate::lists::Seat;
 use pub_rule::Served;
 
 /// A client that hasn't joined the list: its publication record (flat combining: Hendler, Incze, Shavit,
 /// Tzafrir 2010) stands on no list.
 #[derive(Drop)]
 pub struct Fresh<S: Served> {
-    pub(crate) seat: Place<S>,
+    pub(crate) seat: Seat<S>,
     pub(crate) client: u32,
     ghost own: { IsFresh client seat },
 }

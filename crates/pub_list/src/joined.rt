@@ -2,14 +2,14 @@
 ghost use Rattle.std.specs.Prelude.{◌≡◌};
 ghost use Rattle.pub_list.specs.Joined.{IsJoined};
 
-use crate::lists::Place;
+use crate::lists::Seat;
 use pub_rule::Served;
 
 /// A client that has joined the list: its publication record (flat combining: Hendler, Incze, Shavit, Tzafrir
 /// 2010) stands on it. It can walk the records of those that have joined.
 #[derive(Drop)]
 pub struct Joined<S: Served> {
-    pub(crate) seat: Place<S>,
+    pub(crate) seat: Seat<S>,
     pub(crate) client: u32,
     ghost own: { IsJoined client seat },
 }

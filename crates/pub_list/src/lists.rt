@@ -3,7 +3,7 @@ ghost use Rattle.std.specs.Prelude.{◌≡◌, ◌≤◌};
 ghost use Rattle.pub_rule.specs.declared.served.Slot.TheVariants as slots;
 ghost use Rattle.pub_list.specs.Lists.{IsSized};
 
-use atomic_table::{Seat, Table};
+use atomic_table::Table;
 use pub_rule::{Combining, Listed, Served, Slot, View, Work};
 use std::alloc::Global;
 use std::snapshot::Snapshot;
@@ -22,7 +22,7 @@ pub(crate) type Records<S> = Table<
     Global,
 >;
 
-pub(crate) type Place<S> = Seat<Record<S>, Knowledge<S>>;
+pub(crate) type Seat<S> = atomic_table::Seat<Record<S>, Knowledge<S>>;
 
 /// A publication list (flat combining: Hendler, Incze, Shavit, Tzafrir 2010) that serves the state `S`: a
 /// record for each client, the records that joined in a list, and the state. Threads share it by reference.
@@ -42,8 +42,8 @@ impl<S: Served> List<S> {
     }
 }
 
-// Lets go of what an empty slot had. That it is known to be empty spares its reading.
-pub(crate) fn let_go<S: Served>(before: Record<S>)
+// Drops what an empty slot had, which is nothing. That it is known to be empty spares its reading.
+pub(crate) fn drop_empty<S: Served>(before: Record<S>)
     requires { before ≡ slots.Empty }
 {
     match before {

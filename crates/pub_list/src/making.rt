@@ -7,7 +7,7 @@ ghost use Rattle.pub_list.specs.Lists.{IsSized, IsMaker};
 ghost use Rattle.pub_list.specs.Opening.{opening_of};
 
 use crate::fresh::Fresh;
-use crate::lists::{List, Place, Records};
+use crate::lists::{List, Records, Seat};
 use atomic_table::Table;
 use pub_rule::{Served, Slot, SplitClient, word_count};
 use std::alloc::{AllocError, Global};
@@ -64,7 +64,7 @@ fn empty_slots<S: Served>(
 fn make_clients<S: Served>(
     alloc: Global,
     table: &Records<S>,
-    mut first: Place<S>,
+    mut first: Seat<S>,
     clients: u32,
 ) -> Result<Vec<Fresh<S>>, AllocError>
     requires table { IsSized table.now.shared.table_id table.now.shared.key.0 clients }

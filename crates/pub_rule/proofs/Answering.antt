@@ -4,7 +4,8 @@ use mathlib.Core.Logic.{dite}
 use native.Mathlib.Decide.{dec_le}
 use mathlib.Core.Option.{Option, some}
 use lib.ListN.{get_elem?}
-use Rattle.atomic_table.specs.Table.{State, step, gives, Allows, rest}
+use Rattle.atomic_table.specs.Table.{State, gives, Allows, rest}
+use Rattle.pub_rule.specs.declared.served.Served.{Ghosts}
 use Rattle.pub_rule.specs.declared.work.Work.{Work}
 use Rattle.pub_rule.specs.declared.work.Stage.{Stage}
 use Rattle.pub_rule.specs.declared.work.Stage.TheVariants as stages
@@ -12,7 +13,6 @@ use Rattle.pub_rule.specs.declared.work.Serving.{Serving}
 use Rattle.pub_rule.specs.declared.work.Serving.TheVariants.{Nothing, Posted}
 use Rattle.pub_rule.specs.declared.served.Slot.{Slot}
 use Rattle.pub_rule.specs.declared.served.Slot.TheVariants as slots
-use Rattle.pub_rule.specs.Served.{AddsCall, AddsNoOther, AddsAtMostOneReply, HasNoMoreReplies}
 use Rattle.pub_rule.specs.Words.{state_word}
 use Rattle.pub_rule.specs.Lists.{IsOn}
 use Rattle.pub_rule.specs.Work.{Phase, away, free, posted, taken, parked, resumed, refused, replied, Client, Desk, IsTaken, IsTakenIn, IsDealt, IsInPhase, IsInStage, IsClient, HasReplies, IsSettled, IsMarked, WasParked, word_of, home_of, calls_of, Serves}
@@ -49,8 +49,9 @@ in_stage {C} R c y (stages.Free q) h = absurd (subst (λ (p : Phase C R). IsDeal
 in_stage R c y (stages.Asking q k) h = h
 in_stage R c y (stages.Token q) h = tt
 
-module _ {E C R S : Type 0} (history : S → List E) (legal : List E → Type 0) (own : List E → ℕ → List C) (replies : List E → ℕ → List R) (n : ℕ) (client : E → ℕ) (call : E → C)
-    (own_call : AddsCall legal own client call) (own_other : AddsNoOther legal own client) (one_more : AddsAtMostOneReply legal replies) (no_more : HasNoMoreReplies legal own replies) where
+module _ {E C R S : Type 0} (served : Ghosts S E C R) (n : ℕ) where
+  open served use {history, legal, own, replies, client, call, own_call, own_other, one_more, no_more}
+
   -- a client with as many replies as calls gets no further one
   even_still : (h : List E) (e : E) (i : ℕ) (calls : List C) (got : List R) → legal h → legal (h ++ e ∷ []) → i ≢ client e → own h i ≡ calls → replies h i ≡ got → length calls ≡ length got → replies (h ++ e ∷ []) i ≡ got
   even_still h e i calls got was law other o g even = ⊎_elim (λ same. same ∙ g)
@@ -58,8 +59,8 @@ module _ {E C R S : Type 0} (history : S → List E) (legal : List E → Type 0)
 
   -- another client, after an event
   other_phase : (d : Desk E C) (r : ℕ) (c : C) (e : E) (i : ℕ) (t : Client E C R) (p : Phase C R) (paid : List ℕ) → d.serving ≡ Posted r c → legal d.hist → legal (d.hist ++ e ∷ []) → client e ≡ r → i ≢ r → ¬ IsOn i paid → (replies d.hist i ≡ replies d.before i) ⊎ IsOn i d.paid
-      → own d.hist i ≡ calls_of t.entered p → length t.entered ≡ length t.got → HasReplies own replies d i t.got p → IsTakenIn i d.serving p
-      → HasReplies own replies (record { hist = d.hist ++ e ∷ []; before = d.hist; paid = paid; serving = Nothing }) i t.got p × IsSettled own replies (record { hist = d.hist ++ e ∷ []; before = d.hist; paid = paid; serving = Nothing }) i p × IsTakenIn i Nothing p
+      → own d.hist i ≡ calls_of t.entered p → length t.entered ≡ length t.got → HasReplies served d i t.got p → IsTakenIn i d.serving p
+      → HasReplies served (record { hist = d.hist ++ e ∷ []; before = d.hist; paid = paid; serving = Nothing }) i t.got p × IsSettled served (record { hist = d.hist ++ e ∷ []; before = d.hist; paid = paid; serving = Nothing }) i p × IsTakenIn i Nothing p
   other_phase d r c e i t away paid s was law is other off owed o even h k = let z = even_still d.hist e i t.entered t.got was law (λ z. other (z ∙ is)) o h even in (z, inl (z ∙ sym h), λ f. f)
   other_phase d r c e i t free paid s was law is other off owed o even h k = let z = even_still d.hist e i t.entered t.got was law (λ z. other (z ∙ is)) o h even in (z, inl (z ∙ sym h), λ f. f)
   other_phase d r c e i t (posted a) paid s was law is other off owed o even h k = let z = even_still d.hist e i t.entered t.got was law (λ z. other (z ∙ is)) o h even in (z, inl (z ∙ sym h), λ f. f)
@@ -76,7 +77,7 @@ module _ {E C R S : Type 0} (history : S → List E) (legal : List E → Type 0)
   append_all [] b c = refl
   append_all (x ∷ a) b c = ap (λ (l : List E). x ∷ l) (append_all a b c)
 
-  parked_still : (h more : List E) (i : ℕ) (t : Client E C R) (p : Phase C R) → WasParked own replies h i t p → WasParked own replies (h ++ more) i t p
+  parked_still : (h more : List E) (i : ℕ) (t : Client E C R) (p : Phase C R) → WasParked served h i t p → WasParked served (h ++ more) i t p
   parked_still h more i t away w = w
   parked_still h more i t free w = w
   parked_still h more i t (posted c) w = w
@@ -90,43 +91,43 @@ module _ {E C R S : Type 0} (history : S → List E) (legal : List E → Type 0)
   same_calls h e i t was law other o = own_other h e i was law other ∙ o
 
   abbrev Half : State (Slot C R S) (Work E C R) → Type 0
-  Half = Served n (Serves history legal own replies n)
+  Half = Served n (Serves served n)
 
   -- the event of client q's call: its record becomes t, and whoever is in `paid` is handed what the event brings
-  pub event_step : (words : List ℕ) (homes : List (Option (Slot C R S))) (works : List (Work E C R)) (s : Serves history legal own replies n words homes works) (id p q x : ℕ) (y : Option (Slot C R S)) (v : Work E C R) (c : C) (e : E) (paid : List ℕ) (t : Client E C R)
-      → get_elem? works id ≡ some v → IsClient p v.stage → v.holds ≡ true → v.serving ≡ Posted q c → client e ≡ q → legal (s.desk.hist ++ e ∷ []) → ((i : ℕ) → i < n → (replies v.seen i ≡ replies v.before i) ⊎ IsOn i v.paid)
-      → Stays (s.truth q) t → x ≡ word_of t.phase → y ≡ home_of t.phase → IsInPhase own replies (record { hist = s.desk.hist ++ e ∷ []; before = s.desk.hist; paid = paid; serving = Nothing }) q t → IsDealt t.phase → ((i : ℕ) → i ≢ q → ¬ IsOn i paid)
-      → (w : Work E C R) → w ≡ dealt q (record v { seen = s.desk.hist ++ e ∷ []; before = s.desk.hist; paid = paid; serving = Nothing }) → Serves history legal own replies n (set words (state_word q) x) (set homes q y) (set works id w)
-  event_step words homes works r id p q x y v c e paid t at was holds posts whose law owes stay number slot phase deal off w is = let k = r.each_seat id v at in let b = k.combines holds in let d : Desk E C = r.desk in
-      let serving : d.serving ≡ Posted q c = sym b.serving ∙ posts in let inside : q < n = r.taken_below q (subst (IsTaken q) (sym serving) refl) in let rec = (r.each_client q inside).phase in
-      let f : (r.truth q).phase ≡ taken c = phase_taken q c (r.truth q).phase d.serving serving rec.taken_is in
-      let small : q < r.made = (dite (dec_le r.made q) (λ u. absurd (subst (λ (z : Phase C R). IsDealt z → ⊥) (sym f ∙ has_seat history legal own replies n words homes works r q u) (λ z. z) tt)) (λ u. lt_of_not-le u)) in
+  pub event_step : (words : List ℕ) (homes : List (Option (Slot C R S))) (works : List (Work E C R)) (s : Serves served n words homes works) (id p q x : ℕ) (y : Option (Slot C R S)) (v : Work E C R) (c : C) (e : E) (paid : List ℕ) (t : Client E C R)
+      → get_elem? works id ≡ some v → IsClient p v.stage → v.holds ≡ true → v.serving ≡ Posted q c → client e ≡ q → legal (s.world.desk.hist ++ e ∷ []) → ((i : ℕ) → i < n → (replies v.seen i ≡ replies v.before i) ⊎ IsOn i v.paid)
+      → Stays (s.world.truth q) t → x ≡ word_of t.phase → y ≡ home_of t.phase → IsInPhase served (record { hist = s.world.desk.hist ++ e ∷ []; before = s.world.desk.hist; paid = paid; serving = Nothing }) q t → IsDealt t.phase → ((i : ℕ) → i ≢ q → ¬ IsOn i paid)
+      → (w : Work E C R) → w ≡ dealt q (record v { seen = s.world.desk.hist ++ e ∷ []; before = s.world.desk.hist; paid = paid; serving = Nothing }) → Serves served n (set words (state_word q) x) (set homes q y) (set works id w)
+  event_step words homes works r id p q x y v c e paid t at was holds posts whose law owes stay number slot phase deal off w is = let k = r.each_seat id v at in let b = k.combines holds in let d : Desk E C = r.world.desk in
+      let serving : d.serving ≡ Posted q c = sym b.serving ∙ posts in let inside : q < n = r.sound.taken_below q (subst (IsTaken q) (sym serving) refl) in let rec = (r.stored.each_client q inside).phase in
+      let f : (r.world.truth q).phase ≡ taken c = phase_taken q c (r.world.truth q).phase d.serving serving rec.taken_is in
+      let small : q < r.world.made = (dite (dec_le r.world.made q) (λ u. absurd (subst (λ (z : Phase C R). IsDealt z → ⊥) (sym f ∙ has_seat served n words homes works r q u) (λ z. z) tt)) (λ u. lt_of_not-le u)) in
       let desk' : Desk E C = record { hist = d.hist ++ e ∷ []; before = d.hist; paid = paid; serving = Nothing } in
       let owed : (i : ℕ) → i < n → (replies d.hist i ≡ replies d.before i) ⊎ IsOn i d.paid = λ i l. ⊎_elim (λ g. inl (ap (λ (z : List E). replies z i) (sym b.seen) ∙ (g ∙ ap (λ (z : List E). replies z i) b.before))) (λ on. inr (subst (IsOn i) b.paid on)) (owes i l) in
-      subst (λ (z : Work E C R). Serves history legal own replies n (set words (state_word q) x) (set homes q y) (set works id z)) (sym is)
-      (holder_step history legal own replies n words homes works r id p q x y v t desk' (marks_of q v.heard ++ v.passed) (if is_own q v.stage then true else v.past) at was holds small stay number slot phase
-      (λ i l other g. let z = other_phase d q c e i (r.truth i) (r.truth i).phase paid serving r.is_legal law whose other (off i other) (owed i l) g.calls g.even g.replies_are g.taken_is in record {
-        calls = same_calls d.hist e i (r.truth i) r.is_legal law (λ u. other (u ∙ whose)) g.calls;
+      subst (λ (z : Work E C R). Serves served n (set words (state_word q) x) (set homes q y) (set works id z)) (sym is)
+      (holder_step served n words homes works r id p q x y v t desk' (marks_of q v.heard ++ v.passed) (if is_own q v.stage then true else v.past) at was holds small stay number slot phase
+      (λ i l other g. let z = other_phase d q c e i (r.world.truth i) (r.world.truth i).phase paid serving r.sound.is_legal law whose other (off i other) (owed i l) g.calls g.even g.replies_are g.taken_is in record {
+        calls = same_calls d.hist e i (r.world.truth i) r.sound.is_legal law (λ u. other (u ∙ whose)) g.calls;
         even = g.even;
         replies_are = z.0;
         settled = z.1;
-        was_parked = parked_still d.hist (e ∷ []) i (r.truth i) (r.truth i).phase g.was_parked;
+        was_parked = parked_still d.hist (e ∷ []) i (r.world.truth i) (r.world.truth i).phase g.was_parked;
         taken_is = z.2;
       })
       (e ∷ [], refl) law (λ i z. absurd z) (λ a j m. ⊎_elim (λ (h : (a ≡ q) × IsMarked a j v.heard). inr (h.0, h.1, deal)) (λ h. inl h) (marks_are q a j v.heard v.passed m))
       (λ h. ⊎_elim (λ g. inl g) (λ g. inr (g, deal)) (past_is p q v.stage v.past was h)))
 
   -- the record that is taken, with its call, as the client has entered and got so far
-  pub taken_record : (words : List ℕ) (homes : List (Option (Slot C R S))) (works : List (Work E C R)) (s : Serves history legal own replies n words homes works) (id q : ℕ) (v : Work E C R) (c : C) → get_elem? works id ≡ some v → v.holds ≡ true → v.serving ≡ Posted q c
-      → ((s.truth q).phase ≡ taken c) × (q < n) × (v.seen ≡ s.desk.hist) × (own s.desk.hist q ≡ (s.truth q).entered) × (replies s.desk.hist q ≡ (s.truth q).got) × (length (s.truth q).entered ≡ length (s.truth q).got)
-  taken_record words homes works s id q v c at holds posts = let b = (s.each_seat id v at).combines holds in let o : Client E C R = s.truth q in let serving : s.desk.serving ≡ Posted q c = sym b.serving ∙ posts in
-      let inside : q < n = s.taken_below q (subst (IsTaken q) (sym serving) refl) in let rec = (s.each_client q inside).phase in let f : o.phase ≡ taken c = phase_taken q c o.phase s.desk.serving serving rec.taken_is in
-      let old : IsInPhase own replies s.desk q (record o { phase = taken c }) = subst (λ (z : Phase C R). IsInPhase own replies s.desk q (record o { phase = z })) f rec in (f, inside, b.seen, old.calls, old.replies_are, old.even)
+  pub taken_record : (words : List ℕ) (homes : List (Option (Slot C R S))) (works : List (Work E C R)) (s : Serves served n words homes works) (id q : ℕ) (v : Work E C R) (c : C) → get_elem? works id ≡ some v → v.holds ≡ true → v.serving ≡ Posted q c
+      → ((s.world.truth q).phase ≡ taken c) × (q < n) × (v.seen ≡ s.world.desk.hist) × (own s.world.desk.hist q ≡ (s.world.truth q).entered) × (replies s.world.desk.hist q ≡ (s.world.truth q).got) × (length (s.world.truth q).entered ≡ length (s.world.truth q).got)
+  taken_record words homes works s id q v c at holds posts = let b = (s.each_seat id v at).combines holds in let o : Client E C R = s.world.truth q in let serving : s.world.desk.serving ≡ Posted q c = sym b.serving ∙ posts in
+      let inside : q < n = s.sound.taken_below q (subst (IsTaken q) (sym serving) refl) in let rec = (s.stored.each_client q inside).phase in let f : o.phase ≡ taken c = phase_taken q c o.phase s.world.desk.serving serving rec.taken_is in
+      let old : IsInPhase served s.world.desk q (record o { phase = taken c }) = subst (λ (z : Phase C R). IsInPhase served s.world.desk q (record o { phase = z })) f rec in (f, inside, b.seen, old.calls, old.replies_are, old.even)
 
   answer_half : (size id p q : ℕ) (c : C) (e : E) (h : List E) (y : R) (v : Work E C R) (hands : List (ℕ × Slot C R S)) → IsClient p v.stage → v.holds ≡ true → v.serving ≡ Posted q c → client e ≡ q → call e ≡ c → h ≡ v.seen ++ e ∷ [] → legal h
       → replies h q ≡ replies v.seen q ++ y ∷ [] → ((i : ℕ) → i < n → (replies v.seen i ≡ replies v.before i) ⊎ IsOn i v.paid)
       → Allows Half size id (v, (q, slots.Reply y) ∷ hands) (state_word q) (λ _. 4) (λ _ m'. m' ≡ (entering q h v, hands))
-  answer_half size id p q c e h y v hands was holds posts whose what is law brings owes s r sz at _ = let o : Client E C R = r.truth q in let hist : List E = r.desk.hist in let g = taken_record s.words s.homes s.views r id q v c at holds posts in
+  answer_half size id p q c e h y v hands was holds posts whose what is law brings owes s r sz at _ = let o : Client E C R = r.world.truth q in let hist : List E = r.world.desk.hist in let g = taken_record s.words s.homes s.views r id q v c at holds posts in
       let now : h ≡ hist ++ e ∷ [] = is ∙ ap (λ (l : List E). l ++ e ∷ []) g.2 in (
         entering q h v,
         gives,
@@ -134,7 +135,7 @@ module _ {E C R S : Type 0} (history : S → List E) (legal : List E → Type 0)
         event_step s.words s.homes s.views r id p q 4 (some (slots.Reply y)) v c e (q ∷ []) (record o { phase = replied c y }) at was holds posts whose (subst legal now law) owes
             (subst (λ (z : Phase C R). Stays (record o { phase = z }) (record o { phase = replied c y })) (sym g.0) record { stage = in_stage R c y; entered = refl; got = refl; posts = refl; begun = refl; dealt = λ _. tt; ready = λ h. absurd (omega arith) }) refl refl
             record {
-              calls = subst (λ (z : ℕ). own (hist ++ e ∷ []) z ≡ own hist z ++ call e ∷ []) whose (own_call hist e r.is_legal (subst legal now law)) ∙ (λ i. g.3 i ++ what i ∷ []);
+              calls = subst (λ (z : ℕ). own (hist ++ e ∷ []) z ≡ own hist z ++ call e ∷ []) whose (own_call hist e r.sound.is_legal (subst legal now law)) ∙ (λ i. g.3 i ++ what i ∷ []);
               even = g.5;
               replies_are = ap (λ (z : List E). replies z q) (sym now) ∙ (brings ∙ ap (λ (z : List R). z ++ y ∷ []) (ap (λ (z : List E). replies z q) g.2 ∙ g.4));
               settled = inr (inl refl);
@@ -144,9 +145,9 @@ module _ {E C R S : Type 0} (history : S → List E) (legal : List E → Type 0)
         refl,
       )
 
-  pub answer : KeptByAnswer history legal own replies n client call
-  answer size id p q c e x y me was holds posts whose what is law brings owes hands = lift n (Serves history legal own replies n) size id (state_word q) (λ _. 4) me (λ _ m'. m' ≡ (entering q (history x) me.0.work, rest me.1))
-      (λ k m'. call_answered (step size (state_word q) 4 0 (some (slots.State x))) me k m' history) (λ u. state_from_head q (sym u)) (λ r u. state_from_next q r (sym u))
+  pub answer : KeptByAnswer served n
+  answer size id p q c e x y me took enters brings hands = lift n (Serves served n) size id (state_word q) (λ _. 4) me (λ _ m'. m' ≡ (entering q (history x) me.0.work, rest me.1))
+      (λ k m'. call_answered served me m' (state_word q) (some (slots.State x))) (λ u. state_from_head q (sym u)) (λ r u. state_from_next q r (sym u))
       (subst (λ (z : List (ℕ × Slot C R S)). Allows Half size id (me.0.work, z) (state_word q) (λ _. 4) (λ _ m'. m' ≡ (entering q (history x) me.0.work, rest me.1))) (sym hands)
-      (answer_half size id p q c e (history x) y me.0.work (rest me.1) was holds posts whose what is law brings owes))
-      (λ _ w h u. (q, x, refl, refl, ap (λ (z : Work E C R × List (ℕ × Slot C R S)). (with_work z.0 me.0, z.1)) u))
+      (answer_half size id p q c e (history x) y me.0.work (rest me.1) took.client took.holds took.serves enters.by enters.asks enters.one_more enters.is_legal brings enters.owes_nothing))
+      (λ _ w h u. record { state = x; it_said = refl; on = record { client = q; at = refl; left = ap (λ (z : Work E C R × List (ℕ × Slot C R S)). (with_work z.0 me.0, z.1)) u } })

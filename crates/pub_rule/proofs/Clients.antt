@@ -6,9 +6,14 @@ use Rattle.std.specs.List.{IsDistinct, list_any, AllByRecursion}
 use Rattle.std.proofs.lemmas.Map.Steps.{length-le_from_distinct_below}
 use mathlib.Core.Logic.{dite}
 use native.Mathlib.Decide.{ℕ_discrete}
-use Rattle.pub_rule.specs.Lists.{IsOn, Distinct, IsListOf, EndsWith, link_to, from, after}
+use Rattle.pub_rule.specs.Lists.{IsOn, Distinct, IsListOf, EndsWith, link_to, after}
 use Rattle.pub_rule.specs.Words.{next_word}
 use Rattle.pub_rule.specs.Walk.{Linked}
+
+-- the part of the list from client c on
+abbrev pub from : ℕ → List ℕ → List ℕ
+from c [] = []
+from c (x ∷ xs) = cond (eqb x c) (x ∷ xs) (from c xs)
 
 -- a test of two numbers, by cases
 pub by_equal : (F : Bool → Type 0) (x y : ℕ) → (x ≡ y → F true) → (x ≢ y → F false) → F (eqb x y)

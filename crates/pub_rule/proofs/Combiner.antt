@@ -6,8 +6,9 @@ use mathlib.Core.Logic.{dite}
 use native.Mathlib.Decide.{dec_le, ℕ_discrete}
 use mathlib.Core.Option.{none, some}
 use prog.Atomic.{either}
-use Rattle.atomic_table.specs.Table.{State, Me, step, Act, keeps, takes, Valid, stepped, carried_after}
+use Rattle.atomic_table.specs.Table.{State, Me, Act, keeps, takes, Valid, stepped, carried_after}
 use Rattle.atomic_table.proofs.Lists.{exchanged}
+use Rattle.pub_rule.specs.declared.served.Served.{Ghosts}
 use Rattle.pub_rule.specs.declared.walk.View.{View}
 use Rattle.pub_rule.specs.declared.work.Work.{Work}
 use Rattle.pub_rule.specs.declared.work.Stage.{Stage}
@@ -42,26 +43,26 @@ retaken r (refused c) d d' clear not h = not
 retaken r (replied c x) d d' clear not h = not
 
 -- whose replies are in the history doesn't hang on the record that is taken
-pub same_replies : {E C R : Type 0} (own : List E → ℕ → List C) (replies : List E → ℕ → List R) (d : Desk E C) (serving : Serving C) (r : ℕ) (got : List R) (p : Phase C R) → HasReplies own replies d r got p → HasReplies own replies (record d { serving = serving }) r got p
-same_replies own replies d serving r got away h = h
-same_replies own replies d serving r got free h = h
-same_replies own replies d serving r got (posted c) h = h
-same_replies own replies d serving r got (taken c) h = h
-same_replies own replies d serving r got (parked c) h = h
-same_replies own replies d serving r got (resumed c) h = h
-same_replies own replies d serving r got (refused c) h = h
-same_replies own replies d serving r got (replied c x) h = h
+pub same_replies : {S E C R : Type 0} (served : Ghosts S E C R) (d : Desk E C) (serving : Serving C) (r : ℕ) (got : List R) (p : Phase C R) → HasReplies served d r got p → HasReplies served (record d { serving = serving }) r got p
+same_replies served d serving r got away h = h
+same_replies served d serving r got free h = h
+same_replies served d serving r got (posted c) h = h
+same_replies served d serving r got (taken c) h = h
+same_replies served d serving r got (parked c) h = h
+same_replies served d serving r got (resumed c) h = h
+same_replies served d serving r got (refused c) h = h
+same_replies served d serving r got (replied c x) h = h
 
 -- nor whether it was handed out
-pub same_settled : {E C R : Type 0} (own : List E → ℕ → List C) (replies : List E → ℕ → List R) (d : Desk E C) (serving : Serving C) (r : ℕ) (p : Phase C R) → IsSettled own replies d r p → IsSettled own replies (record d { serving = serving }) r p
-same_settled own replies d serving r away h = h
-same_settled own replies d serving r free h = h
-same_settled own replies d serving r (posted c) h = h
-same_settled own replies d serving r (taken c) h = h
-same_settled own replies d serving r (parked c) h = h
-same_settled own replies d serving r (resumed c) h = h
-same_settled own replies d serving r (refused c) h = h
-same_settled own replies d serving r (replied c x) h = h
+pub same_settled : {S E C R : Type 0} (served : Ghosts S E C R) (d : Desk E C) (serving : Serving C) (r : ℕ) (p : Phase C R) → IsSettled served d r p → IsSettled served (record d { serving = serving }) r p
+same_settled served d serving r away h = h
+same_settled served d serving r free h = h
+same_settled served d serving r (posted c) h = h
+same_settled served d serving r (taken c) h = h
+same_settled served d serving r (parked c) h = h
+same_settled served d serving r (resumed c) h = h
+same_settled served d serving r (refused c) h = h
+same_settled served d serving r (replied c x) h = h
 
 -- a record that isn't taken, nor posted, is dealt with
 is_dealt : {C R : Type 0} (r : ℕ) (p : Phase C R) (d : Serving C) → is_nothing d → word_of p ≢ 1 → IsTakenIn r d p → IsDealt p
@@ -101,19 +102,21 @@ own_posted {C} R q c (stages.Free a) h i = absurd (subst (λ (p : Phase C R). Is
 own_posted R q c (stages.Asking a k) h i = λ j. stages.Asking (h j) (sym i j)
 own_posted R q c (stages.Token a) h i = absurd h
 
-module _ {E C R S : Type 0} (history : S → List E) (legal : List E → Type 0) (own : List E → ℕ → List C) (replies : List E → ℕ → List R) (n : ℕ) where
+module _ {E C R S : Type 0} (served : Ghosts S E C R) (n : ℕ) where
+  open served use {history, legal, own, replies}
+
   abbrev Half : State (Slot C R S) (Work E C R) → Type 0
-  Half = Served n (Serves history legal own replies n)
+  Half = Served n (Serves served n)
 
   as_many : (hist seen : List E) (q : ℕ) (entered : List C) (got : List R) → seen ≡ hist → own hist q ≡ entered → replies hist q ≡ got → length entered ≡ length got → length (own seen q) ≡ length (replies seen q)
   as_many hist seen q entered got same calls answers even = subst (λ (h : List E). length (own h q) ≡ length (replies h q)) (sym same) (ap length calls ∙ (even ∙ sym (ap length answers)))
 
   -- a record that isn't posted: a combiner has dealt with its client's last post
   passes_by : (s : State (Slot C R S) (Work E C R)) (r : Half s) (id q : ℕ) (v : Work E C R) → get_elem? s.views id ≡ some v → v.holds ≡ true → v.serving ≡ Nothing → q < n → get_or s.words (state_word q) 0 ≢ 1
-      → Serves history legal own replies n (set s.words (state_word q) (get_or s.words (state_word q) 0)) s.homes (set s.views id (dealt q v))
-  passes_by s r id q v at holds nothing inside miss = let k = r.each_seat id v at in let o : Client E C R = r.truth q in let rec = r.each_client q inside in let b = k.combines holds in
-      let deal : IsDealt o.phase = is_dealt q o.phase r.desk.serving (subst is_nothing (sym nothing ∙ b.serving) tt) (λ e. miss (rec.word ∙ e)) rec.phase.taken_is in
-      subst (λ (ws : List ℕ). Serves history legal own replies n ws s.homes (set s.views id (dealt q v))) (sym (set-get_or s.words (state_word q) 0)) (view_step history legal own replies n s.words s.homes s.views r id (dealt q v) record {
+      → Serves served n (set s.words (state_word q) (get_or s.words (state_word q) 0)) s.homes (set s.views id (dealt q v))
+  passes_by s r id q v at holds nothing inside miss = let k = r.each_seat id v at in let o : Client E C R = r.world.truth q in let rec = r.stored.each_client q inside in let b = k.combines holds in
+      let deal : IsDealt o.phase = is_dealt q o.phase r.world.desk.serving (subst is_nothing (sym nothing ∙ b.serving) tt) (λ e. miss (rec.word ∙ e)) rec.phase.taken_is in
+      subst (λ (ws : List ℕ). Serves served n ws s.homes (set s.views id (dealt q v))) (sym (set-get_or s.words (state_word q) 0)) (view_step served n s.words s.homes s.views r id (dealt q v) record {
         maker = k.maker;
         client = λ i is. let d = k.client i is in record {
           made_it = d.made_it;
@@ -124,7 +127,7 @@ module _ {E C R S : Type 0} (history : S → List E) (legal : List E → Type 0)
           got = d.got;
           posts = d.posts;
           begun = d.begun;
-          past = λ h. ⊎_elim d.past (λ (e : i ≡ q). subst (λ (z : ℕ). IsDealt (r.truth z).phase) (sym e) deal) (past_is i q v.stage v.past is h);
+          past = λ h. ⊎_elim d.past (λ (e : i ≡ q). subst (λ (z : ℕ). IsDealt (r.world.truth z).phase) (sym e) deal) (past_is i q v.stage v.past is h);
           found = d.found;
           holds = d.holds;
           waits = d.waits;
@@ -135,57 +138,60 @@ module _ {E C R S : Type 0} (history : S → List E) (legal : List E → Type 0)
         was_told = k.was_told;
         met = k.met;
         heard = k.heard;
-        passed = λ i j m. ⊎_elim (λ (h : (i ≡ q) × IsMarked i j v.heard). let g = k.heard i j h.1 in (g.0, g.1, λ _. subst (λ (z : ℕ). IsDealt (r.truth z).phase) (sym h.0) deal)) (k.passed i j) (marks_are q i j v.heard v.passed m);
+        passed = λ i j m. ⊎_elim (λ (h : (i ≡ q) × IsMarked i j v.heard). let g = k.heard i j h.1 in (g.0, g.1, λ _. subst (λ (z : ℕ). IsDealt (r.world.truth z).phase) (sym h.0) deal)) (k.passed i j) (marks_are q i j v.heard v.passed m);
       })
 
-  pub take : KeptByTake history legal own replies n
-  take size id p q me was holds nothing inside = let v : Work E C R = me.0.work in let then : ℕ → Me (Slot C R S) (View (Work E C R)) → Type 0 = λ k m'. call_taken (step size (state_word q) 1 2 none) me k m' own replies in
+  pub take : KeptByTake served n
+  take size id p q me ready inside = let v : Work E C R = me.0.work in let then : ℕ → Me (Slot C R S) (View (Work E C R)) → Type 0 = λ k m'. call_taken served me m' (state_word q) k in
       let half : ℕ → Me (Slot C R S) (Work E C R) → Type 0 = λ k m'. then k (with_work m'.0 me.0, m'.1) in
-      lift n (Serves history legal own replies n) size id (state_word q) (λ k. either (eqb k 1) 2 k) me half then (λ e. state_from_head q (sym e)) (λ r e. state_from_next q r (sym e))
+      lift n (Serves served n) size id (state_word q) (λ k. either (eqb k 1) 2 k) me half then (λ e. state_from_head q (sym e)) (λ r e. state_from_next q r (sym e))
       (λ s r sz at _. let found : ℕ = get_or s.words (state_word q) 0 in
-      let k = r.each_seat id v at in let o : Client E C R = r.truth q in let b = k.combines holds in let rec = r.each_client q inside in
+      let k = r.each_seat id v at in let o : Client E C R = r.world.truth q in let b = k.combines ready.holds in let rec = r.stored.each_client q inside in
       let F : ℕ → Type 0 = λ x. (w : Work E C R) × (a : Act (Slot C R S)) × Valid s.homes me.1 a × Half (stepped s (state_word q) x id me.1 w a) × half found (w, carried_after me.1 a) in
-      let unserved : is_nothing r.desk.serving = subst is_nothing (sym nothing ∙ b.serving) tt in
+      let unserved : is_nothing r.world.desk.serving = subst is_nothing (sym ready.serves ∙ b.serving) tt in
       exchanged found 1 2 F
       (λ hit. let y = one o.phase (sym rec.word ∙ hit) in let c : C = y.0 in let e : o.phase ≡ posted c = y.1 in
-      let old : IsInPhase own replies r.desk q (record o { phase = posted c }) = subst (λ (z : Phase C R). IsInPhase own replies r.desk q (record o { phase = z })) e rec.phase in
-      let small : q < r.made = (dite (dec_le r.made q) (λ h. absurd (subst (λ (z : Phase C R). IsDealt z → ⊥) (sym e ∙ has_seat history legal own replies n s.words s.homes s.views r q h) (λ f. f) tt)) (λ h. lt_of_not-le h)) in
-      let desk' : Desk E C = record r.desk { serving = Posted q c } in
-      let even_now : length (own v.seen q) ≡ length (replies v.seen q) = as_many (r.desk.hist) v.seen q o.entered o.got b.seen old.calls old.replies_are old.even in (
+      let old : IsInPhase served r.world.desk q (record o { phase = posted c }) = subst (λ (z : Phase C R). IsInPhase served r.world.desk q (record o { phase = z })) e rec.phase in
+      let small : q < r.world.made = (dite (dec_le r.world.made q) (λ h. absurd (subst (λ (z : Phase C R). IsDealt z → ⊥) (sym e ∙ has_seat served n s.words s.homes s.views r q h) (λ f. f) tt)) (λ h. lt_of_not-le h)) in
+      let desk' : Desk E C = record r.world.desk { serving = Posted q c } in
+      let even_now : length (own v.seen q) ≡ length (replies v.seen q) = as_many (r.world.desk.hist) v.seen q o.entered o.got b.seen old.calls old.replies_are old.even in (
         taking q c v,
         takes q (slots.Call c),
         rec.home ∙ ap (λ (z : Phase C R). some (home_of z)) e,
-        subst (λ (w : Work E C R). Serves history legal own replies n (set s.words (state_word q) 2) (set s.homes q none) (set s.views id w)) (λ i. record v { seen = sym b.seen i; before = sym b.before i; paid = sym b.paid i; serving = Posted q c })
-            (holder_step history legal own replies n s.words s.homes s.views r id p q 2 none v (record o { phase = taken c }) desk' v.passed v.past at was holds small
+        subst (λ (w : Work E C R). Serves served n (set s.words (state_word q) 2) (set s.homes q none) (set s.views id w)) (λ i. record v { seen = sym b.seen i; before = sym b.before i; paid = sym b.paid i; serving = Posted q c })
+            (holder_step served n s.words s.homes s.views r id p q 2 none v (record o { phase = taken c }) desk' v.passed v.past at ready.client ready.holds small
             (subst (λ (z : Phase C R). Stays (record o { phase = z }) (record o { phase = taken c })) (sym e)
             record { stage = taken_from R c; entered = refl; got = refl; posts = refl; begun = refl; dealt = λ h. h; ready = λ h. absurd (omega arith) })
             refl refl record { calls = old.calls; even = old.even; replies_are = old.replies_are; settled = old.settled; was_parked = tt; taken_is = refl }
-            (λ i _ other h. record { calls = h.calls; even = h.even; replies_are = same_replies own replies r.desk (Posted q c) i (r.truth i).got (r.truth i).phase h.replies_are; settled = same_settled own replies r.desk (Posted q c) i (r.truth i).phase h.settled; was_parked = h.was_parked; taken_is = retaken i (r.truth i).phase r.desk.serving (Posted q c) unserved other h.taken_is })
-            (all_of r.desk.hist) r.is_legal (λ i h. subst (λ (z : ℕ). z < n) (sym h) inside) (λ _ _ m. inl m) (λ h. inl h)),
-        ((λ _. (q, c, refl, even_now, (λ is. own_posted R q c v.stage is (subst (λ (z : Phase C R). IsInStage v.stage z) e (k.client q is).stage)), refl)), λ other. absurd (other hit)),
+            (λ i _ other h. record { calls = h.calls; even = h.even; replies_are = same_replies served r.world.desk (Posted q c) i (r.world.truth i).got (r.world.truth i).phase h.replies_are; settled = same_settled served r.world.desk (Posted q c) i (r.world.truth i).phase h.settled; was_parked = h.was_parked; taken_is = retaken i (r.world.truth i).phase r.world.desk.serving (Posted q c) unserved other h.taken_is })
+            (all_of r.world.desk.hist) r.sound.is_legal (λ i h. subst (λ (z : ℕ). z < n) (sym h) inside) (λ _ _ m. inl m) (λ h. inl h)),
+        record {
+          hit = λ _. record { client = q; call = c; at = refl; even = even_now; mine = λ is. own_posted R q c v.stage is (subst (λ (z : Phase C R). IsInStage v.stage z) e (k.client q is).stage); left = refl };
+          miss = λ other. absurd (other hit);
+        },
       ))
       (λ miss. (
         dealt q v,
         keeps,
         tt,
-        passes_by s r id q v at holds nothing inside miss,
-        ((λ hit. absurd (miss hit)), λ _. (q, refl, refl)),
+        passes_by s r id q v at ready.holds ready.serves inside miss,
+        record { hit = λ hit. absurd (miss hit); miss = λ _. record { client = q; at = refl; left = refl } },
       )))
       (λ _ _ _ h. h)
 
-  pub peek : KeptByPeek history legal own replies n
-  peek size id p q me was holds nothing inside = let v : Work E C R = me.0.work in let then : ℕ → Me (Slot C R S) (View (Work E C R)) → Type 0 = λ k m'. record_peeked (step size (state_word q) 0 0 none) me k m' in
+  pub peek : KeptByPeek served n
+  peek size id p q me ready inside = let v : Work E C R = me.0.work in let then : ℕ → Me (Slot C R S) (View (Work E C R)) → Type 0 = λ k m'. record_peeked me m' (state_word q) k in
       let half : ℕ → Me (Slot C R S) (Work E C R) → Type 0 = λ k m'. then k (with_work m'.0 me.0, m'.1) in
-      lift n (Serves history legal own replies n) size id (state_word q) (λ k. k) me half then (λ e. state_from_head q (sym e)) (λ r e. state_from_next q r (sym e))
+      lift n (Serves served n) size id (state_word q) (λ k. k) me half then (λ e. state_from_head q (sym e)) (λ r e. state_from_next q r (sym e))
       (λ s r sz at _. let found : ℕ = get_or s.words (state_word q) 0 in
       let F : ℕ → Type 0 = λ x. (w : Work E C R) × (a : Act (Slot C R S)) × Valid s.homes me.1 a × Half (stepped s (state_word q) x id me.1 w a) × half found (w, carried_after me.1 a) in
       let answer : F found = dite (ℕ_discrete found 1)
-      (λ hit. (v, keeps, tt, idle history legal own replies n s (state_word q) id v at r, ((λ _. refl), λ other. absurd (other hit))))
+      (λ hit. (v, keeps, tt, idle served n s (state_word q) id v at r, record { hit = λ _. refl; miss = λ other. absurd (other hit) }))
       (λ miss. (
         dealt q v,
         keeps,
         tt,
-        passes_by s r id q v at holds nothing inside miss,
-        ((λ hit. absurd (miss hit)), λ _. (q, refl, refl)),
+        passes_by s r id q v at ready.holds ready.serves inside miss,
+        record { hit = λ hit. absurd (miss hit); miss = λ _. record { client = q; at = refl; left = refl } },
       )) in answer)
       (λ _ _ _ h. h)

@@ -15,18 +15,16 @@ use Rattle.pub_rule.proofs.Clients.{linked_still}
 
 walks_deaf : (n : ℕ) (words : List ℕ) (views : List Walk) (i x : ℕ) → head_word ≢ i → ((r : ℕ) → next_word r ≢ i) → Walks n words views → Walks n (set words i x) views
 walks_deaf n words views i x head next r = let else : (q : ℕ) → get_or (set words i x) (next_word q) 0 ≡ get_or words (next_word q) 0 = λ q. get_or-set_other words i (next_word q) x 0 (next q) in record {
-  list = r.list;
-  made = r.made;
-  seat = r.seat;
+  roll = r.roll;
   wide = length-set words i x ∙ r.wide;
   few = r.few;
   head = get_or-set_other words i head_word x 0 head ∙ r.head;
-  linked = linked_still r.made r.made words (set words i x) r.list (omega arith) (λ q _. else q) r.linked;
+  linked = linked_still r.roll.made r.roll.made words (set words i x) r.roll.list (omega arith) (λ q _. else q) r.linked;
   distinct = r.distinct;
   unmade = λ q a b. else q ∙ r.unmade q a b;
   each_client = r.each_client;
   each_seat = λ j u e. let k = r.each_seat j u e in record {
-    role = role_still r.made r.seat words (set words i x) j u.stored u.role (λ q _. else q) k.role;
+    role = role_still r.roll r.roll.list words (set words i x) j u.stored u.role (λ q _. else q) k.role;
     loaded = k.loaded;
     tried = k.tried;
     told = k.told;

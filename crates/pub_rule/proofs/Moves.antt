@@ -4,6 +4,8 @@ use mathlib.Core.Option.{Option, some}
 use native.Mathlib.Decide.{ℕ_discrete}
 use lib.ListN.{get_elem?}
 use Rattle.atomic_table.proofs.Lists.{at_set, set_here, set_else}
+use Rattle.pub_rule.specs.declared.served.Served.{Ghosts}
+use Rattle.pub_rule.specs.declared.work.Mark.{Mark}
 use Rattle.pub_rule.specs.declared.work.Work.{Work}
 use Rattle.pub_rule.specs.declared.work.Closed.{Closed}
 use Rattle.pub_rule.specs.declared.work.Stage.{Stage}
@@ -11,7 +13,7 @@ use Rattle.pub_rule.specs.declared.work.Stage.TheVariants.{Spent, Maker, Away, F
 use Rattle.pub_rule.specs.declared.served.Slot.{Slot}
 use Rattle.pub_rule.specs.Words.{lock_word, state_word, word_count}
 use Rattle.pub_rule.specs.Lists.{IsOn}
-use Rattle.pub_rule.specs.Work.{GoesOn, IsMarked, away, Client, Desk, IsTaken, word_of, home_of, IsDealt, IsInPhase, HasRecord, IsUnheld, IsHeld, IsInStage, IsClient, Tells, Combines, IsNobodys, Trusts, Serves}
+use Rattle.pub_rule.specs.Work.{GoesOn, IsMarked, away, unmade, Client, Desk, World, IsTaken, word_of, home_of, IsDealt, IsInPhase, HasRecord, IsUnheld, IsHeld, IsInStage, IsClient, Tells, Combines, IsNobodys, Trusts, Serves}
 use Rattle.pub_rule.proofs.Numbers.{state_within, state_from_state, state_from_lock}
 
 module _ {A : Type 0} where
@@ -57,41 +59,47 @@ module _ {E C R : Type 0} where
   pub stays_itself : (o : Client E C R) → Stays o o
   stays_itself o = record { stage = λ _ h. h; entered = refl; got = refl; posts = refl; begun = refl; dealt = λ h. h; ready = λ h. h }
 
-module _ {E C R S : Type 0} (history : S → List E) (legal : List E → Type 0) (own : List E → ℕ → List C) (replies : List E → ℕ → List R) (n : ℕ) (words : List ℕ) (homes : List (Option (Slot C R S))) (works : List (Work E C R))
-    (s : Serves history legal own replies n words homes works) where
-  -- client q becomes t by a step of the seat id
-  module _ (id q : ℕ) (t : Client E C R) (f : Follows (s.truth q) t) where
+module _ {E C R S : Type 0} (served : Ghosts S E C R) (n : ℕ) (words : List ℕ) (homes : List (Option (Slot C R S))) (works : List (Work E C R))
+    (s : Serves served n words homes works) where
+  open served use {legal}
+
+  -- client q becomes t
+  abbrev pub after : ℕ → Client E C R → ℕ → Desk E C → World E C R
+  after q t lock' desk' = record s.world { truth = put s.world.truth q t; desk = desk'; lock = lock' }
+
+  -- by a step of the seat id
+  module _ (id q : ℕ) (t : Client E C R) (f : Follows (s.world.truth q) t) where
     truth' : ℕ → Client E C R
-    truth' = put s.truth q t
+    truth' = put s.world.truth q t
 
-    pub follow : (r : ℕ) → Follows (s.truth r) (put s.truth q t r)
-    follow r = put_case (Follows (s.truth r)) s.truth q t r (λ e. subst (λ (x : ℕ). Follows (s.truth x) t) (sym e) f) (λ _. follows_itself (s.truth r))
+    pub follow : (r : ℕ) → Follows (s.world.truth r) (put s.world.truth q t r)
+    follow r = put_case (Follows (s.world.truth r)) s.world.truth q t r (λ e. subst (λ (x : ℕ). Follows (s.world.truth x) t) (sym e) f) (λ _. follows_itself (s.world.truth r))
 
-    pub met_still : (j : ℕ) (v : Work E C R) → get_elem? works j ≡ some v → (r : ℕ) → IsOn r v.met → (r < s.made) × (1 ≤ (put s.truth q t r).begun)
+    pub met_still : (j : ℕ) (v : Work E C R) → get_elem? works j ≡ some v → (r : ℕ) → IsOn r v.met → (r < s.world.made) × (1 ≤ (put s.world.truth q t r).begun)
     met_still j v at r on = let k = (s.each_seat j v at).met r on in let a = (follow r).begun in let b = k.1 in (k.0, omega arith)
 
-    pub heard_still : (j : ℕ) (v : Work E C R) → get_elem? works j ≡ some v → (r k : ℕ) → IsMarked r k v.heard → (r < s.made) × (k ≤ (put s.truth q t r).posts)
+    pub heard_still : (j : ℕ) (v : Work E C R) → get_elem? works j ≡ some v → (r k : ℕ) → IsMarked r k v.heard → (r < s.world.made) × (k ≤ (put s.world.truth q t r).posts)
     heard_still j v at r m on = let k = (s.each_seat j v at).heard r m on in let a = (follow r).posts in let b = k.1 in (k.0, omega arith)
 
     pub passed_still : (j : ℕ) (v : Work E C R) → get_elem? works j ≡ some v → (r k : ℕ) → IsMarked r k v.passed
-        → (r < s.made) × (k ≤ (put s.truth q t r).posts) × ((put s.truth q t r).posts ≡ k → IsDealt (put s.truth q t r).phase)
+        → (r < s.world.made) × (k ≤ (put s.world.truth q t r).posts) × ((put s.world.truth q t r).posts ≡ k → IsDealt (put s.world.truth q t r).phase)
     passed_still j v at r m on = let k = (s.each_seat j v at).passed r m on in let a = (follow r).posts in let b = k.1 in
         (k.0, omega arith, λ e. (follow r).dealt (omega arith) (k.2 (omega arith)))
 
-    module _ (stay : s.seat q ≢ id → Stays (s.truth q) t) (lock' : ℕ) (desk' : Desk E C) (on : GoesOn s.desk.hist desk'.hist)
-        (locks : (r : ℕ) → s.seat r ≢ id → (get_or words lock_word 0 ≡ r + 1 → lock' ≡ r + 1) × (get_or words lock_word 0 ≢ r + 1 → lock' ≢ r + 1))
-        (combine : (j : ℕ) (u : Work E C R) → j ≢ id → get_elem? works j ≡ some u → u.holds ≡ true → Combines s.desk u → Combines desk' u) where
-      stay_all : (r : ℕ) → s.seat r ≢ id → Stays (s.truth r) (put s.truth q t r)
-      stay_all r other = put_case (Stays (s.truth r)) s.truth q t r (λ e. subst (λ (x : ℕ). Stays (s.truth x) t) (sym e) (stay (λ same. other (ap s.seat e ∙ same)))) (λ _. stays_itself (s.truth r))
+    module _ (stay : s.world.seat q ≢ id → Stays (s.world.truth q) t) (lock' : ℕ) (desk' : Desk E C) (on : GoesOn s.world.desk.hist desk'.hist)
+        (locks : (r : ℕ) → s.world.seat r ≢ id → (s.world.lock ≡ r + 1 → lock' ≡ r + 1) × (s.world.lock ≢ r + 1 → lock' ≢ r + 1))
+        (combine : (j : ℕ) (u : Work E C R) → j ≢ id → get_elem? works j ≡ some u → u.holds ≡ true → Combines s.world.desk u → Combines desk' u) where
+      stay_all : (r : ℕ) → s.world.seat r ≢ id → Stays (s.world.truth r) (put s.world.truth q t r)
+      stay_all r other = put_case (Stays (s.world.truth r)) s.world.truth q t r (λ e. subst (λ (x : ℕ). Stays (s.world.truth x) t) (sym e) (stay (λ same. other (ap s.world.seat e ∙ same)))) (λ _. stays_itself (s.world.truth r))
 
-      pub goes_on : (h : List E) → GoesOn h s.desk.hist → GoesOn h desk'.hist
+      pub goes_on : (h : List E) → GoesOn h s.world.desk.hist → GoesOn h desk'.hist
       goes_on h g = (g.0 ++ on.0, on.1 ∙ (ap (λ (l : List E). l ++ on.0) g.1 ∙ append_all h g.0 on.0))
         where
           append_all : (a b c : List E) → (a ++ b) ++ c ≡ a ++ (b ++ c)
           append_all [] b c = refl
           append_all (x ∷ a) b c = ap (λ (l : List E). x ∷ l) (append_all a b c)
 
-      nobodys : (j : ℕ) (closed : List (Closed E C R)) (st : Stage C) → j ≢ id → IsNobodys s.made s.done s.seat s.truth s.desk j closed st → IsNobodys s.made s.done s.seat (put s.truth q t) desk' j closed st
+      nobodys : (j : ℕ) (closed : List (Closed E C R)) (st : Stage C) → j ≢ id → IsNobodys s.world j closed st → IsNobodys (after q t lock' desk') j closed st
       nobodys j closed Spent other b = record {
         distinct = b.distinct;
         on = b.on;
@@ -114,10 +122,10 @@ module _ {E C R S : Type 0} (history : S → List E) (legal : List E → Type 0)
       nobodys j closed (Asking c k) other b = tt
       nobodys j closed (Token c) other b = tt
 
-      others : (j : ℕ) (u : Work E C R) → j ≢ id → get_elem? works j ≡ some u → Trusts s.made s.done s.seat (put s.truth q t) lock' desk' j u
+      others : (j : ℕ) (u : Work E C R) → j ≢ id → get_elem? works j ≡ some u → Trusts (after q t lock' desk') j u
       others j u other at = let k = s.each_seat j u at in record {
         maker = nobodys j u.closed u.stage other k.maker;
-        client = λ r is. let c = k.client r is in let ne : s.seat r ≢ id = λ e. other (sym c.seat_is ∙ e) in let a = stay_all r ne in record {
+        client = λ r is. let c = k.client r is in let ne : s.world.seat r ≢ id = λ e. other (sym c.seat_is ∙ e) in let a = stay_all r ne in record {
           made_it = c.made_it;
           live = c.live;
           seat_is = c.seat_is;
@@ -142,31 +150,26 @@ module _ {E C R S : Type 0} (history : S → List E) (legal : List E → Type 0)
 
       -- the rule after the step
       pub steps : (words' : List ℕ) (homes' : List (Option (Slot C R S))) (w : Work E C R) → get_or words' lock_word 0 ≡ lock' → length words' ≡ word_count n → length homes' ≡ n + 1 → legal desk'.hist
-          → IsUnheld history n lock' homes' desk' ⊎ IsHeld s.made s.done n lock' homes' (put s.truth q t) → ((r : ℕ) → IsTaken r desk'.serving → r < n) → q < s.made
-          → ((r : ℕ) → r < n → HasRecord own replies words' homes' desk' r (put s.truth q t r)) → Trusts s.made s.done s.seat (put s.truth q t) lock' desk' id w
-          → Serves history legal own replies n words' homes' (set works id w)
+          → IsUnheld served n homes' (after q t lock' desk') ⊎ IsHeld served n homes' (after q t lock' desk') → ((r : ℕ) → IsTaken r desk'.serving → r < n) → q < s.world.made
+          → ((r : ℕ) → r < n → HasRecord served words' homes' desk' r (put s.world.truth q t r)) → Trusts (after q t lock' desk') id w
+          → Serves served n words' homes' (set works id w)
       steps words' homes' w is wide deep law lock below small clients mine = record {
-        truth = put s.truth q t;
-        desk = desk';
-        made = s.made;
-        done = s.done;
-        seat = s.seat;
-        few = s.few;
-        done_made = s.done_made;
-        wide = wide;
-        deep = deep;
-        is_legal = law;
-        lock = subst (λ (l : ℕ). IsUnheld history n l homes' desk' ⊎ IsHeld s.made s.done n l homes' (put s.truth q t)) (sym is) lock;
-        taken_below = below;
-        unmade_are = λ r h. put_case (λ b. b ≡ record { phase = away; posts = 0; begun = 0; entered = []; got = []; parked_by = [] }) s.truth q t r (λ e. absurd (omega arith)) (λ _. s.unmade_are r h);
-        each_client = clients;
-        each_seat = λ j u e. ⊎_elim (λ (h : (j ≡ id) × (w ≡ u)). subst (λ (x : ℕ × Work E C R). Trusts s.made s.done s.seat (put s.truth q t) (get_or words' lock_word 0) desk' x.0 x.1) (λ i. (sym h.0 i, h.1 i))
-            (subst (λ (l : ℕ). Trusts s.made s.done s.seat (put s.truth q t) l desk' id w) (sym is) mine))
-            (λ (h : (j ≢ id) × (get_elem? works j ≡ some u)). subst (λ (l : ℕ). Trusts s.made s.done s.seat (put s.truth q t) l desk' j u) (sym is) (others j u h.0 h.1)) (at_set works id j w u e);
+        world = after q t lock' desk';
+        sound = record {
+          few = s.sound.few;
+          done_made = s.sound.done_made;
+          is_legal = law;
+          taken_below = below;
+          unmade_are = λ r h. put_case (λ b. b ≡ unmade) s.world.truth q t r (λ e. absurd (omega arith)) (λ _. s.sound.unmade_are r h);
+        };
+        stored = record { wide = wide; sized = deep; lock = is; each_client = clients };
+        state = lock;
+        each_seat = λ j u e. ⊎_elim (λ (h : (j ≡ id) × (w ≡ u)). subst (λ (x : ℕ × Work E C R). Trusts (after q t lock' desk') x.0 x.1) (λ i. (sym h.0 i, h.1 i)) mine)
+            (λ (h : (j ≢ id) × (get_elem? works j ≡ some u)). others j u h.0 h.1) (at_set works id j w u e);
       }
 
   -- a record that isn't written
-  pub record_else : (q x : ℕ) (y : Option (Slot C R S)) (d : Desk E C) (r : ℕ) (t : Client E C R) → r ≢ q → IsInPhase own replies d r t → HasRecord own replies words homes s.desk r t → HasRecord own replies (set words (state_word q) x) (set homes q y) d r t
+  pub record_else : (q x : ℕ) (y : Option (Slot C R S)) (d : Desk E C) (r : ℕ) (t : Client E C R) → r ≢ q → IsInPhase served d r t → HasRecord served words homes s.world.desk r t → HasRecord served (set words (state_word q) x) (set homes q y) d r t
   record_else q x y d r t other phase h = record {
     word = get_or-set_other words (state_word q) (state_word r) x 0 (λ e. other (state_from_state r q e)) ∙ h.word;
     home = set_else homes q r y other ∙ h.home;
@@ -174,9 +177,9 @@ module _ {E C R S : Type 0} (history : S → List E) (legal : List E → Type 0)
   }
 
   -- and one that is
-  pub record_here : (q x : ℕ) (y : Option (Slot C R S)) (d : Desk E C) (t : Client E C R) → q < n → x ≡ word_of t.phase → y ≡ home_of t.phase → IsInPhase own replies d q t → HasRecord own replies (set words (state_word q) x) (set homes q y) d q t
-  record_here q x y d t inside number slot phase = let deep = s.deep in record {
-    word = get_or-set_same words (state_word q) x 0 (subst (λ (k : ℕ). state_word q < k) (sym s.wide) (state_within q n inside)) ∙ number;
+  pub record_here : (q x : ℕ) (y : Option (Slot C R S)) (d : Desk E C) (t : Client E C R) → q < n → x ≡ word_of t.phase → y ≡ home_of t.phase → IsInPhase served d q t → HasRecord served (set words (state_word q) x) (set homes q y) d q t
+  record_here q x y d t inside number slot phase = let deep = s.stored.sized in record {
+    word = get_or-set_same words (state_word q) x 0 (subst (λ (k : ℕ). state_word q < k) (sym s.stored.wide) (state_within q n inside)) ∙ number;
     home = set_here homes q y (omega arith) ∙ ap (λ (z : Option (Slot C R S)). some z) slot;
     phase = phase;
   }
@@ -186,13 +189,13 @@ module _ {E C R S : Type 0} (history : S → List E) (legal : List E → Type 0)
   lock_else q x = get_or-set_other words (state_word q) lock_word x 0 (λ e. state_from_lock q (sym e))
 
   -- the seat that steps is client p's
-  pub mine_by : (id q : ℕ) (t : Client E C R) (lock' : ℕ) (desk' : Desk E C) (p : ℕ) (w : Work E C R) → IsClient p w.stage → Tells s.made s.done s.seat lock' id p w (put s.truth q t p) → (w.holds ≡ true → Combines desk' w) → GoesOn w.seen desk'.hist → GoesOn w.hearsay desk'.hist
-      → ((r : ℕ) → IsOn r w.met → (r < s.made) × (1 ≤ (put s.truth q t r).begun)) → ((r k : ℕ) → IsMarked r k w.heard → (r < s.made) × (k ≤ (put s.truth q t r).posts))
-      → ((r k : ℕ) → IsMarked r k w.passed → (r < s.made) × (k ≤ (put s.truth q t r).posts) × ((put s.truth q t r).posts ≡ k → IsDealt (put s.truth q t r).phase))
-      → Trusts s.made s.done s.seat (put s.truth q t) lock' desk' id w
+  pub mine_by : (id q : ℕ) (t : Client E C R) (lock' : ℕ) (desk' : Desk E C) (p : ℕ) (w : Work E C R) → IsClient p w.stage → Tells (after q t lock' desk') id p w (put s.world.truth q t p) → (w.holds ≡ true → Combines desk' w) → GoesOn w.seen desk'.hist → GoesOn w.hearsay desk'.hist
+      → ((r : ℕ) → IsOn r w.met → (r < s.world.made) × (1 ≤ (put s.world.truth q t r).begun)) → ((r k : ℕ) → IsMarked r k w.heard → (r < s.world.made) × (k ≤ (put s.world.truth q t r).posts))
+      → ((r k : ℕ) → IsMarked r k w.passed → (r < s.world.made) × (k ≤ (put s.world.truth q t r).posts) × ((put s.world.truth q t r).posts ≡ k → IsDealt (put s.world.truth q t r).phase))
+      → Trusts (after q t lock' desk') id w
   mine_by id q t lock' desk' p w is tells combines saw was_told met heard passed = record {
     maker = clients p w.stage is;
-    client = λ r h. subst (λ (z : ℕ). Tells s.made s.done s.seat lock' id z w (put s.truth q t z)) (one_client p r w.stage is h) tells;
+    client = λ r h. subst (λ (z : ℕ). Tells (after q t lock' desk') id z w (put s.world.truth q t z)) (one_client p r w.stage is h) tells;
     token = λ r e. absurd (subst (IsClient p) e is);
     combines = combines;
     saw = saw;
@@ -202,7 +205,7 @@ module _ {E C R S : Type 0} (history : S → List E) (legal : List E → Type 0)
     passed = passed;
   }
     where
-      clients : (a : ℕ) (st : Stage C) → IsClient a st → IsNobodys s.made s.done s.seat (put s.truth q t) desk' id w.closed st
+      clients : (a : ℕ) (st : Stage C) → IsClient a st → IsNobodys (after q t lock' desk') id w.closed st
       clients a Spent h = absurd h
       clients a (Maker k) h = absurd h
       clients a (Away c) h = tt
@@ -219,26 +222,26 @@ module _ {E C R S : Type 0} (history : S → List E) (legal : List E → Type 0)
       one_client a b (Token c) h i = absurd h
 
   -- a client below n isn't the state's slot
-  pub lock_same : (q : ℕ) (t : Client E C R) (y : Option (Slot C R S)) → Follows (s.truth q) t → q < s.made → IsUnheld history n (get_or words lock_word 0) (set homes q y) s.desk ⊎ IsHeld s.made s.done n (get_or words lock_word 0) (set homes q y) (put s.truth q t)
-  lock_same q t y f small = let few = s.few in let else : get_elem? (set homes q y) n ≡ get_elem? homes n = set_else homes q n y (λ e. omega arith) in
+  pub lock_same : (q : ℕ) (t : Client E C R) (y : Option (Slot C R S)) → Follows (s.world.truth q) t → q < s.world.made → IsUnheld served n (set homes q y) (after q t s.world.lock s.world.desk) ⊎ IsHeld served n (set homes q y) (after q t s.world.lock s.world.desk)
+  lock_same q t y f small = let few = s.sound.few in let else : get_elem? (set homes q y) n ≡ get_elem? homes n = set_else homes q n y (λ e. omega arith) in
       ⊎_elim (λ u. inl record { zero = u.zero; state = u.state; home = else ∙ u.home; is = u.is; before = u.before; paid = u.paid; nothing = u.nothing })
-      (λ h. let a = (follow q q t f h.holder).begun in let b = h.begun in inr record { holder = h.holder; client = h.client; live = h.live; number = h.number; home = else ∙ h.home; begun = omega arith }) s.lock
+      (λ h. let a = (follow q q t f h.holder).begun in let b = h.begun in inr record { holder = h.holder; client = h.client; live = h.live; number = h.number; home = else ∙ h.home; begun = omega arith }) s.state
 
   -- A client's step: it changes its own state word and slot, and what is known of itself
-  pub client_step : (id q x : ℕ) (y : Option (Slot C R S)) (v : Work E C R) (t : Client E C R) (st : Stage C) (seen : List E) (past : Bool) → get_elem? works id ≡ some v → IsClient q v.stage → IsClient q st → Follows (s.truth q) t → t.begun ≡ (s.truth q).begun
-      → x ≡ word_of t.phase → y ≡ home_of t.phase → IsInPhase own replies s.desk q t → IsInStage st t.phase → (past ≡ true → IsDealt t.phase) → GoesOn seen s.desk.hist → (v.holds ≡ true → seen ≡ s.desk.hist)
+  pub client_step : (id q x : ℕ) (y : Option (Slot C R S)) (v : Work E C R) (t : Client E C R) (st : Stage C) (seen : List E) (past : Bool) → get_elem? works id ≡ some v → IsClient q v.stage → IsClient q st → Follows (s.world.truth q) t → t.begun ≡ (s.world.truth q).begun
+      → x ≡ word_of t.phase → y ≡ home_of t.phase → IsInPhase served s.world.desk q t → IsInStage st t.phase → (past ≡ true → IsDealt t.phase) → GoesOn seen s.world.desk.hist → (v.holds ≡ true → seen ≡ s.world.desk.hist)
       → (w : Work E C R) → w ≡ record v { stage = st; seen = seen; entered = t.entered; got = t.got; posts = t.posts; past = past; found = 0 }
-      → Serves history legal own replies n (set words (state_word q) x) (set homes q y) (set works id w)
-  client_step id q x y v t st seen past at was is f begun number slot phase stage dealt saw still w same = let k = s.each_seat id v at in let c = k.client q was in let few = s.few in let small = c.made_it in let inside : q < n = omega arith in
+      → Serves served n (set words (state_word q) x) (set homes q y) (set works id w)
+  client_step id q x y v t st seen past at was is f begun number slot phase stage dealt saw still w same = let k = s.each_seat id v at in let c = k.client q was in let few = s.sound.few in let small = c.made_it in let inside : q < n = omega arith in
       let w' : Work E C R = record v { stage = st; seen = seen; entered = t.entered; got = t.got; posts = t.posts; past = past; found = 0 } in
-      subst (λ (z : Work E C R). Serves history legal own replies n (set words (state_word q) x) (set homes q y) (set works id z)) (sym same)
-      (steps id q t f (λ other. absurd (other c.seat_is)) (get_or words lock_word 0) s.desk ([], nil_behind s.desk.hist) (λ _ _. (λ e. e, λ e. e)) (λ _ _ _ _ _ h. h) (set words (state_word q) x) (set homes q y) w'
-      (lock_else q x) (length-set words (state_word q) x ∙ s.wide) (length-set homes q y ∙ s.deep) s.is_legal (lock_same q t y f small) s.taken_below small
-      (λ r l. put_case (HasRecord own replies (set words (state_word q) x) (set homes q y) s.desk r) s.truth q t r
-      (λ e. subst (λ (z : ℕ). HasRecord own replies (set words (state_word q) x) (set homes q y) s.desk z t) (sym e) (record_here q x y s.desk t inside number slot phase))
-      (λ other. record_else q x y s.desk r (s.truth r) other (s.each_client r l).phase (s.each_client r l)))
-      (mine_by id q t (get_or words lock_word 0) s.desk q w' is
-      (subst (λ (b : Client E C R). Tells s.made s.done s.seat (get_or words lock_word 0) id q w' b) (sym (put_at s.truth q t q refl)) record {
+      subst (λ (z : Work E C R). Serves served n (set words (state_word q) x) (set homes q y) (set works id z)) (sym same)
+      (steps id q t f (λ other. absurd (other c.seat_is)) s.world.lock s.world.desk ([], nil_behind s.world.desk.hist) (λ _ _. (λ e. e, λ e. e)) (λ _ _ _ _ _ h. h) (set words (state_word q) x) (set homes q y) w'
+      (lock_else q x ∙ s.stored.lock) (length-set words (state_word q) x ∙ s.stored.wide) (length-set homes q y ∙ s.stored.sized) s.sound.is_legal (lock_same q t y f small) s.sound.taken_below small
+      (λ r l. put_case (HasRecord served (set words (state_word q) x) (set homes q y) s.world.desk r) s.world.truth q t r
+      (λ e. subst (λ (z : ℕ). HasRecord served (set words (state_word q) x) (set homes q y) s.world.desk z t) (sym e) (record_here q x y s.world.desk t inside number slot phase))
+      (λ other. record_else q x y s.world.desk r (s.world.truth r) other (s.stored.each_client r l).phase (s.stored.each_client r l)))
+      (mine_by id q t s.world.lock s.world.desk q w' is
+      (subst (λ (b : Client E C R). Tells (after q t s.world.lock s.world.desk) id q w' b) (sym (put_at s.world.truth q t q refl)) record {
         made_it = small;
         live = c.live;
         seat_is = c.seat_is;
@@ -261,27 +264,27 @@ module _ {E C R S : Type 0} (history : S → List E) (legal : List E → Type 0)
   -- one seat combines
   pub sole : (id p : ℕ) (v : Work E C R) → get_elem? works id ≡ some v → IsClient p v.stage → v.holds ≡ true → (j : ℕ) (u : Work E C R) → j ≢ id → get_elem? works j ≡ some u → u.holds ≡ true → ⊥
   sole id p v at was holds j u other there h = let b = (s.each_seat j u there).combines h in let c = b.client in let mine = (s.each_seat id v at).client p was in let its = (s.each_seat j u there).client c.0 c.1 in
-      let l = mine.holds holds in let m = its.holds h in let r : ℕ = c.0 in let same : r ≡ p = omega arith in other (sym its.seat_is ∙ (ap s.seat same ∙ mine.seat_is))
+      let l = mine.holds holds in let m = its.holds h in let r : ℕ = c.0 in let same : r ≡ p = omega arith in other (sym its.seat_is ∙ (ap s.world.seat same ∙ mine.seat_is))
 
   -- the holder's step: it changes the record of client q, and what it knows. What it heard of client q is passed where the client is dealt with
-  pub holder_step : (id p q x : ℕ) (y : Option (Slot C R S)) (v : Work E C R) (t : Client E C R) (desk' : Desk E C) (passed' : List (ℕ × ℕ)) (past' : Bool) → get_elem? works id ≡ some v → IsClient p v.stage → v.holds ≡ true → q < s.made → Stays (s.truth q) t
-      → x ≡ word_of t.phase → y ≡ home_of t.phase → IsInPhase own replies desk' q t → ((r : ℕ) → r < n → r ≢ q → IsInPhase own replies s.desk r (s.truth r) → IsInPhase own replies desk' r (s.truth r))
-      → GoesOn s.desk.hist desk'.hist → legal desk'.hist → ((r : ℕ) → IsTaken r desk'.serving → r < n)
+  pub holder_step : (id p q x : ℕ) (y : Option (Slot C R S)) (v : Work E C R) (t : Client E C R) (desk' : Desk E C) (passed' : List Mark) (past' : Bool) → get_elem? works id ≡ some v → IsClient p v.stage → v.holds ≡ true → q < s.world.made → Stays (s.world.truth q) t
+      → x ≡ word_of t.phase → y ≡ home_of t.phase → IsInPhase served desk' q t → ((r : ℕ) → r < n → r ≢ q → IsInPhase served s.world.desk r (s.world.truth r) → IsInPhase served desk' r (s.world.truth r))
+      → GoesOn s.world.desk.hist desk'.hist → legal desk'.hist → ((r : ℕ) → IsTaken r desk'.serving → r < n)
       → ((r k : ℕ) → IsMarked r k passed' → IsMarked r k v.passed ⊎ ((r ≡ q) × IsMarked r k v.heard × IsDealt t.phase)) → (past' ≡ true → (v.past ≡ true) ⊎ ((p ≡ q) × IsDealt t.phase))
-      → Serves history legal own replies n (set words (state_word q) x) (set homes q y) (set works id (record v { seen = desk'.hist; before = desk'.before; paid = desk'.paid; serving = desk'.serving; passed = passed'; past = past' }))
-  holder_step id p q x y v t desk' passed' past' at was holds small stay number slot phase phases on law below marks pasts = let k = s.each_seat id v at in let c = k.client p was in let few = s.few in let inside : q < n = omega arith in
-      let f : Follows (s.truth q) t = (let a = stay.posts in let b = stay.begun in record { posts = omega arith; begun = omega arith; dealt = λ _ h. stay.dealt h }) in
+      → Serves served n (set words (state_word q) x) (set homes q y) (set works id (record v { seen = desk'.hist; before = desk'.before; paid = desk'.paid; serving = desk'.serving; passed = passed'; past = past' }))
+  holder_step id p q x y v t desk' passed' past' at was holds small stay number slot phase phases on law below marks pasts = let k = s.each_seat id v at in let c = k.client p was in let few = s.sound.few in let inside : q < n = omega arith in
+      let f : Follows (s.world.truth q) t = (let a = stay.posts in let b = stay.begun in record { posts = omega arith; begun = omega arith; dealt = λ _ h. stay.dealt h }) in
       let w' : Work E C R = record v { seen = desk'.hist; before = desk'.before; paid = desk'.paid; serving = desk'.serving; passed = passed'; past = past' } in
-      let a : Stays (s.truth p) (put s.truth q t p) = put_case (Stays (s.truth p)) s.truth q t p (λ e. subst (λ (z : ℕ). Stays (s.truth z) t) (sym e) stay) (λ _. stays_itself (s.truth p)) in
-      let lock : ℕ = get_or words lock_word 0 in let mine : lock ≡ p + 1 = c.holds holds in
+      let a : Stays (s.world.truth p) (put s.world.truth q t p) = put_case (Stays (s.world.truth p)) s.world.truth q t p (λ e. subst (λ (z : ℕ). Stays (s.world.truth z) t) (sym e) stay) (λ _. stays_itself (s.world.truth p)) in
+      let lock : ℕ = s.world.lock in let mine : lock ≡ p + 1 = c.holds holds in
       steps id q t f (λ _. stay) lock desk' on (λ _ _. (λ e. e, λ e. e)) (λ j u other there h _. absurd (sole id p v at was holds j u other there h)) (set words (state_word q) x) (set homes q y) w'
-      (lock_else q x) (length-set words (state_word q) x ∙ s.wide) (length-set homes q y ∙ s.deep) law
+      (lock_else q x ∙ s.stored.lock) (length-set words (state_word q) x ∙ s.stored.wide) (length-set homes q y ∙ s.stored.sized) law
       (⊎_elim (λ u. let zero = u.zero in absurd (omega arith))
-      (λ h. let more = (follow id q t f h.holder).begun in let b = h.begun in inr record { holder = h.holder; client = h.client; live = h.live; number = h.number; home = set_else homes q n y (λ e. omega arith) ∙ h.home; begun = omega arith }) s.lock)
+      (λ h. let more = (follow id q t f h.holder).begun in let b = h.begun in inr record { holder = h.holder; client = h.client; live = h.live; number = h.number; home = set_else homes q n y (λ e. omega arith) ∙ h.home; begun = omega arith }) s.state)
       below small
-      (λ r l. put_case (HasRecord own replies (set words (state_word q) x) (set homes q y) desk' r) s.truth q t r
-      (λ e. subst (λ (z : ℕ). HasRecord own replies (set words (state_word q) x) (set homes q y) desk' z t) (sym e) (record_here q x y desk' t inside number slot phase))
-      (λ other. record_else q x y desk' r (s.truth r) other (phases r l other (s.each_client r l).phase) (s.each_client r l)))
+      (λ r l. put_case (HasRecord served (set words (state_word q) x) (set homes q y) desk' r) s.world.truth q t r
+      (λ e. subst (λ (z : ℕ). HasRecord served (set words (state_word q) x) (set homes q y) desk' z t) (sym e) (record_here q x y desk' t inside number slot phase))
+      (λ other. record_else q x y desk' r (s.world.truth r) other (phases r l other (s.stored.each_client r l).phase) (s.stored.each_client r l)))
       (mine_by id q t lock desk' p w' was record {
         made_it = c.made_it;
         live = c.live;
@@ -291,13 +294,13 @@ module _ {E C R S : Type 0} (history : S → List E) (legal : List E → Type 0)
         got = c.got ∙ a.got;
         posts = c.posts ∙ a.posts;
         begun = c.begun ∙ a.begun;
-        past = λ h. ⊎_elim (λ b. a.dealt (c.past b)) (λ (d : (p ≡ q) × IsDealt t.phase). put_case (λ b. IsDealt b.phase) s.truth q t p (λ _. d.1) (λ other. absurd (other d.0))) (pasts h);
+        past = λ h. ⊎_elim (λ b. a.dealt (c.past b)) (λ (d : (p ≡ q) × IsDealt t.phase). put_case (λ b. IsDealt b.phase) s.world.truth q t p (λ _. d.1) (λ other. absurd (other d.0))) (pasts h);
         found = λ h. a.ready (c.found h);
         holds = c.holds;
         waits = c.waits;
       }
       (λ _. record { client = (p, was); seen = refl; before = refl; paid = refl; serving = refl }) (all_hist desk'.hist) (goes_on id q t f (λ _. stay) lock desk' on (λ _ _. (λ e. e, λ e. e)) (λ j u other there h _. absurd (sole id p v at was holds j u other there h)) v.hearsay k.was_told) (met_still id q t f id v at) (heard_still id q t f id v at)
-      (λ r k m. ⊎_elim (λ b. passed_still id q t f id v at r k b) (λ (d : (r ≡ q) × IsMarked r k v.heard × IsDealt t.phase). let h = heard_still id q t f id v at r k d.1 in (h.0, h.1, λ _. put_case (λ b. IsDealt b.phase) s.truth q t r (λ _. d.2) (λ other. absurd (other d.0)))) (marks r k m)))
+      (λ r k m. ⊎_elim (λ b. passed_still id q t f id v at r k b) (λ (d : (r ≡ q) × IsMarked r k v.heard × IsDealt t.phase). let h = heard_still id q t f id v at r k d.1 in (h.0, h.1, λ _. put_case (λ b. IsDealt b.phase) s.world.truth q t r (λ _. d.2) (λ other. absurd (other d.0)))) (marks r k m)))
     where
       all_hist : (h : List E) → GoesOn h h
       all_hist h = ([], nil_behind h)
@@ -307,26 +310,16 @@ module _ {E C R S : Type 0} (history : S → List E) (legal : List E → Type 0)
           nil_behind (b ∷ l) = ap (λ (z : List E). b ∷ z) (nil_behind l)
 
   -- a client with a call has a seat
-  pub has_seat : (r : ℕ) → s.made ≤ r → (s.truth r).phase ≡ away
-  has_seat r h = ap (λ (o : Client E C R). o.phase) (s.unmade_are r h)
+  pub has_seat : (r : ℕ) → s.world.made ≤ r → (s.world.truth r).phase ≡ away
+  has_seat r h = ap (λ (o : Client E C R). o.phase) (s.sound.unmade_are r h)
 
   -- a seat that learns what is true, and steps no further
-  pub view_step : (id : ℕ) (w : Work E C R) → Trusts s.made s.done s.seat s.truth (get_or words lock_word 0) s.desk id w → Serves history legal own replies n words homes (set works id w)
+  pub view_step : (id : ℕ) (w : Work E C R) → Trusts s.world id w → Serves served n words homes (set works id w)
   view_step id w mine = record {
-    truth = s.truth;
-    desk = s.desk;
-    made = s.made;
-    done = s.done;
-    seat = s.seat;
-    few = s.few;
-    done_made = s.done_made;
-    wide = s.wide;
-    deep = s.deep;
-    is_legal = s.is_legal;
-    lock = s.lock;
-    taken_below = s.taken_below;
-    unmade_are = s.unmade_are;
-    each_client = s.each_client;
-    each_seat = λ j u e. ⊎_elim (λ (h : (j ≡ id) × (w ≡ u)). subst (λ (x : ℕ × Work E C R). Trusts s.made s.done s.seat s.truth (get_or words lock_word 0) s.desk x.0 x.1) (λ i. (sym h.0 i, h.1 i)) mine)
+    world = s.world;
+    sound = s.sound;
+    stored = s.stored;
+    state = s.state;
+    each_seat = λ j u e. ⊎_elim (λ (h : (j ≡ id) × (w ≡ u)). subst (λ (x : ℕ × Work E C R). Trusts s.world x.0 x.1) (λ i. (sym h.0 i, h.1 i)) mine)
         (λ (h : (j ≢ id) × (get_elem? works j ≡ some u)). s.each_seat j u h.1) (at_set works id j w u e);
   }

@@ -4,8 +4,9 @@ use mathlib.Core.Logic.{dite}
 use native.Mathlib.Decide.{dec_le}
 use mathlib.Core.Option.{Option, none, some}
 use prog.Atomic.{either}
-use Rattle.atomic_table.specs.Table.{State, Me, step, Act, takes, gives, Valid, stepped, carried_after, Allows, rest}
+use Rattle.atomic_table.specs.Table.{State, Me, Act, takes, gives, Valid, stepped, carried_after, Allows, rest}
 use Rattle.atomic_table.proofs.Lists.{exchanged}
+use Rattle.pub_rule.specs.declared.served.Served.{Ghosts}
 use Rattle.pub_rule.specs.declared.walk.View.{View}
 use Rattle.pub_rule.specs.declared.work.Work.{Work}
 use Rattle.pub_rule.specs.declared.work.Stage.{Stage}
@@ -17,7 +18,7 @@ use Rattle.pub_rule.specs.declared.served.Slot.TheVariants as slots
 use Rattle.pub_rule.specs.Words.{state_word}
 use Rattle.pub_rule.specs.Lists.{IsOn}
 use Rattle.pub_rule.specs.Work.{Phase, away, free, posted, taken, parked, resumed, refused, replied, Client, Desk, IsTaken, IsTakenIn, IsMarked, word_of, home_of, IsDealt, IsInPhase, HasReplies, IsSettled, IsInStage, IsClient, Serves}
-use Rattle.pub_rule.specs.WorkSteps.{with_work, marks_of, is_own, resuming, paying, refusing, call_refused, call_resumed, reply_handed}
+use Rattle.pub_rule.specs.WorkSteps.{with_work, marks_of, is_own, resuming, paying, refusing, call_refused, Resumes, reply_handed}
 use Rattle.pub_rule.specs.WorkLaws.{KeptByRefuse, KeptByResume, KeptByHand}
 use Rattle.pub_rule.proofs.Numbers.{state_from_head, state_from_next}
 use Rattle.pub_rule.proofs.Moves.{Stays, holder_step, has_seat}
@@ -99,49 +100,51 @@ last_is d x (y ∷ l) = last_is y x l
 ends_with : {A : Type 0} (x y : A) (some_before before all : List A) → all ≡ some_before ++ x ∷ [] → all ≡ before ++ y ∷ [] → all ≡ some_before ++ y ∷ []
 ends_with x y some_before before all e f = let same : x ≡ y = sym (last_is y x some_before) ∙ (ap (last_of y) (sym e ∙ f) ∙ last_is y y before) in e ∙ (λ i. some_before ++ same i ∷ [])
 
-module _ {E C R S : Type 0} (history : S → List E) (legal : List E → Type 0) (own : List E → ℕ → List C) (replies : List E → ℕ → List R) (n : ℕ) where
+module _ {E C R S : Type 0} (served : Ghosts S E C R) (n : ℕ) where
+  open served use {history, legal, own, replies}
+
   abbrev Half : State (Slot C R S) (Work E C R) → Type 0
-  Half = Served n (Serves history legal own replies n)
+  Half = Served n (Serves served n)
 
   -- a client whose word isn't 0 has a seat
-  seated : (words : List ℕ) (homes : List (Option (Slot C R S))) (works : List (Work E C R)) (s : Serves history legal own replies n words homes works) (q : ℕ) → (word_of (s.truth q).phase ≡ 0 → ⊥) → q < s.made
-  seated words homes works s q not = dite (dec_le s.made q) (λ h. absurd (not (ap word_of (has_seat history legal own replies n words homes works s q h)))) (λ h. lt_of_not-le h)
+  seated : (words : List ℕ) (homes : List (Option (Slot C R S))) (works : List (Work E C R)) (s : Serves served n words homes works) (q : ℕ) → (word_of (s.world.truth q).phase ≡ 0 → ⊥) → q < s.world.made
+  seated words homes works s q not = dite (dec_le s.world.made q) (λ h. absurd (not (ap word_of (has_seat served n words homes works s q h)))) (λ h. lt_of_not-le h)
 
   refuse_half : (size id p q : ℕ) (c : C) (v : Work E C R) (hands : List (ℕ × Slot C R S)) → IsClient p v.stage → v.holds ≡ true → v.serving ≡ Posted q c → Allows Half size id (v, (q, slots.Memory) ∷ hands) (state_word q) (λ _. 4) (λ _ m'. m' ≡ (refusing q v, hands))
-  refuse_half size id p q c v hands was holds posts s r sz at _ = let b = (r.each_seat id v at).combines holds in let o : Client E C R = r.truth q in let d : Desk E C = r.desk in
-      let serving : d.serving ≡ Posted q c = sym b.serving ∙ posts in let has : IsTaken q d.serving = subst (IsTaken q) (sym serving) refl in let inside : q < n = r.taken_below q has in let rec = (r.each_client q inside).phase in
+  refuse_half size id p q c v hands was holds posts s r sz at _ = let b = (r.each_seat id v at).combines holds in let o : Client E C R = r.world.truth q in let d : Desk E C = r.world.desk in
+      let serving : d.serving ≡ Posted q c = sym b.serving ∙ posts in let has : IsTaken q d.serving = subst (IsTaken q) (sym serving) refl in let inside : q < n = r.sound.taken_below q has in let rec = (r.stored.each_client q inside).phase in
       let f : o.phase ≡ taken c = phase_taken q c o.phase d.serving serving rec.taken_is in
-      let old : IsInPhase own replies d q (record o { phase = taken c }) = subst (λ (z : Phase C R). IsInPhase own replies d q (record o { phase = z })) f rec in (
+      let old : IsInPhase served d q (record o { phase = taken c }) = subst (λ (z : Phase C R). IsInPhase served d q (record o { phase = z })) f rec in (
         refusing q v,
         gives,
         tt,
-        subst (λ (w : Work E C R). Serves history legal own replies n (set s.words (state_word q) 4) (set s.homes q (some slots.Memory)) (set s.views id w))
+        subst (λ (w : Work E C R). Serves served n (set s.words (state_word q) 4) (set s.homes q (some slots.Memory)) (set s.views id w))
             (λ i. record v { seen = sym b.seen i; before = sym b.before i; paid = sym b.paid i; serving = Nothing; passed = marks_of q v.heard ++ v.passed; past = if is_own q v.stage then true else v.past })
-            (holder_step history legal own replies n s.words s.homes s.views r id p q 4 (some slots.Memory) v (record o { phase = refused c }) (record d { serving = Nothing }) (marks_of q v.heard ++ v.passed) (if is_own q v.stage then true else v.past)
+            (holder_step served n s.words s.homes s.views r id p q 4 (some slots.Memory) v (record o { phase = refused c }) (record d { serving = Nothing }) (marks_of q v.heard ++ v.passed) (if is_own q v.stage then true else v.past)
             at was holds (seated s.words s.homes s.views r q (λ z. let a = ap word_of f in omega arith))
             (subst (λ (z : Phase C R). Stays (record o { phase = z }) (record o { phase = refused c })) (sym f) record { stage = in_refused R c; entered = refl; got = refl; posts = refl; begun = refl; dealt = λ _. tt; ready = λ h. absurd (omega arith) })
             refl refl record { calls = old.calls; even = old.even; replies_are = old.replies_are; settled = old.settled; was_parked = tt; taken_is = λ z. z }
             (λ i _ other h. record {
               calls = h.calls;
               even = h.even;
-              replies_are = same_replies own replies d Nothing i (r.truth i).got (r.truth i).phase h.replies_are;
-              settled = same_settled own replies d Nothing i (r.truth i).phase h.settled;
+              replies_are = same_replies served d Nothing i (r.world.truth i).got (r.world.truth i).phase h.replies_are;
+              settled = same_settled served d Nothing i (r.world.truth i).phase h.settled;
               was_parked = h.was_parked;
-              taken_is = untaken i q (r.truth i).phase d.serving has other h.taken_is;
+              taken_is = untaken i q (r.world.truth i).phase d.serving has other h.taken_is;
             })
-            (all_of d.hist) r.is_legal (λ i z. absurd z) (λ a j m. ⊎_elim (λ (h : (a ≡ q) × IsMarked a j v.heard). inr (h.0, h.1, tt)) (λ h. inl h) (marks_are q a j v.heard v.passed m))
+            (all_of d.hist) r.sound.is_legal (λ i z. absurd z) (λ a j m. ⊎_elim (λ (h : (a ≡ q) × IsMarked a j v.heard). inr (h.0, h.1, tt)) (λ h. inl h) (marks_are q a j v.heard v.passed m))
             (λ h. ⊎_elim (λ g. inl g) (λ g. inr (g, tt)) (past_is p q v.stage v.past was h))),
         refl,
       )
 
-  pub refuse : KeptByRefuse history legal own replies n
-  refuse size id p q c me was holds posts hands = lift n (Serves history legal own replies n) size id (state_word q) (λ _. 4) me (λ _ m'. m' ≡ (refusing q me.0.work, rest me.1)) (call_refused (step size (state_word q) 4 0 none) me)
+  pub refuse : KeptByRefuse served n
+  refuse size id p q c me took hands = lift n (Serves served n) size id (state_word q) (λ _. 4) me (λ _ m'. m' ≡ (refusing q me.0.work, rest me.1)) (λ k m'. call_refused me m' (state_word q))
       (λ u. state_from_head q (sym u)) (λ r u. state_from_next q r (sym u))
-      (subst (λ (z : List (ℕ × Slot C R S)). Allows Half size id (me.0.work, z) (state_word q) (λ _. 4) (λ _ m'. m' ≡ (refusing q me.0.work, rest me.1))) (sym hands) (refuse_half size id p q c me.0.work (rest me.1) was holds posts))
-      (λ _ w h u. (q, refl, ap (λ (z : Work E C R × List (ℕ × Slot C R S)). (with_work z.0 me.0, z.1)) u))
+      (subst (λ (z : List (ℕ × Slot C R S)). Allows Half size id (me.0.work, z) (state_word q) (λ _. 4) (λ _ m'. m' ≡ (refusing q me.0.work, rest me.1))) (sym hands) (refuse_half size id p q c me.0.work (rest me.1) took.client took.holds took.serves))
+      (λ _ w h u. record { client = q; at = refl; left = ap (λ (z : Work E C R × List (ℕ × Slot C R S)). (with_work z.0 me.0, z.1)) u })
 
   -- who is owed a reply is parked
-  owed_parked : (d : Desk E C) (q : ℕ) (p : Phase C R) → is_nothing d.serving → ¬ (replies d.hist q ≡ replies d.before q) → ¬ IsOn q d.paid → IsSettled own replies d q p → IsTakenIn q d.serving p → (c : C) × (p ≡ parked c)
+  owed_parked : (d : Desk E C) (q : ℕ) (p : Phase C R) → is_nothing d.serving → ¬ (replies d.hist q ≡ replies d.before q) → ¬ IsOn q d.paid → IsSettled served d q p → IsTakenIn q d.serving p → (c : C) × (p ≡ parked c)
   owed_parked d q away clear owed off h t = absurd (⊎_elim owed off h)
   owed_parked d q free clear owed off h t = absurd (⊎_elim owed off h)
   owed_parked d q (posted c) clear owed off h t = absurd (⊎_elim owed off h)
@@ -151,27 +154,27 @@ module _ {E C R S : Type 0} (history : S → List E) (legal : List E → Type 0)
   owed_parked d q (refused c) clear owed off h t = absurd (⊎_elim owed off h)
   owed_parked d q (replied c x) clear owed off h t = absurd (⊎_elim owed off h)
 
-  reply_owed : (d : Desk E C) (q : ℕ) (got : List R) (c : C) → ¬ (replies d.hist q ≡ replies d.before q) → HasReplies own replies d q got (parked c) → (x : R) × (replies d.hist q ≡ got ++ x ∷ [])
+  reply_owed : (d : Desk E C) (q : ℕ) (got : List R) (c : C) → ¬ (replies d.hist q ≡ replies d.before q) → HasReplies served d q got (parked c) → (x : R) × (replies d.hist q ≡ got ++ x ∷ [])
   reply_owed d q got c owed h = ⊎_elim (λ same. absurd (owed (same ∙ sym h.0))) (λ g. (g.0, g.1)) h.1
 
-  pub resume : KeptByResume history legal own replies n
-  resume size id p q me was holds nothing inside owed off = let v : Work E C R = me.0.work in let told : ℕ → Me (Slot C R S) (View (Work E C R)) → Type 0 = call_resumed (step size (state_word q) 3 2 none) me in
+  pub resume : KeptByResume served n
+  resume size id p q me ready inside owed off = let v : Work E C R = me.0.work in let told : ℕ → Me (Slot C R S) (View (Work E C R)) → Type 0 = λ k m'. Resumes me m' (state_word q) k in
       let half : ℕ → Me (Slot C R S) (Work E C R) → Type 0 = λ k m'. told k (with_work m'.0 me.0, m'.1) in
-      lift n (Serves history legal own replies n) size id (state_word q) (λ k. either (eqb k 3) 2 k) me half told (λ e. state_from_head q (sym e)) (λ r e. state_from_next q r (sym e))
-      (λ s r sz at _. let found : ℕ = get_or s.words (state_word q) 0 in let b = (r.each_seat id v at).combines holds in let o : Client E C R = r.truth q in let d : Desk E C = r.desk in let rec = r.each_client q inside in
+      lift n (Serves served n) size id (state_word q) (λ k. either (eqb k 3) 2 k) me half told (λ e. state_from_head q (sym e)) (λ r e. state_from_next q r (sym e))
+      (λ s r sz at _. let found : ℕ = get_or s.words (state_word q) 0 in let b = (r.each_seat id v at).combines ready.holds in let o : Client E C R = r.world.truth q in let d : Desk E C = r.world.desk in let rec = r.stored.each_client q inside in
       let F : ℕ → Type 0 = λ x. (w : Work E C R) × (a : Act (Slot C R S)) × Valid s.homes me.1 a × Half (stepped s (state_word q) x id me.1 w a) × half found (w, carried_after me.1 a) in
-      let unserved : is_nothing d.serving = subst is_nothing (sym nothing ∙ b.serving) tt in
+      let unserved : is_nothing d.serving = subst is_nothing (sym ready.serves ∙ b.serving) tt in
       let owed' : ¬ (replies d.hist q ≡ replies d.before q) = λ e. owed (ap (λ (h : List E). replies h q) b.seen ∙ (e ∙ ap (λ (h : List E). replies h q) (sym b.before))) in
       let y = owed_parked d q o.phase unserved owed' (λ on. off (subst (IsOn q) (sym b.paid) on)) rec.phase.settled rec.phase.taken_is in let c : C = y.0 in let e : o.phase ≡ parked c = y.1 in
-      let old : IsInPhase own replies d q (record o { phase = parked c }) = subst (λ (z : Phase C R). IsInPhase own replies d q (record o { phase = z })) e rec.phase in
+      let old : IsInPhase served d q (record o { phase = parked c }) = subst (λ (z : Phase C R). IsInPhase served d q (record o { phase = z })) e rec.phase in
       let three : found ≡ 3 = rec.word ∙ ap word_of e in
       exchanged found 3 2 F
       (λ _. (
         resuming q c v,
         takes q slots.Empty,
         rec.home ∙ ap (λ (z : Phase C R). some (home_of z)) e,
-        subst (λ (w : Work E C R). Serves history legal own replies n (set s.words (state_word q) 2) (set s.homes q none) (set s.views id w)) (λ i. record v { seen = sym b.seen i; before = sym b.before i; paid = sym b.paid i; serving = Parked q c })
-            (holder_step history legal own replies n s.words s.homes s.views r id p q 2 none v (record o { phase = resumed c }) (record d { serving = Parked q c }) v.passed v.past at was holds
+        subst (λ (w : Work E C R). Serves served n (set s.words (state_word q) 2) (set s.homes q none) (set s.views id w)) (λ i. record v { seen = sym b.seen i; before = sym b.before i; paid = sym b.paid i; serving = Parked q c })
+            (holder_step served n s.words s.homes s.views r id p q 2 none v (record o { phase = resumed c }) (record d { serving = Parked q c }) v.passed v.past at ready.client ready.holds
             (seated s.words s.homes s.views r q (λ z. let a = ap word_of e in omega arith))
             (subst (λ (z : Phase C R). Stays (record o { phase = z }) (record o { phase = resumed c })) (sym e) record { stage = in_resumed R c; entered = refl; got = refl; posts = refl; begun = refl; dealt = λ h. h; ready = λ h. absurd (omega arith) })
             refl refl record {
@@ -185,19 +188,19 @@ module _ {E C R S : Type 0} (history : S → List E) (legal : List E → Type 0)
             (λ i _ other h. record {
               calls = h.calls;
               even = h.even;
-              replies_are = same_replies own replies d (Parked q c) i (r.truth i).got (r.truth i).phase h.replies_are;
-              settled = same_settled own replies d (Parked q c) i (r.truth i).phase h.settled;
+              replies_are = same_replies served d (Parked q c) i (r.world.truth i).got (r.world.truth i).phase h.replies_are;
+              settled = same_settled served d (Parked q c) i (r.world.truth i).phase h.settled;
               was_parked = h.was_parked;
-              taken_is = retaken i (r.truth i).phase d.serving (Parked q c) unserved other h.taken_is;
+              taken_is = retaken i (r.world.truth i).phase d.serving (Parked q c) unserved other h.taken_is;
             })
-            (all_of d.hist) r.is_legal (λ i h. subst (λ (z : ℕ). z < n) (sym h) inside) (λ _ _ m. inl m) (λ h. inl h)),
-        (three, q, c, refl, refl),
+            (all_of d.hist) r.sound.is_legal (λ i h. subst (λ (z : ℕ). z < n) (sym h) inside) (λ _ _ m. inl m) (λ h. inl h)),
+        record { client = q; call = c; parked = three; at = refl; left = refl },
       ))
       (λ miss. absurd (miss three)))
       (λ _ _ _ h. h)
 
   -- one client more is handed its reply
-  more_paid : (d : Desk E C) (q i : ℕ) (got : List R) (p : Phase C R) → i ≢ q → HasReplies own replies d i got p → HasReplies own replies (record d { paid = q ∷ d.paid; serving = Nothing }) i got p
+  more_paid : (d : Desk E C) (q i : ℕ) (got : List R) (p : Phase C R) → i ≢ q → HasReplies served d i got p → HasReplies served (record d { paid = q ∷ d.paid; serving = Nothing }) i got p
   more_paid d q i got away other h = h
   more_paid d q i got free other h = h
   more_paid d q i got (posted c) other h = h
@@ -207,7 +210,7 @@ module _ {E C R S : Type 0} (history : S → List E) (legal : List E → Type 0)
   more_paid d q i got (refused c) other h = h
   more_paid d q i got (replied c x) other h = h
 
-  more_settled : (d : Desk E C) (q i : ℕ) (p : Phase C R) → IsSettled own replies d i p → IsSettled own replies (record d { paid = q ∷ d.paid; serving = Nothing }) i p
+  more_settled : (d : Desk E C) (q i : ℕ) (p : Phase C R) → IsSettled served d i p → IsSettled served (record d { paid = q ∷ d.paid; serving = Nothing }) i p
   more_settled d q i away h = ⊎_elim (λ e. inl e) (λ on. inr (inr on)) h
   more_settled d q i free h = ⊎_elim (λ e. inl e) (λ on. inr (inr on)) h
   more_settled d q i (posted c) h = ⊎_elim (λ e. inl e) (λ on. inr (inr on)) h
@@ -219,32 +222,32 @@ module _ {E C R S : Type 0} (history : S → List E) (legal : List E → Type 0)
 
   hand_half : (size id p q : ℕ) (c : C) (front : List R) (y : R) (v : Work E C R) (hands : List (ℕ × Slot C R S)) → IsClient p v.stage → v.holds ≡ true → v.serving ≡ Parked q c → replies v.seen q ≡ front ++ y ∷ []
       → Allows Half size id (v, (q, slots.Reply y) ∷ hands) (state_word q) (λ _. 4) (λ _ m'. m' ≡ (paying q v, hands))
-  hand_half size id p q c front y v hands was holds parks last s r sz at _ = let b = (r.each_seat id v at).combines holds in let o : Client E C R = r.truth q in let d : Desk E C = r.desk in
-      let serving : d.serving ≡ Parked q c = sym b.serving ∙ parks in let has : IsTaken q d.serving = subst (IsTaken q) (sym serving) refl in let inside : q < n = r.taken_below q has in let rec = (r.each_client q inside).phase in
+  hand_half size id p q c front y v hands was holds parks last s r sz at _ = let b = (r.each_seat id v at).combines holds in let o : Client E C R = r.world.truth q in let d : Desk E C = r.world.desk in
+      let serving : d.serving ≡ Parked q c = sym b.serving ∙ parks in let has : IsTaken q d.serving = subst (IsTaken q) (sym serving) refl in let inside : q < n = r.sound.taken_below q has in let rec = (r.stored.each_client q inside).phase in
       let f : o.phase ≡ resumed c = phase_resumed q c o.phase d.serving serving rec.taken_is in
-      let old : IsInPhase own replies d q (record o { phase = resumed c }) = subst (λ (z : Phase C R). IsInPhase own replies d q (record o { phase = z })) f rec in let last' : replies d.hist q ≡ front ++ y ∷ [] = subst (λ (h : List E). replies h q ≡ front ++ y ∷ []) b.seen last in (
+      let old : IsInPhase served d q (record o { phase = resumed c }) = subst (λ (z : Phase C R). IsInPhase served d q (record o { phase = z })) f rec in let last' : replies d.hist q ≡ front ++ y ∷ [] = subst (λ (h : List E). replies h q ≡ front ++ y ∷ []) b.seen last in (
         paying q v,
         gives,
         tt,
-        subst (λ (w : Work E C R). Serves history legal own replies n (set s.words (state_word q) 4) (set s.homes q (some (slots.Reply y))) (set s.views id w)) (λ i. record v { seen = sym b.seen i; before = sym b.before i; paid = q ∷ sym b.paid i; serving = Nothing })
-            (holder_step history legal own replies n s.words s.homes s.views r id p q 4 (some (slots.Reply y)) v (record o { phase = replied c y }) (record d { paid = q ∷ d.paid; serving = Nothing }) v.passed v.past at was holds
+        subst (λ (w : Work E C R). Serves served n (set s.words (state_word q) 4) (set s.homes q (some (slots.Reply y))) (set s.views id w)) (λ i. record v { seen = sym b.seen i; before = sym b.before i; paid = q ∷ sym b.paid i; serving = Nothing })
+            (holder_step served n s.words s.homes s.views r id p q 4 (some (slots.Reply y)) v (record o { phase = replied c y }) (record d { paid = q ∷ d.paid; serving = Nothing }) v.passed v.past at was holds
             (seated s.words s.homes s.views r q (λ z. let a = ap word_of f in omega arith))
             (subst (λ (z : Phase C R). Stays (record o { phase = z }) (record o { phase = replied c y })) (sym f) record { stage = in_replied R c y; entered = refl; got = refl; posts = refl; begun = refl; dealt = λ _. tt; ready = λ h. absurd (omega arith) })
             refl refl record { calls = old.calls; even = old.even; replies_are = ends_with old.replies_are.0 y o.got front (replies d.hist q) old.replies_are.1 last'; settled = inr (inl refl); was_parked = tt; taken_is = λ z. z }
             (λ i _ other h. record {
               calls = h.calls;
               even = h.even;
-              replies_are = more_paid d q i (r.truth i).got (r.truth i).phase other h.replies_are;
-              settled = more_settled d q i (r.truth i).phase h.settled;
+              replies_are = more_paid d q i (r.world.truth i).got (r.world.truth i).phase other h.replies_are;
+              settled = more_settled d q i (r.world.truth i).phase h.settled;
               was_parked = h.was_parked;
-              taken_is = untaken i q (r.truth i).phase d.serving has other h.taken_is;
+              taken_is = untaken i q (r.world.truth i).phase d.serving has other h.taken_is;
             })
-            (all_of d.hist) r.is_legal (λ i z. absurd z) (λ _ _ m. inl m) (λ h. inl h)),
+            (all_of d.hist) r.sound.is_legal (λ i z. absurd z) (λ _ _ m. inl m) (λ h. inl h)),
         refl,
       )
 
-  pub hand : KeptByHand history legal own replies n
-  hand size id p q c front y me was holds parks last hands = lift n (Serves history legal own replies n) size id (state_word q) (λ _. 4) me (λ _ m'. m' ≡ (paying q me.0.work, rest me.1)) (reply_handed (step size (state_word q) 4 0 none) me)
+  pub hand : KeptByHand served n
+  hand size id p q c front y me took last hands = lift n (Serves served n) size id (state_word q) (λ _. 4) me (λ _ m'. m' ≡ (paying q me.0.work, rest me.1)) (λ k m'. reply_handed me m' (state_word q))
       (λ u. state_from_head q (sym u)) (λ r u. state_from_next q r (sym u))
-      (subst (λ (z : List (ℕ × Slot C R S)). Allows Half size id (me.0.work, z) (state_word q) (λ _. 4) (λ _ m'. m' ≡ (paying q me.0.work, rest me.1))) (sym hands) (hand_half size id p q c front y me.0.work (rest me.1) was holds parks last))
-      (λ _ w h u. (q, refl, ap (λ (z : Work E C R × List (ℕ × Slot C R S)). (with_work z.0 me.0, z.1)) u))
+      (subst (λ (z : List (ℕ × Slot C R S)). Allows Half size id (me.0.work, z) (state_word q) (λ _. 4) (λ _ m'. m' ≡ (paying q me.0.work, rest me.1))) (sym hands) (hand_half size id p q c front y me.0.work (rest me.1) took.client took.holds took.serves last))
+      (λ _ w h u. record { client = q; at = refl; left = ap (λ (z : Work E C R × List (ℕ × Slot C R S)). (with_work z.0 me.0, z.1)) u })

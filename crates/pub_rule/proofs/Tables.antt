@@ -12,7 +12,7 @@ use Rattle.pub_rule.specs.declared.walk.Role.TheVariants.{Maker, Joined}
 use Rattle.pub_rule.specs.Words.{head_word, next_word}
 use Rattle.pub_rule.specs.Lists.{IsOn, IsListOf, link_to, after}
 use Rattle.pub_rule.specs.Walk.{Walks}
-use Rattle.pub_rule.specs.Rule.{IsListWord, walk_of, work_of, IsDeaf, IsDeep, LetsSplit, Ruled}
+use Rattle.pub_rule.specs.Rule.{IsListWord, walk_of, work_of, IsIndependent, HasSlots, LetsSplit, Ruled}
 use Rattle.pub_rule.specs.Steps.{Saw, client_of, made_of, with_list, with_stored, failed, joined, with_walk, head_exchanged, token, learned}
 use Rattle.pub_rule.specs.Laws.{KeptBySplitClient, KeptBySplitToken, KeptByMerge, KeptByStoreNext, KeptByLoadHead, KeptByExchangeHead, KeptByLoadNext}
 use Rattle.pub_rule.proofs.Numbers.{next_from_next}
@@ -24,7 +24,7 @@ module _ {T W : Type 0} (n : ℕ) (serves : List ℕ → List (Option T) → Lis
   work_stays : (views : List (View W)) (id : ℕ) (v w : View W) → get_elem? views id ≡ some v → w.work ≡ v.work → map work_of (set views id w) ≡ map work_of views
   work_stays views id v w at same = map-set work_of views id w ∙ (ap (set (map work_of views) id) same ∙ set_again (map work_of views) id v.work (at_map work_of views id v at))
 
-  module _ (deaf : IsDeaf n serves) (deep : IsDeep n serves) where
+  module _ (deaf : IsIndependent n serves) (deep : HasSlots n serves) where
     counted : (s : State T (View W)) (slots : ℕ) → Ruled n serves s → length s.homes ≡ slots → n ≡ slots - 1
     counted s slots r size = let d = deep s.words s.homes (map work_of s.views) r.works in omega arith
 
@@ -43,12 +43,12 @@ module _ {T W : Type 0} (n : ℕ) (serves : List ℕ → List (Option T) → Lis
 
     pub load_head : KeptByLoadHead n serves
     load_head slots id me s r size at _ = let k = r.walks in let v : Walk = me.0.walk in let vs : List Walk = map walk_of s.views in let there = at_map walk_of s.views id me.0 at in (
-      with_walk (with_list k.list v) me.0,
+      with_walk (with_list k.roll.list v) me.0,
       keeps,
       tt,
-      reads s head_word id me.0 (with_walk (with_list k.list v) me.0) r at refl (inl refl)
-          (looks n s.words vs k id v k.list v.known v.tries there (ends_with_all k.list) (tried_still n s.words vs k id v there) (k.each_seat id v there).told),
-      (k.list, refl, k.head, subst (λ (z : ℕ). Saw z v (with_list k.list v)) (counted s slots r size) (sees n s.words vs k id v.tries v there (tried_still n s.words vs k id v there))),
+      reads s head_word id me.0 (with_walk (with_list k.roll.list v) me.0) r at refl (inl refl)
+          (looks n s.words vs k id v k.roll.list v.known v.tries there (ends_with_all k.roll.list) (tried_still n s.words vs k id v there) (k.each_seat id v there).told),
+      record { list = k.roll.list; left = refl; link = k.head; saw = subst (λ (z : ℕ). Saw z v (with_list k.roll.list v)) (counted s slots r size) (sees n s.words vs k id v.tries v there (tried_still n s.words vs k id v there)) },
     )
 
     pub store_next : KeptByStoreNext n serves
@@ -71,22 +71,22 @@ module _ {T W : Type 0} (n : ℕ) (serves : List ℕ → List (Option T) → Lis
           tt,
           writes s head_word new id me.0 (with_walk (joined v) me.0) r at refl (inl refl)
               (enters n s.words vs k id c new v (joined v) there is (stored ∙ sym loaded) same number (ap (λ (z : ℕ). Joined z) itself) (ap (λ (z : ℕ). z ∷ v.list) itself) refl refl),
-          (
-            (λ _. (
-              refl,
-              subst (λ (z : ℕ). Saw z v (joined v)) (counted s slots r size)
-                  (sees_itself n s.words vs k id c v (joined v) there is same (ap (λ (z : ℕ). Joined z) itself) (ap (λ (z : ℕ). z ∷ v.list) itself) refl),
-            )),
-            λ other. absurd (other hit),
-          ),
+          record {
+            hit = λ _. record {
+              left = refl;
+              saw = subst (λ (z : ℕ). Saw z v (joined v)) (counted s slots r size)
+                  (sees_itself n s.words vs k id c v (joined v) there is same (ap (λ (z : ℕ). Joined z) itself) (ap (λ (z : ℕ). z ∷ v.list) itself) refl);
+            };
+            miss = λ other. absurd (other hit);
+          },
         ))
         (λ miss. let more = tried_once_more n s.words vs k id v there (λ e. miss (e ∙ loaded)) in (
-          with_walk (failed k.list v) me.0,
+          with_walk (failed k.roll.list v) me.0,
           keeps,
           tt,
-          reads s head_word id me.0 (with_walk (failed k.list v) me.0) r at refl (inl refl)
-              (looks n s.words vs k id v k.list v.known (v.tries + 1) there (ends_with_all k.list) more (k.each_seat id v there).told),
-          ((λ hit. absurd (miss hit)), λ _. (k.list, refl, k.head, subst (λ (z : ℕ). Saw z v (failed k.list v)) (counted s slots r size) (sees n s.words vs k id (v.tries + 1) v there more))),
+          reads s head_word id me.0 (with_walk (failed k.roll.list v) me.0) r at refl (inl refl)
+              (looks n s.words vs k id v k.roll.list v.known (v.tries + 1) there (ends_with_all k.roll.list) more (k.each_seat id v there).told),
+          record { hit = λ hit. absurd (miss hit); miss = λ _. record { list = k.roll.list; left = refl; link = k.head; saw = subst (λ (z : ℕ). Saw z v (failed k.roll.list v)) (counted s slots r size) (sees n s.words vs k id (v.tries + 1) v there more) } },
         ))
 
     pub load_next : KeptByLoadNext n serves
@@ -97,15 +97,15 @@ module _ {T W : Type 0} (n : ℕ) (serves : List ℕ → List (Option T) → Lis
           tt,
           reads s (next_word c) id me.0 (with_walk (with_list b.list v) me.0) r at refl (inr (c, inside, refl))
               (looks n s.words vs k id v b.list v.known v.tries there b.loaded b.tried (k.each_seat id v there).told),
-          λ d e _. let same : c ≡ d = next_from_next c d e in (
-            b.list,
-            refl,
-            b.link ∙ ap (λ (z : ℕ). link_to (after z b.list)) same,
-            subst (λ (z : ℕ). IsOn z b.list) same b.on,
-            (λ h. b.same (subst (λ (z : ℕ). IsOn z v.list) (sym same) h)),
-            subst (λ (z : ℕ). IsListOf z b.list) (counted s slots r size) b.clients,
-            b.grown,
-          ),
+          λ d e _. let same : c ≡ d = next_from_next c d e in record {
+            list = b.list;
+            left = refl;
+            link = b.link ∙ ap (λ (z : ℕ). link_to (after z b.list)) same;
+            on = subst (λ (z : ℕ). IsOn z b.list) same b.on;
+            same = λ h. b.same (subst (λ (z : ℕ). IsOn z v.list) (sym same) h);
+            clients = subst (λ (z : ℕ). IsListOf z b.list) (counted s slots r size) b.clients;
+            grown = b.grown;
+          },
         )
 
   -- a split, of which the list's half is kept
@@ -125,7 +125,7 @@ module _ {T W : Type 0} (n : ℕ) (serves : List ℕ → List (Option T) → Lis
   pub split_token : KeptBySplitToken n serves
   split_token id c v left right is l t lets s r at = let k = r.walks in let vs : List Walk = map walk_of s.views in let there = at_map walk_of s.views id v at in
       parts s id v left right r at lets (subst (λ (z : List Walk × Walk). Walks n s.words (z.0 ++ z.1 ∷ [])) (λ i. (sym (ap (set vs id) l ∙ set_again vs id v.walk there) i, sym t i))
-      (tells n s.words vs k (token v.walk) refl refl refl (λ d h. ⊎_elim (λ e. subst (λ (z : ℕ). IsOn z k.list) (sym (e ∙ ap client_of is)) (is_on n s.words vs k id c v.walk there is)) (λ u. absurd u) h)))
+      (tells n s.words vs k (token v.walk) refl refl refl (λ d h. ⊎_elim (λ e. subst (λ (z : ℕ). IsOn z k.roll.list) (sym (e ∙ ap client_of is)) (is_on n s.words vs k id c v.walk there is)) (λ u. absurd u) h)))
 
   pub merge_token : KeptByMerge n serves
   merge_token id other v w both gone is b g lets s r at apart there = let k = r.walks in let vs : List Walk = map walk_of s.views in let mine = at_map walk_of s.views id v at in

@@ -1,4 +1,4 @@
-pub mod Deaf
+pub mod Independent
 pub mod Laws
 pub mod Lists
 pub mod Rule
@@ -9,6 +9,5 @@ pub mod Words
 pub mod Work
 pub mod WorkClosing
 pub mod WorkLaws
-pub mod WorkPlays
 pub mod WorkSplits
 pub mod WorkSteps

@@ -29,11 +29,6 @@ abbrev pub head_of : List ℕ → Option ℕ
 head_of [] = None
 head_of (c ∷ _) = Some c
 
--- the part of the list from client c on
-abbrev pub from : ℕ → List ℕ → List ℕ
-from c [] = []
-from c (x ∷ xs) = if x == c then x ∷ xs else from c xs
-
 -- the part of the list behind client c
 abbrev pub after : ℕ → List ℕ → List ℕ
 after c [] = []

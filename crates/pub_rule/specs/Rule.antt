@@ -1,8 +1,8 @@
 -- The rule of the table.
-use Rattle.std.specs.Prelude.{◌≡◌, ◌⊎◌, ℕ, ◌+◌, ◌<◌, List, [], ◌∷◌, ◌++◌, map, length, slice_set, replicate}
+use Rattle.std.specs.Prelude.{◌≡◌, ◌≢◌, ◌⊎◌, ℕ, ◌+◌, ◌<◌, List, [], ◌∷◌, ◌++◌, map, length, slice_set, replicate}
 use mathlib.Core.Option.{Option, some}
 use lib.ListN.{get_elem?}
-use Rattle.atomic_table.specs.Table.{State}
+use Rattle.atomic_table.specs.Table.{State, Me, rest}
 use Rattle.pub_rule.specs.declared.walk.Walk.{Walk}
 use Rattle.pub_rule.specs.declared.walk.View.{View}
 use Rattle.pub_rule.specs.declared.walk.Role.{Role}
@@ -23,16 +23,39 @@ walk_of v = v.walk
 abbrev pub work_of : {W : Type 0} → View W → W
 work_of v = v.work
 
+-- A seat of the kit's table is its view and the slots in its hand, each with its number, the last that came in front.
+module _ {T W : Type 0} where
+  abbrev pub view : Me T (View W) → View W
+  view m = m.0
+
+  abbrev pub walk : Me T (View W) → Walk
+  walk m = (view m).walk
+
+  abbrev pub work : Me T (View W) → W
+  work m = (view m).work
+
+  abbrev pub hand : Me T (View W) → List (ℕ × T)
+  hand m = m.1
+
+  -- the slot r, with x in it, is in front
+  abbrev pub HasInFront : ℕ → T → Me T (View W) → Type 0
+  HasInFront r x m = hand m ≡ (r, x) ∷ rest (hand m)
+
+-- what a step tells by the number k that it found: one thing where that is x, another where it isn't
+pub record ByWord (x k : ℕ) (Hit Miss : Type 0) : Type 0 where
+  pub hit : k ≡ x → Hit
+  pub miss : k ≢ x → Miss
+
 module _ {T W : Type 0} where
   module _ (n : ℕ) (serves : List ℕ → List (Option T) → List W → Type 0) where
     -- what the words of the list are doesn't matter to it
-    abbrev pub IsDeaf : Type 0
-    IsDeaf = (words : List ℕ) (homes : List (Option T)) (works : List W) (i x : ℕ) → IsListWord n i
+    abbrev pub IsIndependent : Type 0
+    IsIndependent = (words : List ℕ) (homes : List (Option T)) (works : List W) (i x : ℕ) → IsListWord n i
         → serves words homes works → serves (slice_set words i x) homes works
 
     -- there is a slot for each client and one more
-    abbrev pub IsDeep : Type 0
-    IsDeep = (words : List ℕ) (homes : List (Option T)) (works : List W) → serves words homes works
+    abbrev pub HasSlots : Type 0
+    HasSlots = (words : List ℕ) (homes : List (Option T)) (works : List W) → serves words homes works
         → length homes ≡ n + 1
 
     -- it lets a seat be split
@@ -60,8 +83,6 @@ slots_of n state = replicate n slots.Empty ++ slots.State state ∷ []
 abbrev pub blank : Role → Walk
 blank role = record { role = role; list = []; known = []; stored = 0; tries = 0 }
 
-abbrev pub opening_walk : Walk
-opening_walk = blank (Maker 0)
-
+-- the first seat's view at the start
 abbrev pub opening_view : {W : Type 0} → W → View W
-opening_view w = record { walk = opening_walk; work = w }
+opening_view w = record { walk = blank (Maker 0); work = w }

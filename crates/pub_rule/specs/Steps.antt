@@ -1,6 +1,6 @@
--- What each kind of step tells the seat that takes it. A seat before the step is m, with its view m.0; the step found
--- the number k and left the seat m'.
-use Rattle.std.specs.Prelude.{◌≡◌, ◌≢◌, ◌⊎◌, ℕ, ◌+◌, ◌-◌, ◌≤◌, List, [], ◌∷◌, ◌++◌, length}
+-- What each kind of step on the list tells the seat that takes it. The seat was m before the step st, which found the
+-- number k in its word, and is m' after it.
+use Rattle.std.specs.Prelude.{◌≡◌, ◌⊎◌, ℕ, ◌+◌, ◌-◌, ◌≤◌, List, [], ◌∷◌, ◌++◌, length}
 use Rattle.atomic_table.specs.Table.{Step, Me}
 use Rattle.pub_rule.specs.declared.walk.Walk.{Walk}
 use Rattle.pub_rule.specs.declared.walk.View.{View}
@@ -8,7 +8,7 @@ use Rattle.pub_rule.specs.declared.walk.Role.{Role}
 use Rattle.pub_rule.specs.declared.walk.Role.TheVariants.{Spent, Maker, Fresh, Joined, Token}
 use Rattle.pub_rule.specs.Words.{next_word}
 use Rattle.pub_rule.specs.Lists.{IsOn, IsListOf, EndsWith, link_to, after}
-use Rattle.pub_rule.specs.Rule.{blank}
+use Rattle.pub_rule.specs.Rule.{blank, view, walk, hand, ByWord}
 
 -- the list of the view w was seen among n clients, and v was the view before
 pub record Saw (n : ℕ) (v w : Walk) : Type 0 where
@@ -50,32 +50,51 @@ joined v = record v { role = Joined (client_of v.role); list = client_of v.role 
 abbrev pub with_walk : {W : Type 0} → Walk → View W → View W
 with_walk w v = record v { walk = w }
 
--- What each kind of step on the list tells: how the seat is left, and which list its holder then knows.
+-- the seat knows this of the list, and has what it had in its hand
+abbrev pub walks_on : {T W : Type 0} → Walk → Me T (View W) → Me T (View W)
+walks_on w m = (with_walk w (view m), hand m)
+
+-- How a seat m of a list of n clients is left by a step that found the word k, and which list its holder then knows.
+module _ {T W : Type 0} (m m' : Me T (View W)) (n : ℕ) where
+  -- the head led to this list, which the seat then has, and all that it knew is true of it
+  pub record Loads (k : ℕ) (after_load : List ℕ → Walk → Walk) : Type 0 where
+    pub list : List ℕ
+    pub left : m' ≡ walks_on (after_load list (walk m)) m
+    pub link : k ≡ link_to list
+    pub saw : Saw n (walk m) (after_load list (walk m))
+
+  -- the client stands at the head, before the list that it loaded
+  pub record EntersList : Type 0 where
+    pub left : m' ≡ walks_on (joined (walk m)) m
+    pub saw : Saw n (walk m) (joined (walk m))
+
+  -- the next word of client c led to the rest of the list: the list that was loaded, or else that from c on is seen
+  pub record LoadsFrom (k c : ℕ) : Type 0 where
+    pub list : List ℕ
+    pub left : m' ≡ walks_on (with_list list (walk m)) m
+    pub link : k ≡ link_to (after c list)
+    pub on : IsOn c list
+    pub same : IsOn c (walk m).list → list ≡ (walk m).list
+    pub clients : IsListOf n list
+    pub grown : EndsWith list (walk m).list
+
+-- What each kind of step on the list tells.
 module _ {T W : Type 0} (st : Step T) (m : Me T (View W)) (k : ℕ) (m' : Me T (View W)) where
   -- load head
   abbrev pub head_loaded : Type 0
-  head_loaded = (list : List ℕ) × (m' ≡ (with_walk (with_list list m.0.walk) m.0, m.1)) × (k ≡ link_to list)
-      × Saw (st.slots - 1) m.0.walk (with_list list m.0.walk)
+  head_loaded = Loads m m' (st.slots - 1) k with_list
 
   -- store next
   abbrev pub next_stored : Type 0
-  next_stored = m' ≡ (with_walk (with_stored st.first m.0.walk) m.0, m.1)
+  next_stored = m' ≡ walks_on (with_stored st.first (walk m)) m
 
-  -- exchange head
+  -- exchange head: the client joined, or the head was another one
   abbrev pub head_exchanged : Type 0
-  head_exchanged =
-      (k ≡ st.first → (m' ≡ (with_walk (joined m.0.walk) m.0, m.1)) × Saw (st.slots - 1) m.0.walk (joined m.0.walk))
-      × (k ≢ st.first → (list : List ℕ) × (m' ≡ (with_walk (failed list m.0.walk) m.0, m.1)) × (k ≡ link_to list)
-      × Saw (st.slots - 1) m.0.walk (failed list m.0.walk))
+  head_exchanged = ByWord st.first k (EntersList m m' (st.slots - 1)) (Loads m m' (st.slots - 1) k failed)
 
-  -- load next, of a client c that is known to have joined: on the list that was loaded, or else the list from c on is
-  -- seen
+  -- load next, of a client that is known to have joined
   abbrev pub next_loaded : Type 0
-  next_loaded =
-      (c : ℕ) → st.word ≡ next_word c → IsKnown c m.0.walk
-      → (list : List ℕ) × (m' ≡ (with_walk (with_list list m.0.walk) m.0, m.1)) × (k ≡ link_to (after c list))
-      × IsOn c list × (IsOn c m.0.walk.list → list ≡ m.0.walk.list) × IsListOf (st.slots - 1) list
-      × EndsWith list m.0.walk.list
+  next_loaded = (c : ℕ) → st.word ≡ next_word c → IsKnown c (walk m) → LoadsFrom m m' (st.slots - 1) k c
 
 -- split: the first seat makes the next client's
 abbrev pub next_maker : Walk → Walk

@@ -8,6 +8,12 @@ use Rattle.pub_rule.specs.declared.walk.Role.TheVariants.{Spent, Maker, Fresh, J
 use Rattle.pub_rule.specs.Words.{head_word, next_word, word_count}
 use Rattle.pub_rule.specs.Lists.{IsOn, Distinct, EndsWith, link_to}
 
+-- Who has joined: the clients of the list, from the head on; and how many clients have a seat, and the seat of each.
+pub record Roll : Type 0 where
+  pub list : List ℕ
+  pub made : ℕ
+  pub seat : ℕ → ℕ
+
 -- the clients of the list, each made, and each client's next word leads to the rest
 abbrev pub Linked : ℕ → List ℕ → List ℕ → Type 0
 Linked made words [] = Unit {0}
@@ -25,34 +31,30 @@ abbrev pub Stands : List ℕ → List Walk → ℕ → ℕ → Type 0
 Stands list views r j = (v : Walk) × (get_elem? views j ≡ some v) × IsOnByRole r list v.role
 
 -- what the role of the seat j tells, if its next word was last found or made to be `stored`
-abbrev pub IsRole : ℕ → (ℕ → ℕ) → List ℕ → ℕ → ℕ → Role → Type 0
-IsRole made seat words j stored (Maker k) = (j ≡ 0) × (k ≡ made)
-IsRole made seat words j stored (Fresh c) = (c < made) × (seat c ≡ j) × (slice_index words (next_word c) ≡ stored)
-IsRole made seat words j stored (Joined c) = (c < made) × (seat c ≡ j)
-IsRole made seat words j stored _ = Unit {0}
+abbrev pub IsRole : Roll → List ℕ → ℕ → ℕ → Role → Type 0
+IsRole roll words j stored (Maker k) = (j ≡ 0) × (k ≡ roll.made)
+IsRole roll words j stored (Fresh c) =
+    (c < roll.made) × (roll.seat c ≡ j) × (slice_index words (next_word c) ≡ stored)
+IsRole roll words j stored (Joined c) = (c < roll.made) × (roll.seat c ≡ j)
+IsRole roll words j stored _ = Unit {0}
 
 -- what the seat j knows is true
-pub record Knows (made : ℕ) (seat : ℕ → ℕ) (list words : List ℕ) (j : ℕ) (v : Walk) : Type 0 where
-  pub role : IsRole made seat words j v.stored v.role
+pub record Knows (roll : Roll) (words : List ℕ) (j : ℕ) (v : Walk) : Type 0 where
+  pub role : IsRole roll words j v.stored v.role
   -- the list as it was loaded is the end of the list
-  pub loaded : EndsWith list v.list
+  pub loaded : EndsWith roll.list v.list
   -- and has at least as many clients as the head was tried
   pub tried : v.tries ≤ length v.list
   -- who is known to have joined is on the list
-  pub told : (c : ℕ) → IsOn c v.known → IsOn c list
+  pub told : (c : ℕ) → IsOn c v.known → IsOn c roll.list
 
 pub record Walks (n : ℕ) (words : List ℕ) (views : List Walk) : Type 0 where
-  -- the clients that joined, from the head on
-  pub list : List ℕ
-  -- the clients below it have a seat
-  pub made : ℕ
-  -- the seat of each client
-  pub seat : ℕ → ℕ
+  pub roll : Roll
   pub wide : length words ≡ word_count n
-  pub few : made ≤ n
-  pub head : slice_index words head_word ≡ link_to list
-  pub linked : Linked made words list
-  pub distinct : Distinct list
-  pub unmade : (r : ℕ) → made ≤ r → r < n → slice_index words (next_word r) ≡ 0
-  pub each_client : (r : ℕ) → r < made → Stands list views r (seat r)
-  pub each_seat : (j : ℕ) (v : Walk) → get_elem? views j ≡ some v → Knows made seat list words j v
+  pub few : roll.made ≤ n
+  pub head : slice_index words head_word ≡ link_to roll.list
+  pub linked : Linked roll.made words roll.list
+  pub distinct : Distinct roll.list
+  pub unmade : (r : ℕ) → roll.made ≤ r → r < n → slice_index words (next_word r) ≡ 0
+  pub each_client : (r : ℕ) → r < roll.made → Stands roll.list views r (roll.seat r)
+  pub each_seat : (j : ℕ) (v : Walk) → get_elem? views j ≡ some v → Knows roll words j v

@@ -3,8 +3,10 @@
 use Rattle.std.specs.Prelude.{◌≡◌, ◌≢◌, ◌⊎◌, ℕ, true, false, ◌+◌, ◌<◌, ◌≤◌, List, [], ◌∷◌, ◌++◌, length, slice_index}
 use mathlib.Core.Option.{Option, none, some}
 use lib.ListN.{get_elem?}
+use Rattle.pub_rule.specs.declared.served.Served.{Ghosts}
 use Rattle.pub_rule.specs.declared.work.Work.{Work}
 use Rattle.pub_rule.specs.declared.work.Closed.{Closed}
+use Rattle.pub_rule.specs.declared.work.Mark.{Mark}
 use Rattle.pub_rule.specs.declared.work.Stage.{Stage}
 use Rattle.pub_rule.specs.declared.work.Stage.TheVariants.{Spent, Maker, Away, Free, Asking, Token}
 use Rattle.pub_rule.specs.declared.work.Serving.{Serving}
@@ -20,9 +22,9 @@ abbrev pub GoesOn : {E : Type 0} → List E → List E → Type 0
 GoesOn {E} h k = (more : List E) × (k ≡ h ++ more)
 
 -- the post is among those marked
-abbrev pub IsMarked : ℕ → ℕ → List (ℕ × ℕ) → Type 0
+abbrev pub IsMarked : ℕ → ℕ → List Mark → Type 0
 IsMarked r k [] = ⊥
-IsMarked r k (x ∷ xs) = ((r ≡ x.0) × (k ≡ x.1)) ⊎ IsMarked r k xs
+IsMarked r k (x ∷ xs) = ((r ≡ x.client) × (k ≡ x.post)) ⊎ IsMarked r k xs
 
 -- how far a publication record is, with its call and its reply
 pub data Phase (C R : Type 0) : Type 0 where
@@ -51,6 +53,16 @@ pub record Desk (E C : Type 0) : Type 0 where
   pub before : List E
   pub paid : List ℕ
   pub serving : Serving C
+
+-- What there is: each client, what the combiner knows, the number of clients that have a seat, those whose seats were
+-- merged since, the seat of each, and the lock: the client that combines + 1, or 0.
+pub record World (E C R : Type 0) : Type 0 where
+  pub truth : ℕ → Client E C R
+  pub desk : Desk E C
+  pub made : ℕ
+  pub done : List ℕ
+  pub seat : ℕ → ℕ
+  pub lock : ℕ
 
 abbrev pub unmade : {E C R : Type 0} → Client E C R
 unmade = record { phase = away; posts = 0; begun = 0; entered = []; got = []; parked_by = [] }
@@ -113,27 +125,27 @@ module _ {C R : Type 0} where
   home_of (refused c) = some slots.Memory
   home_of (replied c x) = some (slots.Reply x)
 
--- How a client stands to the history, by its phase.
-module _ {E C R : Type 0} (own : List E → ℕ → List C) (replies : List E → ℕ → List R) where
+-- How a client stands to the history that is served, by its phase.
+module _ {S E C R : Type 0} (served : Ghosts S E C R) where
   -- the replies that client r got, and the one in flight where it is in the history: a parked client's is there where
   -- the combiner owes it
   abbrev pub HasReplies : Desk E C → ℕ → List R → Phase C R → Type 0
-  HasReplies d r got (parked c) = (replies d.before r ≡ got)
-      × ((replies d.hist r ≡ got) ⊎ ((x : R) × (replies d.hist r ≡ got ++ x ∷ []) × ¬ IsOn r d.paid))
-  HasReplies d r got (resumed c) = (x : R) × (replies d.hist r ≡ got ++ x ∷ [])
-  HasReplies d r got (replied c x) = replies d.hist r ≡ got ++ x ∷ []
-  HasReplies d r got _ = replies d.hist r ≡ got
+  HasReplies d r got (parked c) = (served.replies d.before r ≡ got)
+      × ((served.replies d.hist r ≡ got) ⊎ ((x : R) × (served.replies d.hist r ≡ got ++ x ∷ []) × ¬ IsOn r d.paid))
+  HasReplies d r got (resumed c) = (x : R) × (served.replies d.hist r ≡ got ++ x ∷ [])
+  HasReplies d r got (replied c x) = served.replies d.hist r ≡ got ++ x ∷ []
+  HasReplies d r got _ = served.replies d.hist r ≡ got
 
   -- what the last event brought client r was handed to it, but for a parked client
   abbrev pub IsSettled : Desk E C → ℕ → Phase C R → Type 0
   IsSettled d r (parked c) = Unit {0}
   IsSettled d r (resumed c) = Unit {0}
-  IsSettled d r _ = (replies d.hist r ≡ replies d.before r) ⊎ IsOn r d.paid
+  IsSettled d r _ = (served.replies d.hist r ≡ served.replies d.before r) ⊎ IsOn r d.paid
 
   -- a history that came before has the call that is parked, without its reply
   abbrev pub IsParkedBy : List E → ℕ → Client E C R → C → Type 0
-  IsParkedBy hist r t c = GoesOn t.parked_by hist × (own t.parked_by r ≡ t.entered ++ c ∷ [])
-      × (replies t.parked_by r ≡ t.got)
+  IsParkedBy hist r t c = GoesOn t.parked_by hist × (served.own t.parked_by r ≡ t.entered ++ c ∷ [])
+      × (served.replies t.parked_by r ≡ t.got)
 
   abbrev pub WasParked : List E → ℕ → Client E C R → Phase C R → Type 0
   WasParked hist r t (parked c) = IsParkedBy hist r t c
@@ -142,39 +154,19 @@ module _ {E C R : Type 0} (own : List E → ℕ → List C) (replies : List E �
 
   -- client r stands to the history as its phase says
   pub record IsInPhase (d : Desk E C) (r : ℕ) (t : Client E C R) : Type 0 where
-    pub calls : own d.hist r ≡ calls_of t.entered t.phase
+    pub calls : served.own d.hist r ≡ calls_of t.entered t.phase
     pub even : length t.entered ≡ length t.got
     pub replies_are : HasReplies d r t.got t.phase
     pub settled : IsSettled d r t.phase
     pub was_parked : WasParked d.hist r t t.phase
     pub taken_is : IsTakenIn r d.serving t.phase
 
-  pub record HasRecord {S : Type 0} (words : List ℕ) (homes : List (Option (Slot C R S))) (d : Desk E C) (r : ℕ)
+  -- its state word and its slot are as its phase says, and so is how it stands to the history
+  pub record HasRecord (words : List ℕ) (homes : List (Option (Slot C R S))) (d : Desk E C) (r : ℕ)
       (t : Client E C R) : Type 0 where
     pub word : slice_index words (state_word r) ≡ word_of t.phase
     pub home : get_elem? homes r ≡ some (home_of t.phase)
     pub phase : IsInPhase d r t
-
--- nobody combines: the state is at home, no record is taken, and nothing is owed
-pub record IsUnheld {E C R S : Type 0} (history : S → List E) (n lock : ℕ) (homes : List (Option (Slot C R S)))
-    (d : Desk E C) : Type 0 where
-  pub zero : lock ≡ 0
-  pub state : S
-  pub home : get_elem? homes n ≡ some (some (slots.State state))
-  pub is : history state ≡ d.hist
-  pub before : d.before ≡ d.hist
-  pub paid : d.paid ≡ []
-  pub nothing : d.serving ≡ Nothing
-
--- a client combines, which has begun to, and has the state in its hands
-pub record IsHeld {E C R S : Type 0} (made : ℕ) (done : List ℕ) (n lock : ℕ) (homes : List (Option (Slot C R S)))
-    (truth : ℕ → Client E C R) : Type 0 where
-  pub holder : ℕ
-  pub client : holder < made
-  pub live : ¬ IsOn holder done
-  pub number : lock ≡ holder + 1
-  pub home : get_elem? homes n ≡ some none
-  pub begun : 1 ≤ (truth holder).begun
 
 -- a client's seat tells how far it is
 abbrev pub IsInStage : {C R : Type 0} → Stage C → Phase C R → Type 0
@@ -207,22 +199,6 @@ module _ {E C R : Type 0} where
   IsAmong c [] = ⊥
   IsAmong c (x ∷ xs) = (c ≡ x) ⊎ IsAmong c xs
 
-  -- what a client's seat knows of its own client
-  pub record Tells (made : ℕ) (done : List ℕ) (seat : ℕ → ℕ) (lock j r : ℕ) (v : Work E C R)
-      (t : Client E C R) : Type 0 where
-    pub made_it : r < made
-    pub live : ¬ IsOn r done
-    pub seat_is : seat r ≡ j
-    pub stage : IsInStage v.stage t.phase
-    pub entered : v.entered ≡ t.entered
-    pub got : v.got ≡ t.got
-    pub posts : v.posts ≡ t.posts
-    pub begun : v.begun ≡ t.begun
-    pub past : v.past ≡ true → IsDealt t.phase
-    pub found : v.found ≡ ANSWERED → word_of t.phase ≡ ANSWERED
-    pub holds : v.holds ≡ true → lock ≡ r + 1
-    pub waits : v.holds ≡ false → lock ≢ r + 1
-
   -- what the seat of a combiner knows
   pub record Combines (d : Desk E C) (v : Work E C R) : Type 0 where
     pub client : (r : ℕ) × IsClient r v.stage
@@ -231,74 +207,107 @@ module _ {E C R : Type 0} where
     pub paid : v.paid ≡ d.paid
     pub serving : v.serving ≡ d.serving
 
-  -- what a client told when its seat was merged into the seat j is true
-  pub record IsTold (made : ℕ) (seat : ℕ → ℕ) (truth : ℕ → Client E C R) (d : Desk E C) (j : ℕ)
-      (c : Closed E C R) : Type 0 where
-    pub made_it : c.client < made
-    pub seat_is : seat c.client ≡ j
-    pub client : IsClient c.client c.stage
-    pub home : IsAtHome c.stage
-    pub stage : IsInStage c.stage (truth c.client).phase
-    pub entered : c.entered ≡ (truth c.client).entered
-    pub got : c.got ≡ (truth c.client).got
-    pub begun : c.begun ≡ (truth c.client).begun
-    pub saw : GoesOn c.seen d.hist
-    pub met : (r : ℕ) → IsOn r c.met → (r < made) × (1 ≤ (truth r).begun)
+  module _ (w : World E C R) where
+    -- client r has a seat, and has begun to combine
+    abbrev pub HasBegun : ℕ → Type 0
+    HasBegun r = (r < w.made) × (1 ≤ (w.truth r).begun)
 
-  -- a seat of no client knows what the clients told whose seats it took in
-  pub record Closes (made : ℕ) (done : List ℕ) (seat : ℕ → ℕ) (truth : ℕ → Client E C R) (d : Desk E C) (j : ℕ)
-      (closed : List (Closed E C R)) : Type 0 where
-    pub distinct : Distinct (clients_of closed)
-    pub on : (r : ℕ) → IsOn r (clients_of closed) → IsOn r done
-    pub told : (c : Closed E C R) → IsAmong c closed → IsTold made seat truth d j c
+    -- what the seat j of client r knows of its client, which is t
+    pub record Tells (j r : ℕ) (v : Work E C R) (t : Client E C R) : Type 0 where
+      pub made_it : r < w.made
+      pub live : ¬ IsOn r w.done
+      pub seat_is : w.seat r ≡ j
+      pub stage : IsInStage v.stage t.phase
+      pub entered : v.entered ≡ t.entered
+      pub got : v.got ≡ t.got
+      pub posts : v.posts ≡ t.posts
+      pub begun : v.begun ≡ t.begun
+      pub past : v.past ≡ true → IsDealt t.phase
+      pub found : v.found ≡ ANSWERED → word_of t.phase ≡ ANSWERED
+      pub holds : v.holds ≡ true → w.lock ≡ r + 1
+      pub waits : v.holds ≡ false → w.lock ≢ r + 1
 
-  -- what a seat knows that isn't a client's: the first one how many seats it made
-  abbrev pub IsNobodys : ℕ → List ℕ → (ℕ → ℕ) → (ℕ → Client E C R) → Desk E C → ℕ → List (Closed E C R) → Stage C
-      → Type 0
-  IsNobodys made done seat truth d j closed Spent = Closes made done seat truth d j closed
-  IsNobodys made done seat truth d j closed (Maker k) = (j ≡ 0) × (k ≡ made)
-  IsNobodys made done seat truth d j closed _ = Unit {0}
+    -- what a client told when its seat was merged into the seat j is true
+    pub record IsTold (j : ℕ) (c : Closed E C R) : Type 0 where
+      pub made_it : c.client < w.made
+      pub seat_is : w.seat c.client ≡ j
+      pub client : IsClient c.client c.stage
+      pub home : IsAtHome c.stage
+      pub stage : IsInStage c.stage (w.truth c.client).phase
+      pub entered : c.entered ≡ (w.truth c.client).entered
+      pub got : c.got ≡ (w.truth c.client).got
+      pub begun : c.begun ≡ (w.truth c.client).begun
+      pub saw : GoesOn c.seen w.desk.hist
+      pub met : (r : ℕ) → IsOn r c.met → HasBegun r
 
-  -- what the seat j knows is true
-  pub record Trusts (made : ℕ) (done : List ℕ) (seat : ℕ → ℕ) (truth : ℕ → Client E C R) (lock : ℕ) (d : Desk E C)
-      (j : ℕ) (v : Work E C R) : Type 0 where
-    pub maker : IsNobodys made done seat truth d j v.closed v.stage
-    pub client : (r : ℕ) → IsClient r v.stage → Tells made done seat lock j r v (truth r)
-    pub token : (r : ℕ) → v.stage ≡ Token r → (r < made) × (v.posts ≤ (truth r).posts)
-    pub combines : v.holds ≡ true → Combines d v
-    -- the history that it saw is the beginning of the history
-    pub saw : GoesOn v.seen d.hist
-    -- and so is the one that it was told
-    pub was_told : GoesOn v.hearsay d.hist
-    -- who was found to combine has begun to
-    pub met : (r : ℕ) → IsOn r v.met → (r < made) × (1 ≤ (truth r).begun)
-    -- the posts heard of were made
-    pub heard : (r k : ℕ) → IsMarked r k v.heard → (r < made) × (k ≤ (truth r).posts)
-    -- and where the last is passed, a combiner has dealt with it
-    pub passed : (r k : ℕ) → IsMarked r k v.passed → (r < made) × (k ≤ (truth r).posts)
-        × ((truth r).posts ≡ k → IsDealt (truth r).phase)
+    -- a seat of no client knows what the clients told whose seats it took in
+    pub record Closes (j : ℕ) (closed : List (Closed E C R)) : Type 0 where
+      pub distinct : Distinct (clients_of closed)
+      pub on : (r : ℕ) → IsOn r (clients_of closed) → IsOn r w.done
+      pub told : (c : Closed E C R) → IsAmong c closed → IsTold j c
+
+    -- what a seat knows that isn't a client's: the first one how many seats it made
+    abbrev pub IsNobodys : ℕ → List (Closed E C R) → Stage C → Type 0
+    IsNobodys j closed Spent = Closes j closed
+    IsNobodys j closed (Maker k) = (j ≡ 0) × (k ≡ w.made)
+    IsNobodys j closed _ = Unit {0}
+
+    -- what the seat j knows is true
+    pub record Trusts (j : ℕ) (v : Work E C R) : Type 0 where
+      pub maker : IsNobodys j v.closed v.stage
+      pub client : (r : ℕ) → IsClient r v.stage → Tells j r v (w.truth r)
+      pub token : (r : ℕ) → v.stage ≡ Token r → (r < w.made) × (v.posts ≤ (w.truth r).posts)
+      pub combines : v.holds ≡ true → Combines w.desk v
+      -- the history that it saw is the beginning of the history, and so is the one that it was told
+      pub saw : GoesOn v.seen w.desk.hist
+      pub was_told : GoesOn v.hearsay w.desk.hist
+      -- who was found to combine has begun to
+      pub met : (r : ℕ) → IsOn r v.met → HasBegun r
+      -- the posts heard of were made; and where the last is passed, a combiner has dealt with it
+      pub heard : (r k : ℕ) → IsMarked r k v.heard → (r < w.made) × (k ≤ (w.truth r).posts)
+      pub passed : (r k : ℕ) → IsMarked r k v.passed → (r < w.made) × (k ≤ (w.truth r).posts)
+          × ((w.truth r).posts ≡ k → IsDealt (w.truth r).phase)
 
 -- The rule of what is served.
-module _ {E C R S : Type 0} (history : S → List E) (legal : List E → Type 0) (own : List E → ℕ → List C)
-    (replies : List E → ℕ → List R) (n : ℕ) where
-  pub record Serves (words : List ℕ) (homes : List (Option (Slot C R S))) (works : List (Work E C R)) : Type 0 where
-    -- what is true of each client, and what the combiner knows
-    pub truth : ℕ → Client E C R
-    pub desk : Desk E C
-    -- the clients below it have a seat, but the seats of those on the list were merged
-    pub made : ℕ
-    pub done : List ℕ
-    -- the seat of each client
-    pub seat : ℕ → ℕ
-    pub few : made ≤ n
-    pub done_made : (r : ℕ) → IsOn r done → r < made
+module _ {S E C R : Type 0} (served : Ghosts S E C R) (n : ℕ) where
+  -- what is true of the world by itself
+  pub record IsSound (w : World E C R) : Type 0 where
+    pub few : w.made ≤ n
+    pub done_made : (r : ℕ) → IsOn r w.done → r < w.made
+    pub is_legal : served.legal w.desk.hist
+    pub taken_below : (r : ℕ) → IsTaken r w.desk.serving → r < n
+    pub unmade_are : (r : ℕ) → w.made ≤ r → w.truth r ≡ unmade
+
+  -- what is true of the words and the slots
+  pub record IsStored (words : List ℕ) (homes : List (Option (Slot C R S))) (w : World E C R) : Type 0 where
     pub wide : length words ≡ word_count n
-    pub deep : length homes ≡ n + 1
-    pub is_legal : legal desk.hist
-    pub lock : IsUnheld history n (slice_index words lock_word) homes desk
-        ⊎ IsHeld made done n (slice_index words lock_word) homes truth
-    pub taken_below : (r : ℕ) → IsTaken r desk.serving → r < n
-    pub unmade_are : (r : ℕ) → made ≤ r → truth r ≡ unmade
-    pub each_client : (r : ℕ) → r < n → HasRecord own replies words homes desk r (truth r)
-    pub each_seat : (j : ℕ) (v : Work E C R) → get_elem? works j ≡ some v
-        → Trusts made done seat truth (slice_index words lock_word) desk j v
+    pub sized : length homes ≡ n + 1
+    pub lock : slice_index words lock_word ≡ w.lock
+    pub each_client : (r : ℕ) → r < n → HasRecord served words homes w.desk r (w.truth r)
+
+  -- nobody combines: the state is at home, no record is taken, and nothing is owed
+  pub record IsUnheld (homes : List (Option (Slot C R S))) (w : World E C R) : Type 0 where
+    pub zero : w.lock ≡ 0
+    pub state : S
+    pub home : get_elem? homes n ≡ some (some (slots.State state))
+    pub is : served.history state ≡ w.desk.hist
+    pub before : w.desk.before ≡ w.desk.hist
+    pub paid : w.desk.paid ≡ []
+    pub nothing : w.desk.serving ≡ Nothing
+
+  -- a client combines, which has begun to, and has the state in its hands
+  pub record IsHeld (homes : List (Option (Slot C R S))) (w : World E C R) : Type 0 where
+    pub holder : ℕ
+    pub client : holder < w.made
+    pub live : ¬ IsOn holder w.done
+    pub number : w.lock ≡ holder + 1
+    pub home : get_elem? homes n ≡ some none
+    pub begun : 1 ≤ (w.truth holder).begun
+
+  pub record Serves (words : List ℕ) (homes : List (Option (Slot C R S))) (works : List (Work E C R)) : Type 0 where
+    pub world : World E C R
+    pub sound : IsSound world
+    pub stored : IsStored words homes world
+    pub state : IsUnheld homes world ⊎ IsHeld homes world
+    -- what each seat knows is true
+    pub each_seat : (j : ℕ) (v : Work E C R) → get_elem? works j ≡ some v → Trusts world j v

@@ -4,6 +4,7 @@ use Rattle.std.specs.Prelude.{◌≡◌, ◌⊎◌, ℕ, false, ◌<◌, ◌≤�
 use mathlib.Core.Option.{Option, some}
 use lib.ListN.{get_elem?}
 use Rattle.atomic_table.specs.Table.{State, Me, Joins, Enters}
+use Rattle.pub_rule.specs.declared.served.Served.{Ghosts}
 use Rattle.pub_rule.specs.declared.walk.View.{View}
 use Rattle.pub_rule.specs.declared.work.Work.{Work}
 use Rattle.pub_rule.specs.declared.work.Closed.{Closed}
@@ -53,34 +54,30 @@ module _ {E C R : Type 0} where
 abbrev pub has_entered : {E C R S : Type 0} → Me (Slot C R S) (View (Work E C R)) → Type 0
 has_entered m = m ≡ (view_spent, [])
 
--- each client told, and the state lies at home, as does each client's slot
-pub record IsClosed {E C R S : Type 0} (history : S → List E) (legal : List E → Type 0) (own : List E → ℕ → List C)
-    (replies : List E → ℕ → List R) (n : ℕ) (homes : List (Option (Slot C R S)))
-    (closed : List (Closed E C R)) : Type 0 where
-  pub state : S
-  pub home : get_elem? homes n ≡ some (some (slots.State state))
-  pub is_legal : legal (history state)
-  pub every : (r : ℕ) → r < n → IsOn r (clients_of closed)
-  pub told : (c : Closed E C R) → IsAmong c closed → IsTrueOf own replies (history state) closed c
-  pub slot : (r : ℕ) → r < n → (y : Slot C R S) × (get_elem? homes r ≡ some (some y))
-
 -- The laws of the close.
-module _ {E C R S : Type 0} (history : S → List E) (legal : List E → Type 0) (own : List E → ℕ → List C)
-    (replies : List E → ℕ → List R) (n : ℕ) where
+module _ {S E C R : Type 0} (served : Ghosts S E C R) (n : ℕ) where
+  -- each client told, and the state lies at home, as does each client's slot
+  pub record IsClosed (homes : List (Option (Slot C R S))) (closed : List (Closed E C R)) : Type 0 where
+    pub state : S
+    pub home : get_elem? homes n ≡ some (some (slots.State state))
+    pub is_legal : served.legal (served.history state)
+    pub every : (r : ℕ) → r < n → IsOn r (clients_of closed)
+    pub told : (c : Closed E C R) → IsAmong c closed
+        → IsTrueOf served.own served.replies (served.history state) closed c
+    pub slot : (r : ℕ) → r < n → (y : Slot C R S) × (get_elem? homes r ≡ some (some y))
+
   -- a new seat of no client, as the list is closed; whatever word it reads, it learns nothing
   abbrev pub KeptByEnter : Type 0
-  KeptByEnter = (size word : ℕ) → Enters (Ruled n (Serves history legal own replies n)) size word
-      (λ _ w. has_entered {S = S} (w, []))
+  KeptByEnter = (size word : ℕ) → Enters (Ruled n (Serves served n)) size word (λ _ w. has_entered {S = S} (w, []))
 
   -- the seat of a client that doesn't combine, and has its slot at home, is merged into one of no client
   abbrev pub KeptByClose : Type 0
-  KeptByClose = (id other : ℕ) (v w : View (Work E C R)) → v.work.stage ≡ Spent → IsAtHome w.work.stage
-      → w.work.holds ≡ false
-      → Joins (Ruled n (Serves history legal own replies n)) id v other w (view_closing v w) view_spent
+  KeptByClose = (id other : ℕ) (v w : View (Work E C R)) (spent_is : v.work.stage ≡ Spent)
+      (home : IsAtHome w.work.stage) (waits : w.work.holds ≡ false)
+      → Joins (Ruled n (Serves served n)) id v other w (view_closing v w) view_spent
 
   -- where n clients told, all is at home
   abbrev pub KnownAtEnd : Type 0
   KnownAtEnd = (s : State (Slot C R S) (View (Work E C R))) (id : ℕ) (v : View (Work E C R))
-      → Ruled n (Serves history legal own replies n) s → get_elem? s.views id ≡ some v → v.work.stage ≡ Spent
-      → length v.work.closed ≡ n
-      → IsClosed history legal own replies n s.homes v.work.closed
+      (ruled : Ruled n (Serves served n) s) (at : get_elem? s.views id ≡ some v) (spent_is : v.work.stage ≡ Spent)
+      (full : length v.work.closed ≡ n) → IsClosed s.homes v.work.closed

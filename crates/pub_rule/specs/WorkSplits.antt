@@ -2,16 +2,18 @@
 use Rattle.std.specs.Prelude.{◌≡◌, ℕ, Bool, false, ◌||◌, ◌&&◌, ◌+◌, ◌<◌, List, [], ◌∷◌, ◌++◌, ◌==◌}
 use Rattle.atomic_table.specs.Table.{Splits, Joins, opening}
 use Rattle.std.specs.Prelude.{replicate}
+use Rattle.pub_rule.specs.declared.served.Served.{Ghosts}
 use Rattle.pub_rule.specs.declared.walk.View.{View}
 use Rattle.pub_rule.specs.declared.walk.Role.TheVariants as roles
 use Rattle.pub_rule.specs.declared.work.Work.{Work}
+use Rattle.pub_rule.specs.declared.work.Mark.{Mark}
 use Rattle.pub_rule.specs.declared.work.Stage.{Stage}
 use Rattle.pub_rule.specs.declared.work.Stage.TheVariants.{Spent, Maker, Away, Free, Asking, Token}
+use Rattle.pub_rule.specs.declared.work.Serving.TheVariants.{Nothing}
 use Rattle.pub_rule.specs.Words.{word_count}
 use Rattle.pub_rule.specs.Rule.{Ruled, slots_of, opening_view}
 use Rattle.pub_rule.specs.Steps.{next_maker, newcomer, token, learned, spent}
 use Rattle.pub_rule.specs.Work.{IsClient, Serves}
-use Rattle.pub_rule.specs.Deaf.{opening_work}
 
 -- whose seat or token it is
 abbrev pub owner_of : {C : Type 0} → Stage C → ℕ
@@ -27,12 +29,34 @@ seats_of (Maker k) = k
 seats_of _ = 0
 
 -- whether the post is among those marked
-abbrev pub is_marked : ℕ → ℕ → List (ℕ × ℕ) → Bool
+abbrev pub is_marked : ℕ → ℕ → List Mark → Bool
 is_marked r k [] = false
-is_marked r k (x ∷ xs) = (r == x.0 && k == x.1) || is_marked r k xs
+is_marked r k (x ∷ xs) = (r == x.client && k == x.post) || is_marked r k xs
 
 -- What the seats know after a split or a merge.
 module _ {E C R : Type 0} where
+  -- the first seat, which has made none, and saw this history
+  abbrev pub opening_work : List E → Work E C R
+  opening_work h = record {
+    stage = Maker 0;
+    holds = false;
+    seen = h;
+    hearsay = [];
+    before = [];
+    paid = [];
+    serving = Nothing;
+    entered = [];
+    got = [];
+    posts = 0;
+    begun = 0;
+    met = [];
+    heard = [];
+    passed = [];
+    past = false;
+    found = 0;
+    closed = [];
+  }
+
   -- nothing is known but whose seat it is, and the history at the start
   abbrev pub starting : Stage C → List E → Work E C R
   starting stage h = record (opening_work h) { stage = stage }
@@ -53,11 +77,15 @@ module _ {E C R : Type 0} where
   abbrev pub telling : Work E C R → Work E C R
   telling v = record (blank_work (Token (owner_of v.stage))) { seen = v.seen; posts = v.posts; passed = v.passed }
 
+  -- the last post of a seat's client
+  abbrev pub last_post : Work E C R → Mark
+  last_post w = record { client = owner_of w.stage; post = w.posts }
+
   -- merge: a client takes in what a token tells
   abbrev pub taught : Work E C R → Work E C R → Work E C R
   taught v w = record v {
     hearsay = w.seen;
-    heard = (owner_of w.stage, w.posts) ∷ v.heard;
+    heard = last_post w ∷ v.heard;
     passed = w.passed ++ v.passed;
     past = v.past || is_marked (owner_of v.stage) v.posts w.passed;
   }
@@ -82,26 +110,26 @@ module _ {E C R : Type 0} where
   view_spent = record { walk = spent; work = spent_work }
 
 -- The start, and the laws of the splits and the merges.
-module _ {E C R S : Type 0} (history : S → List E) (legal : List E → Type 0) (own : List E → ℕ → List C)
-    (replies : List E → ℕ → List R) (n : ℕ) where
+module _ {S E C R : Type 0} (served : Ghosts S E C R) (n : ℕ) where
   -- the table at the start: nobody has joined, no client has a seat, and nobody's call is in the state's history
   abbrev pub Opens : Type 0
-  Opens = (state : S) → legal (history state) → ((r : ℕ) → own (history state) r ≡ [])
-      → Ruled n (Serves history legal own replies n)
-      (opening (replicate (word_count n) 0) (slots_of n state) (opening_view (opening_work (history state))))
+  Opens = (state : S) (is_legal : served.legal (served.history state))
+      (uncalled : (r : ℕ) → served.own (served.history state) r ≡ []) → Ruled n (Serves served n)
+      (opening (replicate (word_count n) 0) (slots_of n state) (opening_view (opening_work (served.history state))))
 
   -- the first seat, which has made those of the clients below k, makes that of client k
   abbrev pub KeptByClientSplit : Type 0
-  KeptByClientSplit = (id k : ℕ) (v : View (Work E C R)) → v.walk.role ≡ roles.Maker k → v.work.stage ≡ Maker k → k < n
-      → Splits (Ruled n (Serves history legal own replies n)) id v (maker_after v) (client_made v)
+  KeptByClientSplit = (id k : ℕ) (v : View (Work E C R)) (maker : v.walk.role ≡ roles.Maker k)
+      (stage : v.work.stage ≡ Maker k) (room : k < n)
+      → Splits (Ruled n (Serves served n)) id v (maker_after v) (client_made v)
 
   -- a client that joined makes a token, and knows what it knew
   abbrev pub KeptByTokenSplit : Type 0
-  KeptByTokenSplit = (id r : ℕ) (v : View (Work E C R)) → v.walk.role ≡ roles.Joined r → IsClient r v.work.stage
-      → Splits (Ruled n (Serves history legal own replies n)) id v v (token_made v)
+  KeptByTokenSplit = (id r : ℕ) (v : View (Work E C R)) (joined : v.walk.role ≡ roles.Joined r)
+      (client : IsClient r v.work.stage) → Splits (Ruled n (Serves served n)) id v v (token_made v)
 
   -- a client takes in what a token tells
   abbrev pub KeptByTokenMerge : Type 0
-  KeptByTokenMerge = (id q other r : ℕ) (v w : View (Work E C R)) → IsClient q v.work.stage → w.walk.role ≡ roles.Token
-      → w.work.stage ≡ Token r
-      → Joins (Ruled n (Serves history legal own replies n)) id v other w (view_taught v w) view_spent
+  KeptByTokenMerge = (id q other r : ℕ) (v w : View (Work E C R)) (client : IsClient q v.work.stage)
+      (token_is : w.walk.role ≡ roles.Token) (stage : w.work.stage ≡ Token r)
+      → Joins (Ruled n (Serves served n)) id v other w (view_taught v w) view_spent

@@ -24,7 +24,7 @@ pub use walk::{Role, View, Walk};
 pub use words::{
     ANSWERED, FREE, PARKED, POSTED, TAKEN, head_word, lock_word, next_word, state_word, word_count,
 };
-pub use work::{Closed, Serving, Stage, Work};
+pub use work::{Closed, Mark, Serving, Stage, Work};
 pub use work_joins::{EnterCloser, MergeClient};
 pub use work_steps::{
     AnswerCall, CollectReply, FetchSlot, GiveSlot, LookAt, LookOwn, ParkCall, PeekAt, PeekLock,

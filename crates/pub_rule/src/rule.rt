@@ -1,7 +1,7 @@
 //! The rule of the table, in two halves: that of the list, and one beside it.
 ghost use Rattle.std.specs.Prelude.{ℕ, List};
 ghost use mathlib.Core.Option.{Option};
-ghost use Rattle.pub_rule.specs.Rule.{IsDeaf, IsDeep};
+ghost use Rattle.pub_rule.specs.Rule.{IsIndependent, HasSlots};
 
 use crate::served::{Served, Slot};
 use crate::walk::View;
@@ -21,10 +21,10 @@ pub trait Half<T, W, H> {
     ghost first: { H → W };
 
     // it doesn't look at the words of the list
-    ghost deaf: { (n : ℕ) → IsDeaf n (serves n) };
+    ghost independent: { (n : ℕ) → IsIndependent n (serves n) };
 
     // there is a slot for each client and one more
-    ghost deep: { (n : ℕ) → IsDeep n (serves n) };
+    ghost sized: { (n : ℕ) → HasSlots n (serves n) };
 }
 
 /// The rule of a publication list beside the half `P`; its key is the number of clients, and what the half
@@ -52,13 +52,14 @@ pub struct Combining<S> {
 impl<S: Served> Half<Slot<S::Call, S::Reply, S>, Work<S::Event, S::Call, S::Reply>, Snapshot<S>>
     for Combining<S> {
     ghost use Rattle.pub_rule.specs.Work.{Serves};
-    ghost use Rattle.pub_rule.specs.Deaf.{opening_work, deaf, deep};
+    ghost use Rattle.pub_rule.specs.WorkSplits.{opening_work};
+    ghost use Rattle.pub_rule.specs.Independent.{independent, sized};
 
-    ghost serves = { λ n. Serves S.history S.legal S.own S.replies n };
+    ghost serves = { Serves S.Served };
 
     ghost first = { λ s. opening_work (S.history s.value) };
 
-    ghost deaf = { deaf S.history S.legal S.own S.replies };
+    ghost independent = { independent S.Served };
 
-    ghost deep = { deep S.history S.legal S.own S.replies };
+    ghost sized = { sized S.Served };
 }

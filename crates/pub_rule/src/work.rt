@@ -29,6 +29,15 @@ pub enum Serving<C> {
     Parked(u64, C),
 }
 
+/// A post that was counted: whose it is, and which of that client's posts. It is the project's own. No value of
+/// it is made.
+pub struct Mark {
+    /// The client.
+    pub client: u64,
+    /// The number of its posts then.
+    pub post: u64,
+}
+
 /// What a client told when its seat was merged into that which closes the list. It is the project's own. No
 /// value of it is made.
 pub struct Closed<E, C, R> {
@@ -75,10 +84,10 @@ pub struct Work<E, C, R> {
     pub begun: u64,
     /// The clients that were found to combine.
     pub met: LinkedList<u64>,
-    /// The posts that it heard of, each a client and the number of its posts then.
-    pub heard: LinkedList<(u64, u64)>,
+    /// The posts that it heard of.
+    pub heard: LinkedList<Mark>,
     /// The posts that a combiner is known to have dealt with.
-    pub passed: LinkedList<(u64, u64)>,
+    pub passed: LinkedList<Mark>,
     /// Whether a combiner is known to have dealt with the client's last post.
     pub past: bool,
     /// What the client found its own state word to be when it looked last; 0 where it hasn't looked since it

@@ -10,20 +10,20 @@ use crate::served::Served;
 /// The start: the rule holds of a table whose words are 0, whose slots are empty but for the last, and in the
 /// history of whose state nobody has called.
 pub fn opening<S: Served>()
-    ensures { (n : ℕ) → Opens S.history S.legal S.own S.replies n }
+    ensures { (n : ℕ) → Opens S.Served n }
 {}
 
 /// Split, for the seat of a client at the start: the first seat makes the next client's.
 pub fn split_client<S: Served>()
-    ensures { (n : ℕ) → KeptByClientSplit S.history S.legal S.own S.replies n }
+    ensures { (n : ℕ) → KeptByClientSplit S.Served n }
 {}
 
 /// Split, for a token: a client that joined tells so, and what it knows.
 pub fn split_token<S: Served>()
-    ensures { (n : ℕ) → KeptByTokenSplit S.history S.legal S.own S.replies n }
+    ensures { (n : ℕ) → KeptByTokenSplit S.Served n }
 {}
 
 /// Merge: a client takes in what a token tells, and the token is spent.
 pub fn merge_token<S: Served>()
-    ensures { (n : ℕ) → KeptByTokenMerge S.history S.legal S.own S.replies n }
+    ensures { (n : ℕ) → KeptByTokenMerge S.Served n }
 {}

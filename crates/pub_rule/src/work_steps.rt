@@ -11,18 +11,18 @@ use atomic_table::Play;
 pub struct FetchSlot;
 
 impl<E, C, R, S> Play<Slot<C, R, S>, View<Work<E, C, R>>> for FetchSlot {
-    ghost use Rattle.pub_rule.specs.WorkSteps.{slot_fetched};
+    ghost use Rattle.pub_rule.specs.WorkSteps.{Fetches};
 
-    ghost then = { slot_fetched };
+    ghost then = { λ st m k m'. Fetches m m' };
 }
 
 /// Post (flat combining: Hendler, Incze, Shavit, Tzafrir 2010): the client's call goes home.
 pub struct PostCall;
 
 impl<E, C, R, S> Play<Slot<C, R, S>, View<Work<E, C, R>>> for PostCall {
-    ghost use Rattle.pub_rule.specs.WorkSteps.{call_posted};
+    ghost use Rattle.pub_rule.specs.WorkSteps.{Posts};
 
-    ghost then = { λ st m k m'. call_posted st m k m' };
+    ghost then = { λ st m k m'. Posts m m' };
 }
 
 /// Collect (flat combining: Hendler, Incze, Shavit, Tzafrir 2010): the reply comes into the client's hands,
@@ -33,7 +33,7 @@ impl<S: Served> Play<Slot<S::Call, S::Reply, S>, View<Work<S::Event, S::Call, S:
     for CollectReply {
     ghost use Rattle.pub_rule.specs.WorkSteps.{reply_collected};
 
-    ghost then = { λ st m k m'. reply_collected st m k m' S.legal S.own S.replies };
+    ghost then = { λ st m k m'. reply_collected S.Served m m' k };
 }
 
 /// Seize (flat combining: Hendler, Incze, Shavit, Tzafrir 2010): the state comes into the client's hands,
@@ -42,9 +42,10 @@ pub struct SeizeState;
 
 impl<S: Served> Play<Slot<S::Call, S::Reply, S>, View<Work<S::Event, S::Call, S::Reply>>>
     for SeizeState {
+    ghost use Rattle.std.specs.Prelude.{◌-◌};
     ghost use Rattle.pub_rule.specs.WorkSteps.{state_seized};
 
-    ghost then = { λ st m k m'. state_seized st m k m' S.history S.legal };
+    ghost then = { λ st m k m'. state_seized S.Served m m' (st.slots - 1) k };
 }
 
 /// Peek at the lock (flat combining: Hendler, Incze, Shavit, Tzafrir 2010): whether nobody combines; else the
@@ -52,9 +53,10 @@ impl<S: Served> Play<Slot<S::Call, S::Reply, S>, View<Work<S::Event, S::Call, S:
 pub struct PeekLock;
 
 impl<E, C, R, S> Play<Slot<C, R, S>, View<Work<E, C, R>>> for PeekLock {
+    ghost use Rattle.std.specs.Prelude.{◌-◌};
     ghost use Rattle.pub_rule.specs.WorkSteps.{lock_peeked};
 
-    ghost then = { λ st m k m'. lock_peeked st m k m' };
+    ghost then = { λ st m k m'. lock_peeked m m' (st.slots - 1) k };
 }
 
 /// Take (flat combining: Hendler, Incze, Shavit, Tzafrir 2010): a posted call comes into the combiner's
@@ -65,7 +67,7 @@ impl<S: Served> Play<Slot<S::Call, S::Reply, S>, View<Work<S::Event, S::Call, S:
     for TakePosted {
     ghost use Rattle.pub_rule.specs.WorkSteps.{call_taken};
 
-    ghost then = { λ st m k m'. call_taken st m k m' S.own S.replies };
+    ghost then = { λ st m k m'. call_taken S.Served m m' st.word k };
 }
 
 /// Peek: the combiner sees whether a record is posted; where it isn't, a combiner has dealt with its client's
@@ -75,7 +77,7 @@ pub struct PeekAt;
 impl<E, C, R, S> Play<Slot<C, R, S>, View<Work<E, C, R>>> for PeekAt {
     ghost use Rattle.pub_rule.specs.WorkSteps.{record_peeked};
 
-    ghost then = { λ st m k m'. record_peeked st m k m' };
+    ghost then = { λ st m k m'. record_peeked m m' st.word k };
 }
 
 /// Take from parked: a parked record whose client is owed a reply comes into the combiner's hands. It is the
@@ -83,9 +85,9 @@ impl<E, C, R, S> Play<Slot<C, R, S>, View<Work<E, C, R>>> for PeekAt {
 pub struct TakeParked;
 
 impl<E, C, R, S> Play<Slot<C, R, S>, View<Work<E, C, R>>> for TakeParked {
-    ghost use Rattle.pub_rule.specs.WorkSteps.{call_resumed};
+    ghost use Rattle.pub_rule.specs.WorkSteps.{Resumes};
 
-    ghost then = { call_resumed };
+    ghost then = { λ st m k m'. Resumes m m' st.word k };
 }
 
 /// Answer (flat combining: Hendler, Incze, Shavit, Tzafrir 2010): a reply goes home. To a posted call the
@@ -94,9 +96,10 @@ pub struct AnswerCall;
 
 impl<S: Served> Play<Slot<S::Call, S::Reply, S>, View<Work<S::Event, S::Call, S::Reply>>>
     for AnswerCall {
-    ghost use Rattle.pub_rule.specs.WorkPlays.{reply_put};
+    ghost use Rattle.pub_rule.specs.Rule.{work};
+    ghost use Rattle.pub_rule.specs.WorkSteps.{reply_put};
 
-    ghost then = { λ st m k m'. reply_put S.history m.0.work.serving st m k m' };
+    ghost then = { λ st m k m'. reply_put S.Served m m' st.word st.said (work m).serving };
 }
 
 /// Answer, where a posted call is refused for memory: the history stays. It is the project's own.
@@ -105,7 +108,7 @@ pub struct RefuseCall;
 impl<E, C, R, S> Play<Slot<C, R, S>, View<Work<E, C, R>>> for RefuseCall {
     ghost use Rattle.pub_rule.specs.WorkSteps.{call_refused};
 
-    ghost then = { call_refused };
+    ghost then = { λ st m k m'. call_refused m m' st.word };
 }
 
 /// Mark parked: the slot of a posted call goes home empty, and the history has one event more, that of the
@@ -116,16 +119,16 @@ impl<S: Served> Play<Slot<S::Call, S::Reply, S>, View<Work<S::Event, S::Call, S:
     for ParkCall {
     ghost use Rattle.pub_rule.specs.WorkSteps.{call_parked};
 
-    ghost then = { λ st m k m'. call_parked st m k m' S.history };
+    ghost then = { λ st m k m'. call_parked S.Served m m' st.word st.said };
 }
 
 /// Read state (flat combining: Hendler, Incze, Shavit, Tzafrir 2010): the word of any record is seen.
 pub struct LookAt;
 
 impl<E, C, R, S> Play<Slot<C, R, S>, View<Work<E, C, R>>> for LookAt {
-    ghost use Rattle.pub_rule.specs.WorkSteps.{word_seen};
+    ghost use Rattle.std.specs.Prelude.{◌≡◌, ◌<◌};
 
-    ghost then = { λ st m k m'. word_seen st m k m' };
+    ghost then = { λ st m k m'. (k < 5) × (m' ≡ m) };
 }
 
 /// Read state (flat combining: Hendler, Incze, Shavit, Tzafrir 2010), of the own record: the history is seen
@@ -134,9 +137,9 @@ pub struct LookOwn;
 
 impl<S: Served> Play<Slot<S::Call, S::Reply, S>, View<Work<S::Event, S::Call, S::Reply>>>
     for LookOwn {
-    ghost use Rattle.pub_rule.specs.WorkSteps.{own_looked};
+    ghost use Rattle.pub_rule.specs.WorkSteps.{LooksAtOwn};
 
-    ghost then = { λ st m k m'. own_looked st m k m' S.legal S.own S.replies };
+    ghost then = { λ st m k m'. LooksAtOwn S.Served m m' k };
 }
 
 /// Read state, for the last time: the client's slot goes home empty. It is the project's own.
@@ -145,7 +148,7 @@ pub struct GiveSlot;
 impl<E, C, R, S> Play<Slot<C, R, S>, View<Work<E, C, R>>> for GiveSlot {
     ghost use Rattle.pub_rule.specs.WorkSteps.{slot_given};
 
-    ghost then = { λ st m k m'. slot_given st m k m' };
+    ghost then = { λ st m k m'. slot_given m m' };
 }
 
 /// Release (flat combining: Hendler, Incze, Shavit, Tzafrir 2010): the state goes home.
@@ -154,5 +157,5 @@ pub struct ReleaseState;
 impl<E, C, R, S> Play<Slot<C, R, S>, View<Work<E, C, R>>> for ReleaseState {
     ghost use Rattle.pub_rule.specs.WorkSteps.{state_released};
 
-    ghost then = { λ st m k m'. state_released st m k m' };
+    ghost then = { λ st m k m'. state_released m m' };
 }

@@ -13,7 +13,7 @@ use Rattle.pub_list.proofs.making.make_clients.Goals as goal
 
 pub split_seat-seat-requires : goal.split_seat-seat-requires
 split_seat-seat-requires g c = let i = c.loop-client.invariant in let sized = c.requires.table in let words = sized.0 in let key = sized.2 in let within = head_within c.args.clients in let room = c.loop-client-test.true in
-    (i.0 ∙ c.requires.first.0, omega arith, make_client g.S.Served.history g.S.Served.legal g.S.Served.own g.S.Served.replies _ _ c.loop-client.client _ i.1.0 i.1.1 (omega arith))
+    (i.0 ∙ c.requires.first.0, omega arith, make_client g.S.Served _ _ c.loop-client.client _ i.1.0 i.1.1 (omega arith))
 
 pub loop-client-preserved : goal.loop-client-preserved
 loop-client-preserved g c = let i = c.loop-client.invariant in let did = c.split_seat-seat.ensures in let e = c.in_ok-push.ensures.items in let size = c.in_ok-push.ensures.len in (

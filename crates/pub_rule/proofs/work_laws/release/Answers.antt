@@ -2,4 +2,4 @@ use Rattle.pub_rule.proofs.Locking.{release}
 use Rattle.pub_rule.proofs.work_laws.release.Goals as goal
 
 pub returns : goal.returns
-returns g c = λ n. release g.S.Served.history g.S.Served.legal g.S.Served.own g.S.Served.replies n
+returns g c = λ n. release g.S.Served n

@@ -2,4 +2,4 @@ use Rattle.pub_rule.proofs.Splitting.{make_client}
 use Rattle.pub_rule.proofs.work_splits.split_client.Goals as goal
 
 pub returns : goal.returns
-returns g c = λ n. make_client g.S.Served.history g.S.Served.legal g.S.Served.own g.S.Served.replies n
+returns g c = λ n. make_client g.S.Served n

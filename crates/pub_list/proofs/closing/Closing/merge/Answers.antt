@@ -9,5 +9,5 @@ join_seat-requires g c = let own = c.args.self.now.own in let sized = own.0.0 in
   c.requires.list,
   c.requires.home.1,
   omega arith,
-  close g.S.Served.history g.S.Served.legal g.S.Served.own g.S.Served.replies _ _ _ _ _ own.2 c.requires.home.0 c.requires.unheld,
+  close g.S.Served _ _ _ _ _ own.2 c.requires.home.0 c.requires.unheld,
 )

@@ -8,7 +8,7 @@ use Rattle.pub_list.proofs.fresh.Fresh.join.Goals as goal
 
 pub load-head-requires : goal.load-head-requires
 load-head-requires g c = let sized = c.args.list.now.sized.0 in let word = c.head_word.ensures in let within = head_within c.args.list.now.clients in
-    (c.requires, omega arith, head_loads g.S.Served.history g.S.Served.legal g.S.Served.own g.S.Served.replies _ _ _ _ _ word)
+    (c.requires, omega arith, head_loads g.S.Served _ _ _ _ _ word)
 
 pub loop-head-init : goal.loop-head-init
 loop-head-init g c = let did = c.load-head.ensures in let self = c.args.self in let list = c.args.list.now in
@@ -16,21 +16,21 @@ loop-head-init g c = let did = c.load-head.ensures in let self = c.args.self in 
 
 pub store-requires : goal.store-requires
 store-requires g c = let list = c.args.list.now in let sized = list.sized.0 in let word = c.next_word.ensures in let t = c.loop-head.invariant.1 in let within = next_within c.args.self.client list.clients t.small in
-    (c.loop-head.invariant.0 ∙ c.requires, omega arith, next_stores g.S.Served.history g.S.Served.legal g.S.Served.own g.S.Served.replies _ _ _ _ _ c.args.self.client _ word t.role)
+    (c.loop-head.invariant.0 ∙ c.requires, omega arith, next_stores g.S.Served _ _ _ _ _ c.args.self.client _ word t.role)
 
 pub compare_exchange-found-requires : goal.compare_exchange-found-requires
 compare_exchange-found-requires g c = let list = c.args.list.now in let sized = list.sized.0 in let word = c.head_word-in-loop-head.ensures in let t = c.loop-head.invariant.1 in let within = head_within list.clients in
     let did = c.store.ensures in let mid = ap (λ m. m.0.walk) did.2 in (
       did.0 ∙ (c.loop-head.invariant.0 ∙ c.requires),
       omega arith,
-      head_exchanges g.S.Served.history g.S.Served.legal g.S.Served.own g.S.Served.replies _ _ _ _ _ c.args.self.client _ _ word (ap (λ v. v.role) mid ∙ t.role) (ap (λ v. v.stored) mid)
+      head_exchanges g.S.Served _ _ _ _ _ c.args.self.client _ _ word (ap (λ v. v.role) mid ∙ t.role) (ap (λ v. v.stored) mid)
           (ap (λ v. link_to v.list) mid ∙ sym t.link) (ap (λ (x : ℕ). x + 1) c.from-number.ensures),
     )
 
 pub load-requires : goal.load-requires
 load-requires g c = let list = c.args.list.now in let did = c.compare_exchange-found.ensures in let put = c.store.ensures in let t = c.loop-head.invariant in
     let w = wins c.args.self.client list.clients _ c.head_word-in-loop-head.result c.loop-head.head (c.from-number.result + 1) c.compare_exchange-found.result c.loop-head.seat c.store.new.seat c.compare_exchange-found.new.seat t.1 list.sized.1 put.2 did.2 c.if-found-head.true (ap (λ z. z.slots) (did.0 ∙ (put.0 ∙ (t.0 ∙ c.requires)))) in let sized = list.sized.0 in let word = c.state_word.ensures in let within = state_within c.args.self.client list.clients t.1.small in
-    (did.0 ∙ (put.0 ∙ (t.0 ∙ c.requires)), omega arith, slot_fetches g.S.Served.history g.S.Served.legal g.S.Served.own g.S.Served.replies _ _ _ _ _ c.args.self.client word (ap (λ z. z.stage) w.knows))
+    (did.0 ∙ (put.0 ∙ (t.0 ∙ c.requires)), omega arith, slot_fetches g.S.Served _ _ _ _ _ c.args.self.client word (ap (λ z. z.stage) w.knows))
 
 pub invariant_of-result : goal.invariant_of-result
 invariant_of-result g c = let list = c.args.list.now in let did = c.compare_exchange-found.ensures in let put = c.store.ensures in let t = c.loop-head.invariant in

@@ -5,7 +5,7 @@ use Rattle.pub_list.proofs.joined.Joined.first.Goals as goal
 
 pub load-link-requires : goal.load-link-requires
 load-link-requires g c = let sized = c.args.list.now.sized.0 in let word = c.head_word.ensures in let within = head_within c.args.list.now.clients in
-    (c.requires, omega arith, head_loads g.S.Served.history g.S.Served.legal g.S.Served.own g.S.Served.replies _ _ _ _ _ word)
+    (c.requires, omega arith, head_loads g.S.Served _ _ _ _ _ word)
 
 pub invariant_of-self : goal.invariant_of-self
 invariant_of-self g c = let did = c.load-link.ensures in let self = c.args.self.now in let list = c.args.list.now in

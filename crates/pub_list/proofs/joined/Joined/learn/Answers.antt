@@ -8,7 +8,7 @@ use Rattle.pub_list.proofs.joined.Joined.learn.Goals as goal
 
 pub split_seat-token-requires : goal.split_seat-token-requires
 split_seat-token-requires g c = let list = c.args.list.now in let sized = list.sized.0 in let within = head_within list.clients in let other = c.args.other.now in
-    (c.requires.other, omega arith, make_token g.S.Served.history g.S.Served.legal g.S.Served.own g.S.Served.replies _ _ other.client _ other.own.role (is_client other.client _ _ _ other.own.working))
+    (c.requires.other, omega arith, make_token g.S.Served _ _ other.client _ other.own.role (is_client other.client _ _ _ other.own.working))
 
 pub invariant_of-other : goal.invariant_of-other
 invariant_of-other g c = let did = c.split_seat-token.ensures in let other = c.args.other.now in record { own = told_still other.client other.seat c.split_seat-token.new.seat other.own did.0 did.2 }
@@ -19,7 +19,7 @@ join_seat-requires g c = let list = c.args.list.now in let sized = list.sized.0 
   did.3 ∙ c.requires.other,
   ap (λ m. m.1) did.4,
   omega arith,
-  take_in g.S.Served.history g.S.Served.legal g.S.Served.own g.S.Served.replies _ _ c.args.self.now.client _ c.args.other.now.client _ _ (is_client c.args.self.now.client _ _ _ c.args.self.now.own.working)
+  take_in g.S.Served _ _ c.args.self.now.client _ c.args.other.now.client _ _ (is_client c.args.self.now.client _ _ _ c.args.self.now.own.working)
       (ap (λ m. m.0.walk.role) did.4) (ap (λ m. m.0.work.stage) did.4 ∙ ap (λ q. Token q) c.args.other.now.own.working.own),
 )
 

@@ -9,15 +9,15 @@ pub compare_exchange_with-requires : goal.compare_exchange_with-requires
 compare_exchange_with-requires g c = let self = c.args.self.now in let list = c.args.list.now in let sized = list.sized.0 in let word = c.state_word.ensures in let within = state_within c.args.client list.clients (below_all self.client c.args.client self.seat self.own c.requires.combines (subst (IsTaken c.args.client) (sym c.requires.park.0.2) refl) _ list.clients (ap (λ z. z.slots) c.requires.list) list.sized.1) in (
   c.requires.list,
   omega arith,
-  word_parks g.S.Served.history g.S.Served.legal g.S.Served.own g.S.Served.replies _ _ _ _ _ self.client c.args.client list.clients word list.sized.2 (is_client self.client _ _ _ self.own.working) c.requires.combines g.S.Served.client g.S.Served.call g.S.Served.own_call g.S.Served.own_other g.S.Served.one_more g.S.Served.no_more c.args.state c.requires.park
+  word_parks g.S.Served _ _ _ _ _ self.client c.args.client list.clients word list.sized.2 (is_client self.client _ _ _ self.own.working) c.requires.combines c.args.state c.requires.park
       (hands_put self.client c.args.client self.seat self.own c.requires.combines (subst (IsTaken c.args.client) (sym c.requires.park.0.2) refl) self.seat _ (same_hands self.client c.args.client self.seat self.own c.requires.combines (subst (IsTaken c.args.client) (sym c.requires.park.0.2) refl))),
 )
 
 pub invariant_of-self : goal.invariant_of-self
 invariant_of-self g c = let self = c.args.self.now in let list = c.args.list.now in let did = c.compare_exchange_with.ensures in record {
-  own = parked_joined self.client c.args.client self.seat self.own c.requires.combines (subst (IsTaken c.args.client) (sym c.requires.park.0.2) refl) self.seat _ (same_hands self.client c.args.client self.seat self.own c.requires.combines (subst (IsTaken c.args.client) (sym c.requires.park.0.2) refl)) c.state_word.result c.state_word.ensures c.compare_exchange_with.new.seat g.S.Served.history c.args.state did.2 did.0;
+  own = parked_joined self.client c.args.client self.seat self.own c.requires.combines (subst (IsTaken c.args.client) (sym c.requires.park.0.2) refl) self.seat _ (same_hands self.client c.args.client self.seat self.own c.requires.combines (subst (IsTaken c.args.client) (sym c.requires.park.0.2) refl)) c.state_word.result c.state_word.ensures c.compare_exchange_with.new.seat g.S.Served c.args.state did.2 did.0;
 }
 
 pub returns-clause-parked : goal.returns-clause-parked
 returns-clause-parked g c = let self = c.args.self.now in let list = c.args.list.now in let did = c.compare_exchange_with.ensures in
-    parks self.client c.args.client self.seat self.own c.requires.combines (subst (IsTaken c.args.client) (sym c.requires.park.0.2) refl) self.seat _ (same_hands self.client c.args.client self.seat self.own c.requires.combines (subst (IsTaken c.args.client) (sym c.requires.park.0.2) refl)) c.state_word.result c.state_word.ensures c.compare_exchange_with.new.seat g.S.Served.history c.args.state did.2
+    parks self.client c.args.client self.seat self.own c.requires.combines (subst (IsTaken c.args.client) (sym c.requires.park.0.2) refl) self.seat _ (same_hands self.client c.args.client self.seat self.own c.requires.combines (subst (IsTaken c.args.client) (sym c.requires.park.0.2) refl)) c.state_word.result c.state_word.ensures c.compare_exchange_with.new.seat g.S.Served c.args.state did.2

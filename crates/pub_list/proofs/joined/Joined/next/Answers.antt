@@ -6,7 +6,7 @@ use Rattle.pub_list.proofs.joined.Joined.next.Goals as goal
 pub load-link-requires : goal.load-link-requires
 load-link-requires g c = let self = c.args.self.now in let list = c.args.list.now in let sized = list.sized.0 in let word = c.next_word.ensures in
     let within = next_within c.args.client list.clients (known_small self.client list.clients _ self.seat self.own (ap (λ z. z.slots) c.requires.list) list.sized.1 c.args.client c.requires.known) in
-    (c.requires.list, omega arith, next_loads g.S.Served.history g.S.Served.legal g.S.Served.own g.S.Served.replies _ _ _ _ _ c.args.client word c.requires.known)
+    (c.requires.list, omega arith, next_loads g.S.Served _ _ _ _ _ c.args.client word c.requires.known)
 
 pub invariant_of-self : goal.invariant_of-self
 invariant_of-self g c = let did = c.load-link.ensures in let self = c.args.self.now in let list = c.args.list.now in
