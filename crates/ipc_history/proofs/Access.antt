@@ -11,7 +11,7 @@ use Rattle.ipc_creds.specs.Credentials.{Credentials}
 use Rattle.ipc_perm.specs.Access.{Need, denial}
 use Rattle.ipc_model.specs.Decision.{Decision}
 use Rattle.ipc_model.specs.Decision as decisions
-use Rattle.ipc_model.specs.Plan.{Check, Proceeds, IsPlain, Needs, Passes, Plan, Refuse, Grant, Wait, by_check, checks_in, decision, does_pass, is_denial, needs_in, or_wait, unless, ◌⨾◌}
+use Rattle.ipc_model.specs.Plan.{Check, Proceeds, IsPlain, Needs, Passes, Plan, Refuse, Grant, by_check, checks_in, decision, does_pass, is_denial, needs_in, or_wait, unless, ◌⨾◌}
 use Rattle.ipc_model.specs.State.{State}
 use Rattle.ipc_call.specs.declared.rules.Rule.TheVariants.{TimedOut}
 use Rattle.ipc_model.specs.Decide.{decide, is_late, plan, unless_late}
@@ -85,7 +85,6 @@ module _ {X : Type 0} (c : Credentials) where
   met (Proceeds true flags rule plain ⨾ rest) is = met rest is
   met (Proceeds false flags rule plain ⨾ rest) is = absurd (waits-served X (has_flag flags ipc_nowait) rule is)
   met (Refuse rule plain) is = tt
-  met Wait is = tt
   met (Grant answer new) is = tt
 
   denied-need : (need : Need) (rest : Plan X) (rule : Rule) (o : Option Rule) → o ≡ denial c need → refusal (unless o (decision c rest)) ≡ Some rule
@@ -100,7 +99,6 @@ module _ {X : Type 0} (c : Credentials) where
   denied (Proceeds true flags r plain ⨾ rest) rule denies is = later c (Proceeds true flags r plain) (checks_in rest) rule refl (denied rest rule denies is)
   denied (Proceeds false flags r plain ⨾ rest) rule denies is = absurd (waits-refused X (has_flag flags ipc_nowait) r rule plain denies is)
   denied (Refuse r plain) rule denies is = absurd (other-rule r rule plain denies is)
-  denied Wait rule denies is = absurd (none-some rule is)
   denied (Grant answer new) rule denies is = absurd (none-some rule is)
 
   -- a check that passes leaves the decision to the rest
@@ -119,7 +117,6 @@ module _ {X : Type 0} (c : Credentials) where
   decides (check ⨾ rest) (b ∷ before) after need rule split passed fails =
       ap (λ k. by_check c k (decision c rest)) (ap (head_or check) split) ∙ by-passed b (decision c rest) passed.0 ∙ decides rest before after need rule (ap tail_of split) passed.1 fails
   decides (Refuse r plain) before after need rule split passed fails = absurd (ended before after (Needs need) split)
-  decides Wait before after need rule split passed fails = absurd (ended before after (Needs need) split)
   decides (Grant answer new) before after need rule split passed fails = absurd (ended before after (Needs need) split)
 
 pub served : (d : Decision State) (answer : Answer) → outcome_of d ≡ Some (Ok answer) → is_serve d ≡ true

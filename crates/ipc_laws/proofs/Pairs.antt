@@ -49,9 +49,6 @@ module _ {X Y : Type 0} (R : X → Y → Type 0) where
     pub both-refuse : (rule : Rule) (plain : IsPlain rule) → Both c R (plans.Refuse rule plain) (plans.Refuse rule plain)
     both-refuse rule plain = record { pair = refl }
 
-    pub both-wait : Both c R plans.Wait plans.Wait
-    both-wait = record { pair = tt }
-
     pub both-grant : (answer : Answer) (new : X) (later : Y) → R new later → Both c R (plans.Grant answer new) (plans.Grant answer later)
     both-grant answer new later is = record { pair = (refl, is) }
 
@@ -176,9 +173,6 @@ granted-whole P f (Grant answer new) is = is
 module _ {X : Type 0} (P : X → Type 0) (c : Credentials) where
   pub grants-refuse : (rule : Rule) (plain : IsPlain rule) → Grants c P (plans.Refuse rule plain)
   grants-refuse rule plain = record { granted = tt }
-
-  pub grants-wait : Grants c P plans.Wait
-  grants-wait = record { granted = tt }
 
   pub grants-grant : (answer : Answer) (new : X) → P new → Grants c P (plans.Grant answer new)
   grants-grant answer new is = record { granted = is }

@@ -17,7 +17,7 @@ use Rattle.ipc_model.specs.Plan.{Needs, Passes, Proceeds}
 use Rattle.ipc_model.specs.Messages.{chosen, queue_at, receive_found, receive_message, send_found, send_message, take_chosen, with_message, without_message}
 use Rattle.ipc_laws.specs.Worlds.{blank_queue, blur_queues, hides_closed, is_closed, is_hidden_in}
 use Rattle.ipc_laws.proofs.Closed.{denied-permission}
-use Rattle.ipc_laws.proofs.Pairs.{Both, Grants, both-check, both-denied, both-grant, both-less, both-wait, grants-check, grants-found, grants-grant, grants-wait}
+use Rattle.ipc_laws.proofs.Pairs.{Both, Grants, both-check, both-denied, both-grant, both-less, both-refuse, grants-check, grants-found, grants-grant, grants-refuse}
 use Rattle.ipc_laws.proofs.Parts.{Alike, Exact, exact-alike, exact-changed, hidden-changed, own-found, seen-found}
 use Rattle.ipc_laws.proofs.Tables.{again, hidden-at}
 
@@ -50,7 +50,7 @@ module _ (client : ℕ) (c : Credentials) where
             (both-grant IsExact d Done _ _ (exact-with o there seen (with_message who.client who.now message o.contents))))
 
         exact-taken : (size : ℕ) (taken : Option (ℕ × Message)) → Both d IsExact (take_chosen queues who id size flags o.contents taken) (take_chosen blurred who id size flags o.contents taken)
-        exact-taken size None = both-check IsExact d (Proceeds false flags NoMessage tt) (both-wait IsExact d)
+        exact-taken size None = both-check IsExact d (Proceeds false flags NoMessage tt) (both-refuse IsExact d NoMessage tt)
         exact-taken size (Some taken) =
             both-check IsExact d (Passes (nat_le (length taken.1.text) size || has_flag flags msg_noerror) MessageTooLong tt)
             (both-grant IsExact d (MessageAnswer taken.1.mtype (take size taken.1.text)) _ _ (exact-with o there seen (without_message who.client who.now taken.0 o.contents)))
@@ -101,7 +101,7 @@ module _ (client : ℕ) (c : Credentials) where
             (grants-grant IsSame d Done _ (same-with o there (with_message who.client who.now message o.contents)))))))
 
         same-taken : (size : ℕ) (o : Object Queue) → finite.get queues.objects id ≡ Some o → (taken : Option (ℕ × Message)) → Grants d IsSame (take_chosen queues who id size flags o.contents taken)
-        same-taken size o there None = grants-check IsSame d (Proceeds false flags NoMessage tt) (grants-wait IsSame d)
+        same-taken size o there None = grants-check IsSame d (Proceeds false flags NoMessage tt) (grants-refuse IsSame d NoMessage tt)
         same-taken size o there (Some taken) =
             grants-check IsSame d (Passes (nat_le (length taken.1.text) size || has_flag flags msg_noerror) MessageTooLong tt)
             (grants-grant IsSame d (MessageAnswer taken.1.mtype (take size taken.1.text)) _ (same-with o there (without_message who.client who.now taken.0 o.contents)))

@@ -18,7 +18,6 @@ blank p = on_part nothing p
 pub blank-on : {X Y : Type 0} (put : X → Y) (p : Plan X) → blank (on_part put p) ≡ blank p
 blank-on put (check ⨾ rest) = ap (λ p. check ⨾ p) (blank-on put rest)
 blank-on put (plans.Refuse rule plain) = refl
-blank-on put plans.Wait = refl
 blank-on put (plans.Grant answer new) = refl
 
 pub blank-found : {X Y Z : Type 0} (o : Option X) (rule : Rule) (plain : IsPlain rule) (f : X → Plan Y) (g : X → Plan Z) → ((x : X) → blank (f x) ≡ blank (g x)) → blank (found o rule plain f) ≡ blank (found o rule plain g)

@@ -23,7 +23,6 @@ use Rattle.ipc_model.proofs.Plans.{Ends, Ends-decision, Ends-found, Ends-on, End
 every-end : {X : Type 0} (P : Answer → X → Type 0) → ((answer : Answer) (x : X) → P answer x) → (p : Plan X) → Ends P p
 every-end P all (check ⨾ rest) = every-end P all rest
 every-end P all (plans.Refuse rule plain) = tt
-every-end P all plans.Wait = tt
 every-end P all (plans.Grant answer new) = all answer new
 
 granted-so : {X : Type 0} (P Q : Answer → X → Type 0) → ((answer : Answer) (x : X) → P answer x → Q answer x) → (d : Decision X) → IfGranted P d → IfGranted Q d

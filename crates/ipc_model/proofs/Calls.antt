@@ -237,7 +237,6 @@ module _ {X : Type 0} (s : State) (put : X → State) (P : X → Type 0) (keeps 
   kept : (p : Plan X) → Ends (λ answer x. P x) p → Ends (λ answer x. Succeeds s answer (put x)) p
   kept (check ⨾ rest) ends = kept rest ends
   kept (plans.Refuse rule plain) ends = tt
-  kept plans.Wait ends = tt
   kept (plans.Grant answer new) ends = keeps new ends
 
   Ends-part : (p : Plan X) → Ends (λ answer x. P x) p → Ends (Succeeds s) (on_part put p)

@@ -9,4 +9,5 @@ pub mod Leading
 pub mod Plans
 pub mod Staying
 pub mod Touched
+pub mod Trial
 pub mod Turning

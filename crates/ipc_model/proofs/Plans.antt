@@ -8,13 +8,12 @@ use Rattle.ipc_creds.specs.Credentials.{Credentials}
 use Rattle.ipc_perm.specs.Access.{denial}
 use Rattle.ipc_model.specs.Decision.{Decision, left_by, outcome_of, proceeds}
 use Rattle.ipc_model.specs.Decision as decisions
-use Rattle.ipc_model.specs.Plan.{Check, Proceeds, IsPlain, Needs, Passes, Plan, Refuse, Grant, Wait, by_check, checks_in, decision, found, in_order, needs_among, needs_in, on_part, or_wait, unless, ◌⨾◌}
+use Rattle.ipc_model.specs.Plan.{Check, Proceeds, IsPlain, Needs, Passes, Plan, Refuse, Grant, by_check, checks_in, decision, found, in_order, needs_among, needs_in, on_part, or_wait, unless, ◌⨾◌}
 
 -- what is decided where all checks pass
 abbrev pub end_of : {X : Type 0} → Plan X → Decision X
 end_of (check ⨾ rest) = end_of rest
 end_of (Refuse rule plain) = decisions.Refuse rule
-end_of Wait = decisions.Wait
 end_of (Grant answer new) = decisions.Grant answer new
 
 -- what holds of each refusal, of waiting, and of the end of a plan, holds of its decision
@@ -35,7 +34,6 @@ module _ {X : Type 0} (c : Credentials) (P : Decision X → Type 0) (refused : (
   pub by-end : (p : Plan X) → P (end_of p) → P (decision c p)
   by-end (check ⨾ rest) holds = by-checked check (decision c rest) (by-end rest holds)
   by-end (Refuse rule plain) holds = holds
-  by-end Wait holds = holds
   by-end (Grant answer new) holds = holds
 
 -- what is granted has the property
@@ -63,7 +61,6 @@ Ends-order P (check ∷ checks) p ends = Ends-order P checks p ends
 pub Ends-on : {X Y : Type 0} (put : X → Y) (P : Answer → Y → Type 0) (p : Plan X) → Ends (λ answer x. P answer (put x)) p → Ends P (on_part put p)
 Ends-on put P (check ⨾ rest) ends = Ends-on put P rest ends
 Ends-on put P (Refuse rule plain) ends = tt
-Ends-on put P Wait ends = tt
 Ends-on put P (Grant answer new) ends = ends
 
 -- a decision on a part, as one on the whole
@@ -95,7 +92,6 @@ module _ {X Y : Type 0} (c : Credentials) (put : X → Y) where
   decision-on (Needs need ⨾ rest) = whole-unless (denial c need) (decision c rest) (decision c (on_part put rest)) (decision-on rest)
   decision-on (Proceeds proceeds flags rule plain ⨾ rest) = whole-proceeds proceeds flags (decision c rest) (decision c (on_part put rest)) rule (decision-on rest)
   decision-on (Refuse rule plain) = refl
-  decision-on Wait = refl
   decision-on (Grant answer new) = refl
 
 outcome-whole : {X Y : Type 0} (put : X → Y) (d : Decision X) → outcome_of (on_whole put d) ≡ outcome_of d
@@ -119,7 +115,6 @@ left-on c put p t s same = ap (λ d. left_by s d) (decision-on c put p) ∙ left
 pub checks-on : {X Y : Type 0} (put : X → Y) (p : Plan X) → checks_in (on_part put p) ≡ checks_in p
 checks-on put (check ⨾ rest) = ap (λ cs. check ∷ cs) (checks-on put rest)
 checks-on put (Refuse rule plain) = refl
-checks-on put Wait = refl
 checks-on put (Grant answer new) = refl
 
 pub needs-on : {X Y : Type 0} (put : X → Y) (p : Plan X) → needs_in (on_part put p) ≡ needs_in p
@@ -131,7 +126,6 @@ never_waits (Passes passes rule plain ⨾ rest) = never_waits rest
 never_waits (Needs need ⨾ rest) = never_waits rest
 never_waits (Proceeds proceeds flags rule plain ⨾ rest) = false
 never_waits (Refuse rule plain) = true
-never_waits Wait = false
 never_waits (Grant answer new) = true
 
 pub never-found : {X Y : Type 0} (o : Option X) (rule : Rule) (plain : IsPlain rule) (rest : X → Plan Y) → ((x : X) → never_waits (rest x) ≡ true) → never_waits (found o rule plain rest) ≡ true
@@ -143,7 +137,6 @@ never-on put (Passes passes rule plain ⨾ rest) never = never-on put rest never
 never-on put (Needs need ⨾ rest) never = never-on put rest never
 never-on put (Proceeds proceeds flags rule plain ⨾ rest) never = never
 never-on put (Refuse rule plain) never = never
-never-on put Wait never = never
 never-on put (Grant answer new) never = never
 
 module _ {X : Type 0} (c : Credentials) where
@@ -160,5 +153,4 @@ module _ {X : Type 0} (c : Credentials) where
   proceeds-never (Needs need ⨾ rest) never = proceeds-unless (denial c need) (decision c rest) (proceeds-never rest never)
   proceeds-never (Proceeds proceeds flags rule plain ⨾ rest) never = absurd (false≢true never)
   proceeds-never (Refuse rule plain) never = refl
-  proceeds-never Wait never = absurd (false≢true never)
   proceeds-never (Grant answer new) never = refl

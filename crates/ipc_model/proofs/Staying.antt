@@ -101,7 +101,6 @@ module _ (s : State) (client : ℕ) (kind : Kind) (at : ℕ) where
     part : (p : Plan X) → Ends (λ answer x. P x) p → Ends (λ answer new. Kept new) (on_part put p)
     part (check ⨾ rest) ends = part rest ends
     part (plans.Refuse rule plain) ends = tt
-    part plans.Wait ends = tt
     part (plans.Grant answer new) ends = keeps new ends
 
   on-queues : (p : Plan Queues) → Ends (λ answer u. KeepsQueue u) p → Ends (λ answer new. Kept new) (on_part (λ queues. record s { queues = queues }) p)
@@ -114,13 +113,11 @@ module _ (s : State) (client : ℕ) (kind : Kind) (at : ℕ) where
   any-shared : (p : Plan Shared) → Ends (λ answer new. Kept new) (on_part (λ shared. record s { shared = shared }) p)
   any-shared (check ⨾ rest) = any-shared rest
   any-shared (plans.Refuse rule plain) = tt
-  any-shared plans.Wait = tt
   any-shared (plans.Grant answer new) = stays-shared new
 
   on-sets : (p : Plan (Table (Object SemSet))) → Ends (λ answer t. is_same kinds.Sems kind ≡ true → finite.get t.objects at ≡ set_at s.sems at) p → Ends (λ answer u. KeepsSet u) (on_part (λ sets. record s.sems { sets = sets }) p)
   on-sets (check ⨾ rest) ends = on-sets rest ends
   on-sets (plans.Refuse rule plain) ends = tt
-  on-sets plans.Wait ends = tt
   on-sets (plans.Grant answer new) ends = λ is. (ends is, λ c ne num. refl)
 
   entry : (u : Sems) (c num : ℕ) → finite.get u.undo (key c at num) ≡ finite.get s.sems.undo (key c at num) → adj_of u.undo c at num ≡ adj_of s.sems.undo c at num

@@ -42,14 +42,12 @@ infixr 5 ◌⨾◌
 pub data Plan (X : Type 0) : Type 0 where
   ◌⨾◌ : (check : Check) (rest : Plan X) → Plan X
   Refuse : (rule : Rule) (plain : IsPlain rule) → Plan X
-  Wait : Plan X
   Grant : (answer : Answer) (new : X) → Plan X
 
 -- the same on a whole, of which it changes a part
 abbrev pub on_part : {X Y : Type 0} → (X → Y) → Plan X → Plan Y
 on_part put (check ⨾ rest) = check ⨾ on_part put rest
 on_part put (Refuse rule plain) = Refuse rule plain
-on_part put Wait = Wait
 on_part put (Grant answer new) = Grant answer (put new)
 
 -- several checks, and then the rest
@@ -64,7 +62,7 @@ found (Some x) rule plain rest = rest x
 
 -- what is looked for is there, or the call waits, and with IPC_NOWAIT the rule refuses
 abbrev pub awaited : {X Y : Type 0} → Option X → ℕ → (rule : Rule) → IsPlain rule → (X → Plan Y) → Plan Y
-awaited None flags rule plain rest = Proceeds false flags rule plain ⨾ Wait
+awaited None flags rule plain rest = Proceeds false flags rule plain ⨾ Refuse rule plain
 awaited (Some x) flags rule plain rest = rest x
 
 abbrev pub unless : {X : Type 0} → Option Rule → Decision X → Decision X
@@ -83,7 +81,6 @@ by_check c (Proceeds proceeds flags rule plain) rest = if proceeds then rest els
 abbrev pub decision : {X : Type 0} → Credentials → Plan X → Decision X
 decision c (check ⨾ rest) = by_check c check (decision c rest)
 decision c (Refuse rule plain) = decisions.Refuse rule
-decision c Wait = decisions.Wait
 decision c (Grant answer new) = decisions.Grant answer new
 
 -- what these checks alone give: all pass, or a rule refuses, or the call waits
@@ -94,7 +91,6 @@ passed c checks = without_answer (decision c (in_order checks (Grant Done (tt {0
 abbrev pub checks_in : {X : Type 0} → Plan X → List Check
 checks_in (check ⨾ rest) = check ∷ checks_in rest
 checks_in (Refuse rule plain) = []
-checks_in Wait = []
 checks_in (Grant answer new) = []
 
 abbrev pub needs_among : List Check → List Need

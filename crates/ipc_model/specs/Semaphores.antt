@@ -3,12 +3,13 @@
 -- isn't; each names one of its semaphores; then the operations are tried in their order. The values: the set is there;
 -- the caller may read or alter it; the semaphore is there, or as many values are given as it has semaphores; a value
 -- that is set is asked for its range first.
-use Rattle.std.specs.Prelude.{ℕ, ◌==◌, nat_le, nat_lt, ℤ, pos, ◌+ℤ◌, ◌-ℤ◌, int_lt, Bool, true, not, ◌&&◌, List, [], ◌∷◌, ◌++◌, length, filter, map, slice_get, slice_set, Option, None, option_map, unwrap_or, if◌then◌else◌}
+use Rattle.std.specs.Prelude.{ℕ, ◌==◌, nat_le, nat_lt, ℤ, pos, ◌+ℤ◌, ◌-ℤ◌, int_lt, ⊤, Bool, true, not, ◌&&◌, List, [], ◌∷◌, ◌++◌, length, filter, map, slice_set, Option, Some, None, Result, Ok, Err, option_map, unwrap_or, if◌then◌else◌}
 use Rattle.std.specs.List.{list_all, list_any}
 use Rattle.std.specs.Ordering.{int_eq}
 use Rattle.std.specs.FinMap as finite
 use Rattle.ipc_call.specs.declared.calls.SemOper.{SemOper}
 use Rattle.ipc_call.specs.declared.limits.Limits.{Limits}
+use Rattle.ipc_call.specs.declared.rules.Rule.{Rule}
 use Rattle.ipc_call.specs.declared.rules.Rule.TheVariants.{BadId, BadSem, BadSize, NoOperations, SemOutOfSet, TooManyOperations, UndoRange, ValueRange, WouldWait}
 use Rattle.ipc_call.specs.declared.replies.Answer.TheVariants.{Done, Value, Values}
 use Rattle.ipc_perm.specs.declared.access.Want.{Want}
@@ -18,15 +19,13 @@ use Rattle.ipc_objects.specs.declared.object.Object.{Object}
 use Rattle.ipc_objects.specs.Objects.{changed, with_contents}
 use Rattle.sem_set.specs.declared.sets.Semaphore.{Semaphore}
 use Rattle.sem_set.specs.declared.trials.Met.{Met}
-use Rattle.sem_set.specs.declared.trials.Trial.{Trial}
-use Rattle.sem_set.specs.declared.trials.Trial.TheVariants as trials
 use Rattle.sem_set.specs.Exits.{any_from, undone_from}
 use Rattle.sem_set.specs.Met.{met_at}
 use Rattle.sem_set.specs.Sets.{is_value, pid_of as last_of, semvmx, set_to, value_of}
-use Rattle.sem_set.specs.Trials.{are_in, committed, is_semadj, must_wait, sum_of, trial_on, undoes, undoes_on}
+use Rattle.sem_set.specs.Trials.{are_in, committed, is_semadj, must_wait, sum_of, undoes, undoes_on}
 use Rattle.sem_undo.specs.Entries.{Entries, adj_of, cleared, with_adj, without_client}
-use Rattle.ipc_model.specs.State.{Caller, SemSet, Sems, pid_of}
-use Rattle.ipc_model.specs.Plan.{Check, Needs, Passes, Plan, Proceeds, Grant, found, in_order, ◌⨾◌}
+use Rattle.ipc_model.specs.State.{Caller, SemSet, Sems, nobody, pid_of}
+use Rattle.ipc_model.specs.Plan.{Check, Needs, Passes, Plan, Proceeds, Grant, found, in_order, passed, ◌⨾◌}
 
 abbrev pub set_at : Sems → ℕ → Option (Object SemSet)
 set_at sems id = finite.get sems.sets.objects id
@@ -143,14 +142,21 @@ operate limits sems who id ops =
     ⨾ Passes (nat_le (length ops) limits.sem_opm) TooManyOperations _
     ⨾ operate_found sems who id ops (set_at sems id)
 
--- the operation at which a semop stops, where it waits
-abbrev pub stops_at : List SemOper → Trial → Option SemOper
-stops_at ops trials.Go = None
-stops_at ops (trials.Wait place) = slice_get ops place
-stops_at ops (trials.Refuse rule) = None
+-- the operation at which a semop waits, by what its own checks give and where it waits later
+abbrev pub waits_at_oper : SemOper → Option (Result ⊤ Rule) → Option SemOper → Option SemOper
+waits_at_oper o None later = Some o
+waits_at_oper o (Some (Ok _)) later = later
+waits_at_oper o (Some (Err rule)) later = None
+
+-- of those after the earlier ones: none of their checks asks for credentials
+abbrev pub stopping_from : List Semaphore → (ℕ → ℤ) → List SemOper → List SemOper → Option SemOper
+stopping_from sems adj earlier [] = None
+stopping_from sems adj earlier (o ∷ os) =
+    waits_at_oper o (passed nobody (oper_checks (met_at sems adj earlier o.num) o))
+    (stopping_from sems adj (earlier ++ o ∷ []) os)
 
 abbrev pub stopping_on : (ℕ → ℤ) → List SemOper → List Semaphore → Option SemOper
-stopping_on adj ops sems = if are_in sems ops then stops_at ops (trial_on sems adj ops) else None
+stopping_on adj ops sems = if are_in sems ops then stopping_from sems adj [] ops else None
 
 -- of a client on the set of an identifier
 abbrev pub stopping : Sems → ℕ → ℕ → List SemOper → Option SemOper

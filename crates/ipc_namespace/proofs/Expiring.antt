@@ -85,7 +85,6 @@ module _ (initial s : State) (rest : s ≡ record initial { parked = s.parked })
 on-on : {X Y Z : Type 0} (g : Y → Z) (f : X → Y) (p : Plan X) → on_part g (on_part f p) ≡ on_part (λ x. g (f x)) p
 on-on g f (check ⨾ rest) = ap (λ p. check ⨾ p) (on-on g f rest)
 on-on g f (plans.Refuse rule plain) = refl
-on-on g f plans.Wait = refl
 on-on g f (plans.Grant answer new) = refl
 
 on-found : {X Y Z : Type 0} (g : Y → Z) (o : Option X) (rule : Rule) (plain : IsPlain rule) (rest : X → Plan Y) → on_part g (found o rule plain rest) ≡ found o rule plain (λ x. on_part g (rest x))

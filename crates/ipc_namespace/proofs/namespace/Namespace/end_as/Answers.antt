@@ -1,11 +1,11 @@
 use Rattle.std.proofs.Common.{◌+◌, length, sym, ap, subst, ◌∙◌}
 use Rattle.queue_calls.specs.Held.{one_if, room}
-use Rattle.set_calls.specs.Held.{sems_of}
 use Rattle.ipc_model.specs.State.{State, is_waiting}
 use Rattle.ipc_model.specs.Step.{without}
 use Rattle.ipc_parked.specs.Parked.{waiting}
 use Rattle.ipc_parked.proofs.Listed.{any_waiting}
 use Rattle.std.specs.Prelude.{◌==◌, not}
+use Rattle.ipc_namespace.specs.contracts.namespace.Namespace.{the_view}
 use Rattle.ipc_namespace.specs.Namespace.{AreHeld, is_at}
 use Rattle.ipc_namespace.proofs.Held.{held-filter}
 use Rattle.ipc_namespace.proofs.Leaving.{Leaves, leaves}
@@ -35,9 +35,8 @@ invariant_of-self c =
 
 pub returns-clause-state : goal.returns-clause-state
 returns-clause-state c =
-    let n = c.self.inside in
     let b = (goal.at.returns-clause-state c).After-finish-call in
-    (λ i. record { limits = n.limits; clients = n.clients.items; ended = n.ended.items; clock = n.clock; queues = c.release_in.ensures.queues i; sems = sems_of n.sets; shared = n.segments; parked = (left b).rest i })
+    (λ i. record (the_view c.self.inside) { queues = c.release_in.ensures.queues i; parked = (left b).rest i })
     ∙ ap (λ (s : State). without s c.args.client) c.self.view_is
 
 pub returns-clause-shorter : goal.returns-clause-shorter

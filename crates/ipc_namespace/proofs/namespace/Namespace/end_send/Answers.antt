@@ -8,7 +8,6 @@ use Rattle.ipc_call.specs.declared.replies.Answer.TheVariants.{Done}
 use Rattle.ipc_call.specs.declared.replies.Ended.{Ended}
 use Rattle.ipc_call.specs.declared.replies.Waiting.{Waiting}
 use Rattle.ipc_call.specs.declared.rules.Rule.{Rule}
-use Rattle.set_calls.specs.Held.{sems_of}
 use Rattle.queue_calls.specs.Calls.{sending}
 use Rattle.ipc_model.specs.Decision.{without_answer}
 use Rattle.queue_calls.specs.Held.{one_if, queues_of, room}
@@ -19,6 +18,7 @@ use Rattle.ipc_model.specs.Step.{end_waiting, without}
 use Rattle.ipc_parked.specs.Parked.{waiting}
 use Rattle.ipc_parked.proofs.Listed.{any_waiting}
 use Rattle.std.specs.Prelude.{◌==◌, not}
+use Rattle.ipc_namespace.specs.contracts.namespace.Namespace.{the_view}
 use Rattle.ipc_namespace.specs.Namespace.{AreHeld, is_send_to, sent_to}
 use Rattle.ipc_namespace.proofs.Held.{held-filter}
 use Rattle.ipc_namespace.proofs.Calling.{IfSome-at, answered-refused, ends-so, put_in, send-answered, send-left, send-outcome, sent-done}
@@ -61,14 +61,13 @@ caller_of-who-requires-clause-known c = rw c.deref.ensures.value (left (goal.at.
 
 -- the state without the call
 rest : After-caller_of-who → State
-rest c = let n = c.self.inside in record { limits = n.limits; clients = n.clients.items; ended = n.ended.items; clock = n.clock; queues = queues_of n.queues; sems = sems_of n.sets; shared = n.segments; parked = waiting c.finish.new.self }
+rest c = record (the_view c.self.inside) { parked = waiting c.finish.new.self }
 
 rest_is : (c : After-caller_of-who) → rest c ≡ without c.args.self.now c.args.client
 unfolding rest
 rest_is c =
-    let n = c.self.inside in
     let b = (goal.at.After-caller_of-who c).After-finish in
-    (λ i. record { limits = n.limits; clients = n.clients.items; ended = n.ended.items; clock = n.clock; queues = queues_of n.queues; sems = sems_of n.sets; shared = n.segments; parked = (left b).rest i })
+    (λ i. record (the_view c.self.inside) { parked = (left b).rest i })
     ∙ ap (λ (s : State). without s c.args.client) c.self.view_is
 
 called : (c : After-caller_of-who) → c.caller_of-who.result ≡ caller (rest c) c.args.client

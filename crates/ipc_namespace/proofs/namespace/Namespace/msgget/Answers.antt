@@ -1,28 +1,21 @@
 use Rattle.std.proofs.Common.{◌≡◌, sym, ◌∙◌}
 use Rattle.std.proofs.lemmas.Result.{on_ok_weaker}
-use Rattle.ipc_parked.specs.Parked.{waiting}
 use Rattle.queue_calls.specs.Held.{queues_of}
-use Rattle.set_calls.specs.Held.{sems_of}
 use Rattle.ipc_model.specs.State.{State, caller}
+use Rattle.ipc_namespace.specs.contracts.namespace.Namespace.{the_view}
 use Rattle.ipc_namespace.proofs.Calling.{IfOk-map, get-left, get-outcome}
 use Rattle.ipc_namespace.proofs.namespace.Namespace.msgget.Goals as goal
 use Rattle.ipc_namespace.proofs.namespace.Namespace.msgget.Goals.{After-msgget}
 
-view : After-msgget → State
-view c = let n = c.self.inside in record { limits = n.limits; clients = n.clients.items; ended = n.ended.items; clock = n.clock; queues = queues_of n.queues; sems = sems_of n.sets; shared = n.segments; parked = waiting n.parked }
-
-called : (c : After-msgget) → c.caller_of-who.result ≡ caller (view c) c.args.client
-unfolding view
+called : (c : After-msgget) → c.caller_of-who.result ≡ caller (the_view c.self.inside) c.args.client
 called c = let e = c.caller_of-who.ensures in rw c.deref.ensures.value at e
 
 pub returns-clause-outcome : goal.returns-clause-outcome
-unfolding view
 returns-clause-outcome c =
     let b = (goal.at.returns-clause-outcome c).After-msgget in
-    IfOk-map c.msgget.result _ _ (λ outcome is. sym (get-outcome (view b) c.args.self.now c.args.client c.caller_of-who.result c.self.view_is (called b) c.args.key c.args.flags) ∙ is) c.msgget.ensures.outcome
+    IfOk-map c.msgget.result _ _ (λ outcome is. sym (get-outcome (the_view b.self.inside) c.args.self.now c.args.client c.caller_of-who.result c.self.view_is (called b) c.args.key c.args.flags) ∙ is) c.msgget.ensures.outcome
 
 pub returns-clause-state : goal.returns-clause-state
-unfolding view
 returns-clause-state c =
     let b = (goal.at.returns-clause-state c).After-msgget in
-    on_ok_weaker c.msgget.result (λ is. get-left (view b) c.args.self.now c.args.client c.caller_of-who.result c.self.view_is (called b) c.args.key c.args.flags (queues_of c.msgget.new.self) is) c.msgget.ensures.queues
+    on_ok_weaker c.msgget.result (λ is. get-left (the_view b.self.inside) c.args.self.now c.args.client c.caller_of-who.result c.self.view_is (called b) c.args.key c.args.flags (queues_of c.msgget.new.self) is) c.msgget.ensures.queues

@@ -6,22 +6,17 @@ use Rattle.ipc_call.specs.declared.calls.Call.{Call}
 use Rattle.ipc_call.specs.declared.calls.Call.TheVariants.{MsgSnd}
 use Rattle.ipc_call.specs.declared.replies.Answer.TheVariants.{Done}
 use Rattle.ipc_call.specs.declared.rules.Rule.{Rule}
-use Rattle.ipc_parked.specs.Parked.{waiting}
 use Rattle.queue_calls.specs.Held.{queues_of}
-use Rattle.set_calls.specs.Held.{sems_of}
 use Rattle.queue_calls.specs.Calls.{sending}
 use Rattle.ipc_model.specs.Decision.{Decision, left_by, outcome_of, without_answer}
 use Rattle.ipc_model.specs.State.{Queues, State, caller}
 use Rattle.ipc_model.specs.Decide.{decide_alive as decide}
+use Rattle.ipc_namespace.specs.contracts.namespace.Namespace.{the_view}
 use Rattle.ipc_namespace.proofs.Calling.{answered-none, answered-refused, left-refused, left-waits, send-left, send-outcome, sent-done}
 use Rattle.ipc_namespace.proofs.namespace.Namespace.msgsnd.Goals as goal
 use Rattle.ipc_namespace.proofs.namespace.Namespace.msgsnd.Goals.{After-decide_send}
 
-view : After-decide_send → State
-view c = let n = c.self.inside in record { limits = n.limits; clients = n.clients.items; ended = n.ended.items; clock = n.clock; queues = queues_of n.queues; sems = sems_of n.sets; shared = n.segments; parked = waiting n.parked }
-
-called : (c : After-decide_send) → c.caller_of-who.result ≡ caller (view c) c.args.client
-unfolding view
+called : (c : After-decide_send) → c.caller_of-who.result ≡ caller (the_view c.self.inside) c.args.client
 called c = let e = c.caller_of-who.ensures in rw c.deref.ensures.value at e
 
 abbrev asked : After-decide_send → Call
@@ -31,18 +26,15 @@ back : (c : After-decide_send) → to_z w64 (of_z w64 c.args.mtype) ≡ c.args.m
 back c = to_z-of_z w64 c.args.mtype c.ranges.mtype
 
 -- how the call ends, by what was decided of its message, and what it leaves
-ends : (c : After-decide_send) → outcome_of (sending (view c).limits (view c).queues c.caller_of-who.result c.args.id c.args.flags (record { mtype = to_z w64 (of_z w64 c.args.mtype); text = c.args.text.now })) ≡ outcome_of (decide c.args.self.now c.args.client (asked c))
-unfolding view
-ends c = send-outcome (view c) c.args.self.now c.args.client c.caller_of-who.result c.self.view_is (called c) c.args.id c.args.flags _ c.args.mtype c.args.text.now (back c)
+ends : (c : After-decide_send) → outcome_of (sending (the_view c.self.inside).limits (the_view c.self.inside).queues c.caller_of-who.result c.args.id c.args.flags (record { mtype = to_z w64 (of_z w64 c.args.mtype); text = c.args.text.now })) ≡ outcome_of (decide c.args.self.now c.args.client (asked c))
+ends c = send-outcome (the_view c.self.inside) c.args.self.now c.args.client c.caller_of-who.result c.self.view_is (called c) c.args.id c.args.flags _ c.args.mtype c.args.text.now (back c)
 
 pub returns-in-None-clause-outcome : goal.returns-in-None-clause-outcome
-unfolding view
 returns-in-None-clause-outcome c =
     let b = (goal.at.returns-in-None-clause-outcome c).After-decide_send in
     sym (answered-none _ (sym (c.in-None.ensures c.args.text.now (sym c.len.ensures)))) ∙ ends b
 
 pub returns-in-None-clause-state : goal.returns-in-None-clause-state
-unfolding view
 returns-in-None-clause-state c =
     let b = (goal.at.returns-in-None-clause-state c).After-decide_send in
     let s = c.args.self.now in
@@ -50,37 +42,32 @@ returns-in-None-clause-state c =
     sym (left-waits s (decide s c.args.client (asked b)) waits)
 
 pub returns-in-Some-Err-clause-outcome : goal.returns-in-Some-Err-clause-outcome
-unfolding view
 returns-in-Some-Err-clause-outcome c =
     let b = (goal.at.returns-in-Some-Err-clause-outcome c).After-decide_send in
     let refused = answered-refused _ c.in-Some-Err.rule (sym (c.in-Some-Err.ensures c.args.text.now (sym c.len.ensures)) ∙ ap (λ (r : Result ⊤ Rule). Some r) c.in-Some-Err.field-0-is) in
     sym refused.0 ∙ ends b
 
 pub returns-in-Some-Err-clause-state : goal.returns-in-Some-Err-clause-state
-unfolding view
 returns-in-Some-Err-clause-state c =
     let b = (goal.at.returns-in-Some-Err-clause-state c).After-decide_send in
     let s = c.args.self.now in
     let refused = answered-refused _ c.in-Some-Err.rule (sym (c.in-Some-Err.ensures c.args.text.now (sym c.len.ensures)) ∙ ap (λ (r : Result ⊤ Rule). Some r) c.in-Some-Err.field-0-is) in
     sym (left-refused s (decide s c.args.client (asked b)) c.in-Some-Err.rule (sym (ends b) ∙ refused.0))
 
-granted : (c : After-decide_send) (r : Result ⊤ Rule) → Some r ≡ without_answer (sending (view c).limits (view c).queues c.caller_of-who.result c.args.id c.args.flags (record { mtype = to_z w64 (of_z w64 c.args.mtype); text = c.args.text.now })) → r ≡ Ok tt
+granted : (c : After-decide_send) (r : Result ⊤ Rule) → Some r ≡ without_answer (sending (the_view c.self.inside).limits (the_view c.self.inside).queues c.caller_of-who.result c.args.id c.args.flags (record { mtype = to_z w64 (of_z w64 c.args.mtype); text = c.args.text.now })) → r ≡ Ok tt
     → outcome_of (decide c.args.self.now c.args.client (asked c)) ≡ Some (Ok Done)
-unfolding view
 granted c r told is =
-    sym (ends c) ∙ sent-done (view c).limits (view c).queues c.caller_of-who.result c.args.id c.args.flags (record { mtype = to_z w64 (of_z w64 c.args.mtype); text = c.args.text.now }) (sym told ∙ ap (λ (x : Result ⊤ Rule). Some x) is)
+    sym (ends c) ∙ sent-done (the_view c.self.inside).limits (the_view c.self.inside).queues c.caller_of-who.result c.args.id c.args.flags (record { mtype = to_z w64 (of_z w64 c.args.mtype); text = c.args.text.now }) (sym told ∙ ap (λ (x : Result ⊤ Rule). Some x) is)
 
 pub returns-in_ok-msgsnd-in-Some-Ok-clause-outcome : goal.returns-in_ok-msgsnd-in-Some-Ok-clause-outcome
-unfolding view
 returns-in_ok-msgsnd-in-Some-Ok-clause-outcome c =
     let b = (goal.at.returns-in_ok-msgsnd-in-Some-Ok-clause-outcome c).After-decide_send in
     sym (granted b _ (c.in-Some-Ok.ensures c.args.text.now (sym c.len.ensures)) c.in-Some-Ok.field-0-is)
 
 pub returns-in_ok-msgsnd-in-Some-Ok-clause-state : goal.returns-in_ok-msgsnd-in-Some-Ok-clause-state
-unfolding view
 returns-in_ok-msgsnd-in-Some-Ok-clause-state c =
     let b = (goal.at.returns-in_ok-msgsnd-in-Some-Ok-clause-state c).After-decide_send in
-    let v = view b in
+    let v = the_view b.self.inside in
     let same = c.in_ok-copy-in-Some-Ok.ensures in
     let send : List ℕ → Decision Queues = λ text. sending v.limits v.queues c.caller_of-who.result c.args.id c.args.flags (record { mtype = to_z w64 (of_z w64 c.args.mtype); text = text }) in
     let told = c.in-Some-Ok.ensures c.args.text.now (sym c.len.ensures) in

@@ -6,7 +6,6 @@ use Rattle.std.proofs.lemmas.Result.{on_ok_weaker}
 use Rattle.ipc_call.specs.declared.calls.Call.{Call}
 use Rattle.ipc_call.specs.declared.calls.Call.TheVariants.{SemGet, GetVal, GetPid, GetAll, SetVal, SetAll}
 use Rattle.ipc_parked.specs.Parked.{waiting}
-use Rattle.queue_calls.specs.Held.{queues_of}
 use Rattle.set_calls.specs.Held.{sems_of}
 use Rattle.ipc_model.specs.State.{Caller, Sems, State, caller}
 use Rattle.ipc_model.specs.Decision.{Outcome, left_by, outcome_of}
@@ -14,17 +13,14 @@ use Rattle.ipc_model.specs.Gets.{get_set}
 use Rattle.ipc_model.specs.Semaphores.{get_all, get_pid, get_value, set_all, set_value}
 use Rattle.ipc_model.specs.Plan.{Plan, decision}
 use Rattle.ipc_model.specs.Decide.{OnSems, decide_alive as decide, part_plan}
+use Rattle.ipc_namespace.specs.contracts.namespace.Namespace.{the_view}
 use Rattle.ipc_namespace.proofs.Calling.{part-left, part-outcome, part-told, put_sems}
 use Rattle.sem_undo.specs.Entries.{Undone, row_len}
 use Rattle.ipc_namespace.proofs.Held.{held-same}
 use Rattle.ipc_namespace.proofs.namespace.Namespace.on_sets.Goals as goal
 use Rattle.ipc_namespace.proofs.namespace.Namespace.on_sets.Goals.{After-caller_of-who}
 
-view : After-caller_of-who → State
-view c = let n = c.self.inside in record { limits = n.limits; clients = n.clients.items; ended = n.ended.items; clock = n.clock; queues = queues_of n.queues; sems = sems_of n.sets; shared = n.segments; parked = waiting n.parked }
-
-called : (c : After-caller_of-who) → c.caller_of-who.result ≡ caller (view c) c.args.client
-unfolding view
+called : (c : After-caller_of-who) → c.caller_of-who.result ≡ caller (the_view c.self.inside) c.args.client
 called c = let e = c.caller_of-who.ensures in rw c.deref.ensures.value at e
 
 anyway : {T E : Type 0} (r : Result T E) (P : Type 0) → P → OnOk r P
@@ -36,76 +32,73 @@ module _ (c : After-caller_of-who) (read : Call) (is : c.args.call.now ≡ read)
   abbrev who : Caller
   who = c.caller_of-who.result
 
-  outcome : outcome_of (decision who.creds (part (view c) who)) ≡ outcome_of (decide c.args.self.now c.args.client c.args.call.now)
-  unfolding view
-  outcome = part-outcome OnSems put_sems (λ t. t.sems) (λ t. refl) (λ t p. refl) part (view c) c.args.self.now c.args.client who c.self.view_is (called c) c.args.call.now read is planned
+  outcome : outcome_of (decision who.creds (part (the_view c.self.inside) who)) ≡ outcome_of (decide c.args.self.now c.args.client c.args.call.now)
+  outcome = part-outcome OnSems put_sems (λ t. t.sems) (λ t. refl) (λ t p. refl) part (the_view c.self.inside) c.args.self.now c.args.client who c.self.view_is (called c) c.args.call.now read is planned
 
-  told : {E : Type 0} (r : Result Outcome E) → IfOk r (λ o. outcome_of (decision who.creds (part (view c) who)) ≡ Some o) → IfOk r (λ o. outcome_of (decide c.args.self.now c.args.client c.args.call.now) ≡ Some o)
-  unfolding view
-  told r = part-told OnSems put_sems (λ t. t.sems) (λ t. refl) (λ t p. refl) part (view c) c.args.self.now c.args.client who c.self.view_is (called c) c.args.call.now read is planned r
+  told : {E : Type 0} (r : Result Outcome E) → IfOk r (λ o. outcome_of (decision who.creds (part (the_view c.self.inside) who)) ≡ Some o) → IfOk r (λ o. outcome_of (decide c.args.self.now c.args.client c.args.call.now) ≡ Some o)
+  told r = part-told OnSems put_sems (λ t. t.sems) (λ t. refl) (λ t p. refl) part (the_view c.self.inside) c.args.self.now c.args.client who c.self.view_is (called c) c.args.call.now read is planned r
 
-  left : (sems : Sems) → sems ≡ left_by (view c).sems (decision who.creds (part (view c) who)) → put_sems (view c) sems ≡ left_by c.args.self.now (decide c.args.self.now c.args.client c.args.call.now)
-  unfolding view
-  left = part-left OnSems put_sems (λ t. t.sems) (λ t. refl) (λ t p. refl) part (view c) c.args.self.now c.args.client who c.self.view_is (called c) c.args.call.now read is planned
+  left : (sems : Sems) → sems ≡ left_by (the_view c.self.inside).sems (decision who.creds (part (the_view c.self.inside) who)) → put_sems (the_view c.self.inside) sems ≡ left_by c.args.self.now (decide c.args.self.now c.args.client c.args.call.now)
+  left = part-left OnSems put_sems (λ t. t.sems) (λ t. refl) (λ t p. refl) part (the_view c.self.inside) c.args.self.now c.args.client who c.self.view_is (called c) c.args.call.now read is planned
 
 pub returns-in-SemGet-clause-outcome : goal.returns-in-SemGet-clause-outcome
-unfolding view part_plan
+unfolding part_plan
 returns-in-SemGet-clause-outcome c =
     let b = (goal.at.returns-in-SemGet-clause-outcome c).After-caller_of-who in
     let n = c.in-SemGet in
     told b (SemGet n.key n.nsems n.flags) n.is (λ t w. get_set t.limits t.sems w n.key n.nsems n.flags) (λ t. refl) c.semget.result c.semget.ensures.outcome
 
 pub returns-in-SemGet-clause-state : goal.returns-in-SemGet-clause-state
-unfolding view part_plan
+unfolding part_plan
 returns-in-SemGet-clause-state c =
     let b = (goal.at.returns-in-SemGet-clause-state c).After-caller_of-who in
     let n = c.in-SemGet in
     on_ok_weaker c.semget.result (λ so. left b (SemGet n.key n.nsems n.flags) n.is (λ t w. get_set t.limits t.sems w n.key n.nsems n.flags) (λ t. refl) (sems_of c.semget.new.self) so) c.semget.ensures.sems
 
 pub returns-in-GetVal-clause-outcome : goal.returns-in-GetVal-clause-outcome
-unfolding view part_plan
+unfolding part_plan
 returns-in-GetVal-clause-outcome c =
     let b = (goal.at.returns-in-GetVal-clause-outcome c).After-caller_of-who in
     let n = c.in-GetVal in
     sym (outcome b (GetVal n.id n.num) n.is (λ t w. get_value t.sems n.id n.num) (λ t. refl)) ∙ c.getval.ensures.outcome
 
 pub returns-in-GetVal-clause-state : goal.returns-in-GetVal-clause-state
-unfolding view part_plan
+unfolding part_plan
 returns-in-GetVal-clause-state c =
     let b = (goal.at.returns-in-GetVal-clause-state c).After-caller_of-who in
     let n = c.in-GetVal in
     sym c.self.view_is ∙ left b (GetVal n.id n.num) n.is (λ t w. get_value t.sems n.id n.num) (λ t. refl) (sems_of c.self.inside.sets) (sym c.getval.ensures.same)
 
 pub returns-in-GetPid-clause-outcome : goal.returns-in-GetPid-clause-outcome
-unfolding view part_plan
+unfolding part_plan
 returns-in-GetPid-clause-outcome c =
     let b = (goal.at.returns-in-GetPid-clause-outcome c).After-caller_of-who in
     let n = c.in-GetPid in
     sym (outcome b (GetPid n.id n.num) n.is (λ t w. get_pid t.sems n.id n.num) (λ t. refl)) ∙ c.getpid.ensures.outcome
 
 pub returns-in-GetPid-clause-state : goal.returns-in-GetPid-clause-state
-unfolding view part_plan
+unfolding part_plan
 returns-in-GetPid-clause-state c =
     let b = (goal.at.returns-in-GetPid-clause-state c).After-caller_of-who in
     let n = c.in-GetPid in
     sym c.self.view_is ∙ left b (GetPid n.id n.num) n.is (λ t w. get_pid t.sems n.id n.num) (λ t. refl) (sems_of c.self.inside.sets) (sym c.getpid.ensures.same)
 
 pub returns-in-GetAll-clause-outcome : goal.returns-in-GetAll-clause-outcome
-unfolding view part_plan
+unfolding part_plan
 returns-in-GetAll-clause-outcome c =
     let b = (goal.at.returns-in-GetAll-clause-outcome c).After-caller_of-who in
     let n = c.in-GetAll in
     told b (GetAll n.id) n.is (λ t w. get_all t.sems n.id) (λ t. refl) c.getall.result c.getall.ensures.outcome
 
 pub returns-in-GetAll-clause-state : goal.returns-in-GetAll-clause-state
-unfolding view part_plan
+unfolding part_plan
 returns-in-GetAll-clause-state c =
     let b = (goal.at.returns-in-GetAll-clause-state c).After-caller_of-who in
     let n = c.in-GetAll in
     anyway c.getall.result _ (sym c.self.view_is ∙ left b (GetAll n.id) n.is (λ t w. get_all t.sems n.id) (λ t. refl) (sems_of c.self.inside.sets) (sym c.getall.ensures.same))
 
 pub returns-in-SetVal-clause-outcome : goal.returns-in-SetVal-clause-outcome
-unfolding view part_plan
+unfolding part_plan
 returns-in-SetVal-clause-outcome c =
     let b = (goal.at.returns-in-SetVal-clause-outcome c).After-caller_of-who in
     let n = c.in-SetVal in
@@ -114,7 +107,7 @@ returns-in-SetVal-clause-outcome c =
     sym (outcome b (SetVal n.id n.num read) (n.is ∙ ap (λ z. SetVal n.id n.num z) (sym (to_z-of_z w32 n.value fits))) (λ t w. set_value t.sems w n.id n.num read) (λ t. refl)) ∙ c.setval.ensures.outcome
 
 pub returns-in-SetVal-clause-state : goal.returns-in-SetVal-clause-state
-unfolding view part_plan
+unfolding part_plan
 returns-in-SetVal-clause-state c =
     let b = (goal.at.returns-in-SetVal-clause-state c).After-caller_of-who in
     let n = c.in-SetVal in
@@ -123,7 +116,7 @@ returns-in-SetVal-clause-state c =
     left b (SetVal n.id n.num read) (n.is ∙ ap (λ z. SetVal n.id n.num z) (sym (to_z-of_z w32 n.value fits))) (λ t w. set_value t.sems w n.id n.num read) (λ t. refl) (sems_of c.setval.new.self) c.setval.ensures.sems
 
 pub returns-in-SetAll-clause-outcome : goal.returns-in-SetAll-clause-outcome
-unfolding view part_plan
+unfolding part_plan
 returns-in-SetAll-clause-outcome c =
     let b = (goal.at.returns-in-SetAll-clause-outcome c).After-caller_of-who in
     let n = c.in-SetAll in
@@ -131,7 +124,7 @@ returns-in-SetAll-clause-outcome c =
     sym (outcome b (SetAll n.id values) (n.is ∙ ap (λ (vs : List ℤ). SetAll n.id vs) (sym c.as_slice.ensures)) (λ t w. set_all t.sems w n.id values) (λ t. refl)) ∙ c.setall.ensures.outcome
 
 pub returns-in-SetAll-clause-state : goal.returns-in-SetAll-clause-state
-unfolding view part_plan
+unfolding part_plan
 returns-in-SetAll-clause-state c =
     let b = (goal.at.returns-in-SetAll-clause-state c).After-caller_of-who in
     let n = c.in-SetAll in

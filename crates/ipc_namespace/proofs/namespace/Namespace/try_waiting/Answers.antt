@@ -19,6 +19,7 @@ use Rattle.ipc_model.specs.Decide.{stands, decide_alive as decide, part_plan}
 use Rattle.ipc_model.specs.Step.{end_waiting, is_ready, without}
 use Rattle.ipc_parked.specs.Parked.{waiting}
 use Rattle.ipc_parked.proofs.Listed.{any_waiting, waiting_at}
+use Rattle.ipc_namespace.specs.contracts.namespace.Namespace.{the_view}
 use Rattle.ipc_namespace.specs.Namespace.{HasRowFor, sent_to}
 use Rattle.ipc_namespace.proofs.Calling.{alive-decides, answered-some, ends-so, left-waits, outcome-some, put_in, put_sems, sets-left, sets-outcome, receive-left, receive-outcome, receive-proceeds, send-answered, send-proceeds}
 use Rattle.ipc_namespace.proofs.Held.{IsHeld, held-found, held-same}
@@ -59,16 +60,11 @@ as-decided c = sym (ap (λ d. proceeds d) (alive-decides c.args.self.now c.args.
 pub caller_of-who-requires-clause-known : goal.caller_of-who-requires-clause-known
 caller_of-who-requires-clause-known c = rw c.deref.ensures.value (of_client (goal.at.caller_of-who-requires-clause-known c).After-deref).0
 
-view : After-caller_of-who → State
-view c = let n = c.self.inside in record { limits = n.limits; clients = n.clients.items; ended = n.ended.items; clock = n.clock; queues = queues_of n.queues; sems = sems_of n.sets; shared = n.segments; parked = waiting n.parked }
-
-called : (c : After-caller_of-who) → c.caller_of-who.result ≡ caller (view c) c.args.client
-unfolding view
+called : (c : After-caller_of-who) → c.caller_of-who.result ≡ caller (the_view c.self.inside) c.args.client
 called c = let e = c.caller_of-who.ensures in rw c.deref.ensures.value at e
 
 -- the state without the call
-rest_is : (c : After-caller_of-who) → without (view c) c.args.client ≡ without c.args.self.now c.args.client
-unfolding view
+rest_is : (c : After-caller_of-who) → without (the_view c.self.inside) c.args.client ≡ without c.args.self.now c.args.client
 rest_is c = ap (λ (s : State). without s c.args.client) c.self.view_is
 
 pub end_send-requires-clause-alive : goal.end_send-requires-clause-alive
@@ -80,7 +76,6 @@ end_send-requires-clause-sends c =
     subst (λ o. IfSome o (λ (w : Waiting). IsSome (sent_to w.call))) (sym (is_own b)) (ap (λ (call : Call). is_some (sent_to call)) c.in-MsgSnd.is)
 
 pub end_send-requires-clause-decided : goal.end_send-requires-clause-decided
-unfolding view
 end_send-requires-clause-decided c =
     let b = (goal.at.end_send-requires-clause-decided c).After-deref in
     let k = (goal.at.end_send-requires-clause-decided c).After-caller_of-who in
@@ -90,11 +85,10 @@ end_send-requires-clause-decided c =
     let fits : SFits w64 n.mtype = search rules in
     subst (λ o. IfSome o (λ (w : Waiting). without_answer (decide t client w.call) ≡ Some c.in_ok-decided-in-MsgSnd.decided)) (sym (is_own b))
     (ap (λ (call : Call). without_answer (decide t client call)) n.is
-    ∙ sym (send-answered (without (view k) client) t client c.caller_of-who.result (rest_is k) (called k) n.id n.flags _ n.mtype n.text (to_z-of_z w64 n.mtype fits))
+    ∙ sym (send-answered (without (the_view k.self.inside) client) t client c.caller_of-who.result (rest_is k) (called k) n.id n.flags _ n.mtype n.text (to_z-of_z w64 n.mtype fits))
     ∙ sym (c.in_ok-decided-in-MsgSnd.ensures n.text (sym c.len.ensures)))
 
 pub returns-in_ok-decided-in-MsgSnd-clause-ready : goal.returns-in_ok-decided-in-MsgSnd-clause-ready
-unfolding view
 returns-in_ok-decided-in-MsgSnd-clause-ready c =
     let b = (goal.at.returns-in_ok-decided-in-MsgSnd-clause-ready c).After-deref in
     let k = (goal.at.returns-in_ok-decided-in-MsgSnd-clause-ready c).After-caller_of-who in
@@ -104,11 +98,10 @@ returns-in_ok-decided-in-MsgSnd-clause-ready c =
     let fits : SFits w64 n.mtype = search rules in
     subst (λ o. IfSome o (λ (w : Waiting). true ≡ is_ready s w)) (sym (is_own b))
     (ap (λ o. is_some o) (c.in_ok-decided-in-MsgSnd.ensures n.text (sym c.len.ensures)) ∙ answered-some _
-    ∙ send-proceeds (view k) s client c.caller_of-who.result c.self.view_is (called k) n.id n.flags _ n.mtype n.text (to_z-of_z w64 n.mtype fits)
+    ∙ send-proceeds (the_view k.self.inside) s client c.caller_of-who.result c.self.view_is (called k) n.id n.flags _ n.mtype n.text (to_z-of_z w64 n.mtype fits)
     ∙ ap (λ (call : Call). proceeds (decide s client call)) (sym n.is) ∙ as-decided b)
 
 pub returns-in_err-decided-in-MsgSnd-clause-ready : goal.returns-in_err-decided-in-MsgSnd-clause-ready
-unfolding view
 returns-in_err-decided-in-MsgSnd-clause-ready c =
     let b = (goal.at.returns-in_err-decided-in-MsgSnd-clause-ready c).After-deref in
     let k = (goal.at.returns-in_err-decided-in-MsgSnd-clause-ready c).After-caller_of-who in
@@ -118,11 +111,10 @@ returns-in_err-decided-in-MsgSnd-clause-ready c =
     let fits : SFits w64 n.mtype = search rules in
     subst (λ o. IfSome o (λ (w : Waiting). is_some c.from_residual.result ≡ is_ready s w)) (sym (is_own b))
     (ap (λ (o : Option Ended). is_some o) c.from_residual.ensures ∙ ap (λ o. is_some o) (c.in_err-decided-in-MsgSnd.ensures n.text (sym c.len.ensures)) ∙ answered-some _
-    ∙ send-proceeds (view k) s client c.caller_of-who.result c.self.view_is (called k) n.id n.flags _ n.mtype n.text (to_z-of_z w64 n.mtype fits)
+    ∙ send-proceeds (the_view k.self.inside) s client c.caller_of-who.result c.self.view_is (called k) n.id n.flags _ n.mtype n.text (to_z-of_z w64 n.mtype fits)
     ∙ ap (λ (call : Call). proceeds (decide s client call)) (sym n.is) ∙ as-decided b)
 
 pub returns-in_err-outcome-in-MsgRcv-clause-ready : goal.returns-in_err-outcome-in-MsgRcv-clause-ready
-unfolding view
 returns-in_err-outcome-in-MsgRcv-clause-ready c =
     let b = (goal.at.returns-in_err-outcome-in-MsgRcv-clause-ready c).After-deref in
     let k = (goal.at.returns-in_err-outcome-in-MsgRcv-clause-ready c).After-caller_of-who in
@@ -132,15 +124,14 @@ returns-in_err-outcome-in-MsgRcv-clause-ready c =
     let fits : SFits w64 n.msgtyp = search rules in
     subst (λ o. IfSome o (λ (w : Waiting). is_some c.from_residual-in_err-outcome-in-MsgRcv.result ≡ is_ready s w)) (sym (is_own b))
     (ap (λ (o : Option Ended). is_some o) c.from_residual-in_err-outcome-in-MsgRcv.ensures ∙ ap (λ (o : Option Outcome). is_some o) c.in_err-outcome-in-MsgRcv.ensures.outcome ∙ outcome-some _
-    ∙ receive-proceeds (view k) s client c.caller_of-who.result c.self.view_is (called k) n.id n.size n.flags _ n.msgtyp (to_z-of_z w64 n.msgtyp fits)
+    ∙ receive-proceeds (the_view k.self.inside) s client c.caller_of-who.result c.self.view_is (called k) n.id n.size n.flags _ n.msgtyp (to_z-of_z w64 n.msgtyp fits)
     ∙ ap (λ (call : Call). proceeds (decide s client call)) (sym n.is) ∙ as-decided b)
 
 pub returns-in_err-outcome-in-MsgRcv-clause-none : goal.returns-in_err-outcome-in-MsgRcv-clause-none
-unfolding view
 returns-in_err-outcome-in-MsgRcv-clause-none c =
     let k = (goal.at.returns-in_err-outcome-in-MsgRcv-clause-none c).After-caller_of-who in
     rw c.from_residual-in_err-outcome-in-MsgRcv.ensures
-    (ap (λ (q : Queues). put_in (view k) q) (c.msgrcv.ensures.queues ∙ left-waits _ _ (sym c.in_err-outcome-in-MsgRcv.ensures.outcome)) ∙ c.self.view_is)
+    (ap (λ (q : Queues). put_in (the_view k.self.inside) q) (c.msgrcv.ensures.queues ∙ left-waits _ _ (sym c.in_err-outcome-in-MsgRcv.ensures.outcome)) ∙ c.self.view_is)
 
 pub unreachable-requires : goal.unreachable-requires
 unreachable-requires c =
@@ -182,7 +173,6 @@ pub end_as-requires-in-SemOp : goal.end_as-requires-in-SemOp
 end_as-requires-in-SemOp c = waits (goal.at.end_as-requires-in-SemOp c).After-deref
 
 pub returns-in_ok-outcome-in-MsgRcv-clause-ready : goal.returns-in_ok-outcome-in-MsgRcv-clause-ready
-unfolding view
 returns-in_ok-outcome-in-MsgRcv-clause-ready c =
     let b = (goal.at.returns-in_ok-outcome-in-MsgRcv-clause-ready c).After-deref in
     let k = (goal.at.returns-in_ok-outcome-in-MsgRcv-clause-ready c).After-caller_of-who in
@@ -192,11 +182,10 @@ returns-in_ok-outcome-in-MsgRcv-clause-ready c =
     let fits : SFits w64 n.msgtyp = search rules in
     subst (λ o. IfSome o (λ (w : Waiting). true ≡ is_ready s w)) (sym (is_own b))
     (ap (λ o. is_some o) c.in_ok-outcome-in-MsgRcv.ensures.outcome ∙ outcome-some _
-    ∙ receive-proceeds (view k) s client c.caller_of-who.result c.self.view_is (called k) n.id n.size n.flags _ n.msgtyp (to_z-of_z w64 n.msgtyp fits)
+    ∙ receive-proceeds (the_view k.self.inside) s client c.caller_of-who.result c.self.view_is (called k) n.id n.size n.flags _ n.msgtyp (to_z-of_z w64 n.msgtyp fits)
     ∙ ap (λ (call : Call). proceeds (decide s client call)) (sym n.is) ∙ as-decided b)
 
 pub returns-in_ok-outcome-in-MsgRcv-clause-ended : goal.returns-in_ok-outcome-in-MsgRcv-clause-ended
-unfolding view
 returns-in_ok-outcome-in-MsgRcv-clause-ended c =
     let b = (goal.at.returns-in_ok-outcome-in-MsgRcv-clause-ended c).After-deref in
     let k = (goal.at.returns-in_ok-outcome-in-MsgRcv-clause-ended c).After-caller_of-who in
@@ -210,10 +199,10 @@ returns-in_ok-outcome-in-MsgRcv-clause-ended c =
     subst (λ o. IfSome o (λ (w : Waiting). end_waiting s w ≡ record { state = new; ended = c.end_as.result ∷ [] })) (sym (is_own b))
     (ends-so s new client c.call_of-call.result.now (there b).0 outcome (alive b)
     (ap (λ (call : Call). outcome_of (decide t client call)) n.is
-    ∙ sym (receive-outcome (without (view k) client) t client c.caller_of-who.result (rest_is k) (called k) n.id n.size n.flags _ n.msgtyp back)
+    ∙ sym (receive-outcome (without (the_view k.self.inside) client) t client c.caller_of-who.result (rest_is k) (called k) n.id n.size n.flags _ n.msgtyp back)
     ∙ sym c.in_ok-outcome-in-MsgRcv.ensures.outcome)
     (c.end_as.ensures.state
-    ∙ receive-left (without (view k) client) t client c.caller_of-who.result (rest_is k) (called k) n.id n.size n.flags _ n.msgtyp back (queues_of c.msgrcv.new.self) c.msgrcv.ensures.queues
+    ∙ receive-left (without (the_view k.self.inside) client) t client c.caller_of-who.result (rest_is k) (called k) n.id n.size n.flags _ n.msgtyp back (queues_of c.msgrcv.new.self) c.msgrcv.ensures.queues
     ∙ ap (λ (call : Call). left_by t (decide t client call)) (sym n.is))
     ∙ ap (λ (e : Ended). record { state = new; ended = e ∷ [] }) (sym c.end_as.ensures.ended))
 
@@ -222,27 +211,26 @@ module _ (c : After-caller_of-who) (id : ℕ) (ops : List SemOper) (is : c.call_
   abbrev part : State → Caller → Plan Sems
   part t w = operate t.limits t.sems w id ops
 
-  op-outcome : outcome_of (decision c.caller_of-who.result.creds (part (view c) c.caller_of-who.result)) ≡ outcome_of (decide c.args.self.now c.args.client c.call_of-call.result.now)
-  unfolding view part_plan
+  op-outcome : outcome_of (decision c.caller_of-who.result.creds (part (the_view c.self.inside) c.caller_of-who.result)) ≡ outcome_of (decide c.args.self.now c.args.client c.call_of-call.result.now)
+  unfolding part_plan
   op-outcome =
-      sets-outcome (SemOp id ops) part (view c) c.args.self.now c.args.client c.caller_of-who.result c.self.view_is (called c) (λ t. refl)
+      sets-outcome (SemOp id ops) part (the_view c.self.inside) c.args.self.now c.args.client c.caller_of-who.result c.self.view_is (called c) (λ t. refl)
       ∙ ap (λ (call : Call). outcome_of (decide c.args.self.now c.args.client call)) (sym is)
 
-  op-rest : outcome_of (decision c.caller_of-who.result.creds (part (view c) c.caller_of-who.result)) ≡ outcome_of (decide (without c.args.self.now c.args.client) c.args.client c.call_of-call.result.now)
-  unfolding view part_plan
+  op-rest : outcome_of (decision c.caller_of-who.result.creds (part (the_view c.self.inside) c.caller_of-who.result)) ≡ outcome_of (decide (without c.args.self.now c.args.client) c.args.client c.call_of-call.result.now)
+  unfolding part_plan
   op-rest =
-      sets-outcome (SemOp id ops) part (without (view c) c.args.client) (without c.args.self.now c.args.client) c.args.client c.caller_of-who.result (rest_is c) (called c) (λ t. refl)
+      sets-outcome (SemOp id ops) part (without (the_view c.self.inside) c.args.client) (without c.args.self.now c.args.client) c.args.client c.caller_of-who.result (rest_is c) (called c) (λ t. refl)
       ∙ ap (λ (call : Call). outcome_of (decide (without c.args.self.now c.args.client) c.args.client call)) (sym is)
 
-  op-left : (sems : Sems) → sems ≡ left_by (view c).sems (decision c.caller_of-who.result.creds (part (view c) c.caller_of-who.result))
-      → put_sems (without (view c) c.args.client) sems ≡ left_by (without c.args.self.now c.args.client) (decide (without c.args.self.now c.args.client) c.args.client c.call_of-call.result.now)
-  unfolding view part_plan
+  op-left : (sems : Sems) → sems ≡ left_by (the_view c.self.inside).sems (decision c.caller_of-who.result.creds (part (the_view c.self.inside) c.caller_of-who.result))
+      → put_sems (without (the_view c.self.inside) c.args.client) sems ≡ left_by (without c.args.self.now c.args.client) (decide (without c.args.self.now c.args.client) c.args.client c.call_of-call.result.now)
+  unfolding part_plan
   op-left sems so =
-      sets-left (SemOp id ops) part (without (view c) c.args.client) (without c.args.self.now c.args.client) c.args.client c.caller_of-who.result (rest_is c) (called c) (λ t. refl) sems so
+      sets-left (SemOp id ops) part (without (the_view c.self.inside) c.args.client) (without c.args.self.now c.args.client) c.args.client c.caller_of-who.result (rest_is c) (called c) (λ t. refl) sems so
       ∙ ap (λ (call : Call). left_by (without c.args.self.now c.args.client) (decide (without c.args.self.now c.args.client) c.args.client call)) (sym is)
 
 pub returns-in_err-outcome-in-SemOp-clause-ready : goal.returns-in_err-outcome-in-SemOp-clause-ready
-unfolding view
 returns-in_err-outcome-in-SemOp-clause-ready c =
     let b = (goal.at.returns-in_err-outcome-in-SemOp-clause-ready c).After-deref in
     let k = (goal.at.returns-in_err-outcome-in-SemOp-clause-ready c).After-caller_of-who in
@@ -254,14 +242,12 @@ returns-in_err-outcome-in-SemOp-clause-ready c =
     ∙ ap (λ (o : Option Outcome). is_some o) (op-outcome k n.id c.as_slice.result.now is) ∙ outcome-some _ ∙ as-decided b)
 
 pub returns-in_err-outcome-in-SemOp-clause-none : goal.returns-in_err-outcome-in-SemOp-clause-none
-unfolding view
 returns-in_err-outcome-in-SemOp-clause-none c =
     let k = (goal.at.returns-in_err-outcome-in-SemOp-clause-none c).After-caller_of-who in
     rw c.from_residual-in_err-outcome-in-SemOp.ensures
-    (ap (λ (u : Sems). put_sems (view k) u) (c.semop_reserved.ensures.sems ∙ left-waits _ _ (sym c.in_err-outcome-in-SemOp.ensures.outcome)) ∙ c.self.view_is)
+    (ap (λ (u : Sems). put_sems (the_view k.self.inside) u) (c.semop_reserved.ensures.sems ∙ left-waits _ _ (sym c.in_err-outcome-in-SemOp.ensures.outcome)) ∙ c.self.view_is)
 
 pub returns-in_ok-outcome-in-SemOp-clause-ready : goal.returns-in_ok-outcome-in-SemOp-clause-ready
-unfolding view
 returns-in_ok-outcome-in-SemOp-clause-ready c =
     let b = (goal.at.returns-in_ok-outcome-in-SemOp-clause-ready c).After-deref in
     let k = (goal.at.returns-in_ok-outcome-in-SemOp-clause-ready c).After-caller_of-who in
@@ -272,7 +258,6 @@ returns-in_ok-outcome-in-SemOp-clause-ready c =
     (ap (λ (o : Option Outcome). is_some o) (c.in_ok-outcome-in-SemOp.ensures.outcome ∙ op-outcome k n.id c.as_slice.result.now is) ∙ outcome-some _ ∙ as-decided b)
 
 pub returns-in_ok-outcome-in-SemOp-clause-ended : goal.returns-in_ok-outcome-in-SemOp-clause-ended
-unfolding view
 returns-in_ok-outcome-in-SemOp-clause-ended c =
     let b = (goal.at.returns-in_ok-outcome-in-SemOp-clause-ended c).After-deref in
     let k = (goal.at.returns-in_ok-outcome-in-SemOp-clause-ended c).After-caller_of-who in
