@@ -11,14 +11,14 @@ use Rattle.ipc_creds.specs.Credentials.{Credentials}
 use Rattle.ipc_perm.specs.Access.{Need, denial}
 use Rattle.ipc_model.specs.Decision.{Decision}
 use Rattle.ipc_model.specs.Decision as decisions
-use Rattle.ipc_model.specs.Plan.{Check, Proceeds, IsPlain, Needs, Passes, Plan, Refuse, Grant, by_check, checks_in, decision, does_pass, is_denial, needs_in, or_wait, unless, ◌⨾◌}
+use Rattle.ipc_model.specs.Plan.{Check, Proceeds, IsPlain, Needs, Passes, Plan, Refuse, Grant, by_check, checks_in, decision, is_denial, needs_in, or_wait, unless, ◌⨾◌}
 use Rattle.ipc_model.specs.State.{State}
 use Rattle.ipc_call.specs.declared.rules.Rule.TheVariants.{TimedOut}
 use Rattle.ipc_model.specs.Decide.{decide, is_late, plan, unless_late}
 use Rattle.ipc_model.specs.Step.{Event, begun}
 use Rattle.ipc_model.specs.Decision.{Outcome, outcome_of}
 use Rattle.ipc_history.specs.History.{History, next_step, run}
-use Rattle.ipc_history.specs.Access.{AreMet, IsDenied, caller_of, checks_of, needs_of}
+use Rattle.ipc_history.specs.Access.{AreMet, IsDenied, caller_of, checks_of, needs_of, does_pass}
 
 abbrev is_serve : {X : Type 0} → Decision X → Bool
 is_serve (decisions.Refuse rule) = false

@@ -17,7 +17,7 @@ use Rattle.ipc_model.specs.State.{Caller, Queues, Segment, SemSet, Sems, Shared,
 use Rattle.ipc_model.specs.Decision.{Decision, Grant, Outcome, outcome_of}
 use Rattle.ipc_model.specs.Plan.{found}
 use Rattle.ipc_model.specs.Plan as plans
-use Rattle.ipc_model.specs.Gets.{Getting, get, get_found, get_queue, get_segment, get_set, getting_queue, getting_segment, getting_set, new_object, object_of_key}
+use Rattle.ipc_model.specs.Gets.{Getting, get, get_found, get_queue, get_segment, get_set, getting_queue, getting_segment, getting_set, new_object, object_of_key, Get}
 use Rattle.ipc_model.specs.Decide.{decide, part_plan, plan}
 use Rattle.ipc_model.specs.Step.{Event, begun, cancel, cancelled_by, settled, state_by, step}
 use Rattle.ipc_history.specs.History.{History}
@@ -44,18 +44,19 @@ module _ {X : Type 0} (t : Table (Object X)) (few : t.slots ≤ 32768) where
   Ends-made object None is = tt
   Ends-made object (Some id) is = (next_id-fresh t few id is, WasUsed-there (with_object t id object) id object (get-insert-same t.objects id object))
 
-  Ends-get : (who : Caller) (key flags : ℕ) (getting : Getting X) (there : Option (ℕ × Object X)) → is_none there ≡ true → Ends (IsNew t) (get_found t who key flags getting there)
-  Ends-get who key flags getting None absent = Ends-order (IsNew t) getting.to_make _ (Ends-made (new_object who key flags getting.new) (next_id t) refl)
-  Ends-get who key flags getting (Some there) absent = absurd (true≢false (sym absent))
+  Ends-get : (who : Caller) (asked : Get) (getting : Getting X) (there : Option (ℕ × Object X)) → is_none there ≡ true → Ends (IsNew t) (get_found t who asked getting there)
+  Ends-get who asked getting None absent = Ends-order (IsNew t) getting.to_make _ (Ends-made (new_object who asked.key asked.flags getting.new) (next_id t) refl)
+  Ends-get who asked getting (Some there) absent = absurd (true≢false (sym absent))
 
 -- msgget, among the queues
 Names-queue : (s : State) (client key flags : ℕ) → s.queues.slots ≤ 32768 → is_none (object_of_key s.queues key) ≡ true → IfGranted (λ answer new. IsNew s.queues answer new.queues) (decide s client (MsgGet key flags))
 unfolding part_plan
 Names-queue s client key flags few absent =
     let put : Queues → State = λ queues. record s { queues = queues } in
-    let p = get_queue s.limits s.queues (caller s client) key flags in
+    let asked : Get = record { key = key; flags = flags } in
+    let p = get_queue s.limits s.queues (caller s client) asked in
     Ends-decision (creds_at s client) (λ answer new. IsNew s.queues answer new.queues) (plan s client (MsgGet key flags))
-    (Ends-on put (λ answer new. IsNew s.queues answer new.queues) p (Ends-get s.queues few (caller s client) key flags (getting_queue s.limits) (object_of_key s.queues key) absent))
+    (Ends-on put (λ answer new. IsNew s.queues answer new.queues) p (Ends-get s.queues few (caller s client) asked (getting_queue s.limits) (object_of_key s.queues key) absent))
 
 -- semget, among the sets
 Names-set : (s : State) (client key nsems flags : ℕ) → s.sems.sets.slots ≤ 32768 → is_none (object_of_key s.sems.sets key) ≡ true → IfGranted (λ answer new. IsNew s.sems.sets answer new.sems.sets) (decide s client (SemGet key nsems flags))
@@ -64,10 +65,11 @@ Names-set s client key nsems flags few absent =
     let put : Sems → State = λ sems. record s { sems = sems } in
     let put_sets : Table (Object SemSet) → Sems = λ sets. record s.sems { sets = sets } in
     let who = caller s client in
-    let p = get s.sems.sets who key flags (getting_set nsems) in
+    let asked : Get = record { key = key; flags = flags } in
+    let p = get s.sems.sets who asked (getting_set nsems) in
     Ends-decision (creds_at s client) (λ answer new. IsNew s.sems.sets answer new.sems.sets) (plan s client (SemGet key nsems flags))
-    (Ends-on put (λ answer new. IsNew s.sems.sets answer new.sems.sets) (get_set s.limits s.sems who key nsems flags)
-    (Ends-on put_sets (λ answer u. IsNew s.sems.sets answer u.sets) p (Ends-get s.sems.sets few who key flags (getting_set nsems) (object_of_key s.sems.sets key) absent)))
+    (Ends-on put (λ answer new. IsNew s.sems.sets answer new.sems.sets) (get_set s.limits s.sems who asked nsems)
+    (Ends-on put_sets (λ answer u. IsNew s.sems.sets answer u.sets) p (Ends-get s.sems.sets few who asked (getting_set nsems) (object_of_key s.sems.sets key) absent)))
 
 -- shmget, among the segments
 Names-segment : (s : State) (client key size flags : ℕ) → s.shared.segments.slots ≤ 32768 → is_none (object_of_key s.shared.segments key) ≡ true → IfGranted (λ answer new. IsNew s.shared.segments answer new.shared.segments) (decide s client (ShmGet key size flags))
@@ -77,10 +79,11 @@ Names-segment s client key size flags few absent =
     let put_segments : Table (Object Segment) → Shared = λ segments. record s.shared { segments = segments } in
     let who = caller s client in
     let t = s.shared.segments in
+    let asked : Get = record { key = key; flags = flags } in
     let getting = getting_segment s.limits client size in
     Ends-decision (creds_at s client) (λ answer new. IsNew t answer new.shared.segments) (plan s client (ShmGet key size flags))
-    (Ends-on put (λ answer new. IsNew t answer new.shared.segments) (get_segment s.limits s.shared who key size flags)
-    (Ends-on put_segments (λ answer u. IsNew t answer u.segments) (get t who key flags getting) (Ends-get t few who key flags getting (object_of_key t key) absent)))
+    (Ends-on put (λ answer new. IsNew t answer new.shared.segments) (get_segment s.limits s.shared who asked size)
+    (Ends-on put_segments (λ answer u. IsNew t answer u.segments) (get t who asked getting) (Ends-get t few who asked getting (object_of_key t key) absent)))
 
 -- what holds of an identifier that an event made: it was never used before the event, and is used after it
 abbrev IsNamed : State → Kind → State → ℕ → Type 0

@@ -1,11 +1,11 @@
 -- The rights of a call that waits depend on permissions, credentials and limits alone, and no completion changes these.
-use Rattle.std.proofs.Common.{◌≡◌, ℕ, ℤ, Bool, true, false, List, [], ◌∷◌, ◌++◌, length, refl, sym, ap, subst, ◌∙◌, ⊎_elim, Option, Some, None}
+use Rattle.std.proofs.Common.{◌≡◌, ℕ, Bool, true, false, List, [], ◌∷◌, ◌++◌, length, refl, sym, ap, subst, ◌∙◌, ⊎_elim, Option, Some, None}
 use Rattle.std.specs.Prelude.{Ok, Err, ◌==◌, if◌then◌else◌, not, pos, int_le, nat_le, nat_lt, option_map, slice_index_or}
 use Rattle.std.specs.List.{AllByRecursion, list_any}
 use Rattle.std.specs.FinMap as finite
 use Rattle.std.proofs.lemmas.Bool.{cases_eq, true≢false}
 use Rattle.std.proofs.lemmas.Option.{none-some}
-use Rattle.ipc_call.specs.Flags.{has_flag, msg_except}
+use Rattle.ipc_call.specs.declared.settings.Receive.{Receive}
 use Rattle.ipc_call.specs.declared.calls.Call.{Call}
 use Rattle.ipc_call.specs.declared.calls.Call.TheVariants.{Interrupt, IpcRmid, IpcSet, MsgSnd, MsgRcv, SemOp, SemTimedOp}
 use Rattle.ipc_call.specs.declared.calls.SemOper.{SemOper}
@@ -27,21 +27,21 @@ use Rattle.ipc_ids.proofs.Sound.{get-insert-other, get-insert-same}
 use Rattle.ipc_objects.specs.declared.object.Object.{Object}
 use Rattle.ipc_objects.specs.Objects.{with_contents, with_perm}
 use Rattle.msg_queue.specs.declared.messages.Message.{Message}
-use Rattle.sem_set.specs.declared.sets.Semaphore.{Semaphore}
 use Rattle.sem_set.specs.Trials.{committed}
 use Rattle.sem_undo.specs.Entries.{Entries, adj_of}
 use Rattle.ipc_model.specs.State.{Caller, Queue, SemSet, Sems, State, caller, creds_at, nobody, pid_of}
 use Rattle.ipc_model.specs.Decision.{Outcome, outcome_of, proceeds}
 use Rattle.ipc_model.specs.Decision as decisions
-use Rattle.ipc_model.specs.Plan.{Check, IsPlain, Needs, Passes, Plan, Proceeds, Refuse, Grant, checks_in, decision, in_order, needs_among, needs_in, does_pass, unless, is_denial, on_part, ◌⨾◌}
+use Rattle.ipc_model.specs.Plan.{Check, IsPlain, Needs, Passes, Plan, Proceeds, Refuse, Grant, checks_in, decision, in_order, needs_among, needs_in, unless, is_denial, on_part, ◌⨾◌}
 use Rattle.ipc_model.specs.Cancelled.{cancelled, first_denial, or_later, waits_on}
 use Rattle.ipc_model.specs.Controls.{is_within, perm_in, perm_of, with_set}
-use Rattle.ipc_model.specs.Messages.{chosen, queue_at, receive_found, receive_message, send_found, send_message, take_chosen, with_message, without_message}
+use Rattle.ipc_model.specs.Messages.{chosen, queue_at, receive_found, receive_message, send_found, send_message, take_chosen, with_message, without_message, Send}
 use Rattle.ipc_model.specs.Semaphores.{lowered, operate, operate_found, operated, set_at, trial_checks, wanted_by}
 use Rattle.ipc_model.specs.Decide.{can_wait, decide, decide_call, is_late, needs, part_plan, plan}
 use Rattle.ipc_model.proofs.Late.{late-granted}
+use Rattle.ipc_model.proofs.Needs.{needs_for, taken-needs, tried-needs}
 use Rattle.ipc_model.proofs.Plans.{Ends, Ends-decision, Ends-found, Ends-on, Ends-order, IfGranted, needs-on}
-use Rattle.ipc_history.specs.Access.{AreMet, IsByRights, IsDenied}
+use Rattle.ipc_history.specs.Access.{AreMet, IsByRights, IsDenied, does_pass}
 use Rattle.ipc_history.proofs.Access.{denied, met, other-rule, refused, refusal, served}
 
 -- checks that need nothing and wait for nothing
@@ -140,23 +140,15 @@ record Shape (s : State) (client : ℕ) (call : Call) : Type 0 where
   pub asks : AsksFor (want_of call) (perm_for (rights_of s) call) rest
 
 module _ (s : State) (who : Caller) (id : ℕ) where
-  sends : (flags : ℕ) (message : Message) (queue : Option (Object Queue)) → AsksFor to_alter (option_map (λ q. q.perm) queue) (on_part (λ queues. record s { queues = queues }) (send_found s.queues who id flags message queue))
-  sends flags message None = refl
-  sends flags message (Some queue) = (_, refl, refl)
+  sends : (asked : Send) (queue : Option (Object Queue)) → AsksFor to_alter (option_map (λ q. q.perm) queue) (on_part (λ queues. record s { queues = queues }) (send_found s.queues who id asked queue))
+  sends asked None = refl
+  sends asked (Some queue) = (_, refl, refl)
 
-  taken-needs : (size flags : ℕ) (queue : Queue) (taken : Option (ℕ × Message)) → needs_in (take_chosen s.queues who id size flags queue taken) ≡ []
-  taken-needs size flags queue None = refl
-  taken-needs size flags queue (Some taken) = refl
-
-  receives : (size : ℕ) (msgtyp : ℤ) (flags : ℕ) (queue : Option (Object Queue)) → AsksFor to_read (option_map (λ q. q.perm) queue) (on_part (λ queues. record s { queues = queues }) (receive_found s.queues who id size msgtyp flags queue))
-  receives size msgtyp flags None = refl
-  receives size msgtyp flags (Some queue) =
-      let taken = chosen queue.contents.messages msgtyp (has_flag flags msg_except) in
-      (_, refl, needs-on (λ queues. record s { queues = queues }) (take_chosen s.queues who id size flags queue.contents taken) ∙ taken-needs size flags queue.contents taken)
-
-  tried-needs : {X : Type 0} (sems : List Semaphore) (adj : ℕ → ℤ) (earlier ops : List SemOper) (p : Plan X) → needs_in (in_order (trial_checks sems adj earlier ops) p) ≡ needs_in p
-  tried-needs sems adj earlier [] p = refl
-  tried-needs sems adj earlier (o ∷ os) p = tried-needs sems adj (earlier ++ o ∷ []) os p
+  receives : (asked : Receive) (queue : Option (Object Queue)) → AsksFor to_read (option_map (λ q. q.perm) queue) (on_part (λ queues. record s { queues = queues }) (receive_found s.queues who id asked queue))
+  receives asked None = refl
+  receives asked (Some queue) =
+      let taken = chosen queue.contents.messages asked in
+      (_, refl, needs-on (λ queues. record s { queues = queues }) (on_part (with_contents s.queues id) (take_chosen who asked queue.contents taken)) ∙ taken-needs s.queues who id asked queue.contents taken)
 
   operates : (ops : List SemOper) (set : Option (Object SemSet)) → AsksFor (wanted_by ops) (option_map (λ o. o.perm) set) (on_part (λ sems. record s { sems = sems }) (operate_found s.sems who id ops set))
   operates ops None = refl
@@ -168,11 +160,12 @@ shape : (s : State) (client : ℕ) (call : Call) → can_wait call ≡ true → 
 unfolding part_plan
 shape s client (MsgSnd id mtype text flags) can =
     let who = caller s client in
-    let message : Message = record { mtype = mtype; text = text } in
-    record { rest = on_part (λ queues. record s { queues = queues }) (send_found s.queues who id flags message (queue_at s.queues id)); plain = refl; is = refl; asks = sends s who id flags message (queue_at s.queues id) }
+    let asked : Send = record { message = record { mtype = mtype; text = text }; flags = flags } in
+    record { rest = on_part (λ queues. record s { queues = queues }) (send_found s.queues who id asked (queue_at s.queues id)); plain = refl; is = refl; asks = sends s who id asked (queue_at s.queues id) }
 shape s client (MsgRcv id size msgtyp flags) can =
+    let asked : Receive = record { size = size; msgtyp = msgtyp; flags = flags } in
     let who = caller s client in
-    record { rest = on_part (λ queues. record s { queues = queues }) (receive_found s.queues who id size msgtyp flags (queue_at s.queues id)); plain = refl; is = refl; asks = receives s who id size msgtyp flags (queue_at s.queues id) }
+    record { rest = on_part (λ queues. record s { queues = queues }) (receive_found s.queues who id asked (queue_at s.queues id)); plain = refl; is = refl; asks = receives s who id asked (queue_at s.queues id) }
 shape s client (SemOp id ops) can =
     let who = caller s client in
     record { rest = on_part (λ sems. record s { sems = sems }) (operate_found s.sems who id ops (set_at s.sems id)); plain = refl; is = refl; asks = operates s who id ops (set_at s.sems id) }
@@ -180,10 +173,6 @@ shape s client (SemTimedOp id ops timeout) can =
     let who = caller s client in
     record { rest = on_part (λ sems. record s { sems = sems }) (operate_found s.sems who id ops (set_at s.sems id)); plain = refl; is = refl; asks = operates s who id ops (set_at s.sems id) }
 shape s client call can = absurd (true≢false (sym can))
-
-abbrev needs_for : Want → Option Perm → List Need
-needs_for want None = []
-needs_for want (Some perm) = Permission perm want ∷ []
 
 asks-needs : (want : Want) (o : Option Perm) (rest : Plan State) → AsksFor want o rest → needs_in rest ≡ needs_for want o
 asks-needs want None rest asks = ap (λ p. needs_in p) asks
@@ -299,9 +288,9 @@ module _ (s : State) where
   set-kept : (id : ℕ) (x : SemSet) (undo : Entries) → rights_of (record s { sems = record { sets = with_contents s.sems.sets id x; undo = undo } }) ≡ rights_of s
   set-kept id x undo = λ i. record (rights_of s) { sets = λ j. contents-perm s.sems.sets id x j i }
 
-  taken-kept : (who : Caller) (id size flags : ℕ) (queue : Queue) (taken : Option (ℕ × Message)) → Ends (λ answer queues. KeepsRights s answer (record s { queues = queues })) (take_chosen s.queues who id size flags queue taken)
-  taken-kept who id size flags queue None = tt
-  taken-kept who id size flags queue (Some taken) = queue-kept id (without_message who.client who.now taken.0 queue)
+  taken-kept : (who : Caller) (id : ℕ) (asked : Receive) (queue : Queue) (taken : Option (ℕ × Message)) → Ends (λ answer queues. KeepsRights s answer (record s { queues = queues })) (on_part (with_contents s.queues id) (take_chosen who asked queue taken))
+  taken-kept who id asked queue None = tt
+  taken-kept who id asked queue (Some taken) = queue-kept id (without_message who taken.0 queue)
 
   operated-kept : (client id : ℕ) (ops : List SemOper) → Ends (KeepsRights s) (on_part (λ sems. record s { sems = sems }) (operate s.limits s.sems (caller s client) id ops))
   operated-kept client id ops =
@@ -315,14 +304,15 @@ kept-plan : (s : State) (client : ℕ) (call : Call) → can_wait call ≡ true 
 unfolding part_plan
 kept-plan s client (MsgSnd id mtype text flags) can =
     let who = caller s client in
-    let message : Message = record { mtype = mtype; text = text } in
-    Ends-on (λ queues. record s { queues = queues }) (KeepsRights s) (send_message s.limits s.queues who id flags message)
-    (Ends-found (λ answer queues. KeepsRights s answer (record s { queues = queues })) (queue_at s.queues id) BadId tt _ (λ (queue : Object Queue) is. queue-kept s id (with_message client s.clock message queue.contents)))
+    let asked : Send = record { message = record { mtype = mtype; text = text }; flags = flags } in
+    Ends-on (λ queues. record s { queues = queues }) (KeepsRights s) (send_message s.limits s.queues who id asked)
+    (Ends-found (λ answer queues. KeepsRights s answer (record s { queues = queues })) (queue_at s.queues id) BadId tt _ (λ (queue : Object Queue) is. queue-kept s id (with_message who asked.message queue.contents)))
 kept-plan s client (MsgRcv id size msgtyp flags) can =
+    let asked : Receive = record { size = size; msgtyp = msgtyp; flags = flags } in
     let who = caller s client in
-    Ends-on (λ queues. record s { queues = queues }) (KeepsRights s) (receive_message s.queues who id size msgtyp flags)
+    Ends-on (λ queues. record s { queues = queues }) (KeepsRights s) (receive_message s.queues who id asked)
     (Ends-found (λ answer queues. KeepsRights s answer (record s { queues = queues })) (queue_at s.queues id) BadId tt _ (λ (queue : Object Queue) is.
-    taken-kept s who id size flags queue.contents (chosen queue.contents.messages msgtyp (has_flag flags msg_except))))
+    taken-kept s who id asked queue.contents (chosen queue.contents.messages asked)))
 kept-plan s client (SemOp id ops) can = operated-kept s client id ops
 kept-plan s client (SemTimedOp id ops timeout) can = operated-kept s client id ops
 kept-plan s client call can = absurd (true≢false (sym can))

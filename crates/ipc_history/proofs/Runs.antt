@@ -3,7 +3,7 @@ use Rattle.std.proofs.Common.{List, [], ◌∷◌, sym, ◌∙◌}
 use Rattle.std.specs.FinMap as finite
 use Rattle.std.proofs.lemmas.Option.{none-some}
 use Rattle.ipc_model.specs.State.{State, opening}
-use Rattle.ipc_model.specs.Attached.{AreAttached}
+use Rattle.ipc_model.specs.Segments.{AreAttached}
 use Rattle.ipc_model.specs.Step.{Event, step}
 use Rattle.ipc_model.proofs.Keeping.{Follows-step}
 use Rattle.ipc_history.specs.History.{History, run, run_from}

@@ -1,5 +1,5 @@
 -- Who is granted, and who is denied: the caller of an event, and those whose wait it ends.
-use Rattle.std.specs.Prelude.{◌≡◌, true, List, ◌∷◌, ◌++◌, Some, None, Ok, Err}
+use Rattle.std.specs.Prelude.{◌≡◌, Bool, true, List, ◌∷◌, ◌++◌, Some, None, is_none, Ok, Err}
 use Rattle.std.specs.List.{AllByRecursion}
 use Rattle.ipc_call.specs.declared.replies.Ended.{Ended}
 use Rattle.ipc_call.specs.declared.replies.Waiting.{Waiting}
@@ -7,7 +7,7 @@ use Rattle.ipc_call.specs.declared.rules.Rule.{Rule}
 use Rattle.ipc_creds.specs.Credentials.{Credentials}
 use Rattle.ipc_perm.specs.Access.{Need, denial}
 use Rattle.ipc_model.specs.Decision.{Outcome}
-use Rattle.ipc_model.specs.Plan.{Check, Needs, checks_in, does_pass, is_denial}
+use Rattle.ipc_model.specs.Plan.{Check, Needs, Passes, Proceeds, checks_in, is_denial}
 use Rattle.ipc_model.specs.State.{State, creds_at, waiting_of}
 use Rattle.ipc_model.specs.Decide.{needs, plan}
 use Rattle.ipc_model.specs.Step.{Event, begun}
@@ -16,6 +16,12 @@ use Rattle.ipc_history.specs.History.{History, run}
 -- every need is met
 abbrev pub AreMet : Credentials → List Need → Type 0
 AreMet c needs = AllByRecursion (λ need. denial c need ≡ None) needs
+
+-- a check passes
+abbrev pub does_pass : Credentials → Check → Bool
+does_pass c (Passes passes rule plain) = passes
+does_pass c (Needs need) = is_none (denial c need)
+does_pass c (Proceeds proceeds flags rule plain) = proceeds
 
 -- some need fails by the rule, and every check before it passes
 pub record IsDenied (c : Credentials) (checks : List Check) (rule : Rule) : Type 0 where

@@ -1,3 +1,4 @@
 pub mod Access
 pub mod History
 pub mod Made
+pub mod Waits

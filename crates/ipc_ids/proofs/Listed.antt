@@ -1,5 +1,5 @@
 -- The identifiers of a table by rising slot: no slot that was never used has one, and an image has the same.
-use Rattle.std.proofs.Common.{◌≡◌, ℕ, zero, suc, ◌+◌, ◌≤◌, List, [], length, refl, sym, ap, ◌∙◌, arith, Option, Some, None}
+use Rattle.std.proofs.Common.{◌≡◌, ℕ, zero, suc, ◌+◌, ◌≤◌, List, [], length, refl, ap, ◌∙◌, arith, Option, Some, None}
 use Rattle.std.specs.Prelude.{nat_lt, option_map, filter_map, if◌then◌else◌}
 use Rattle.std.specs.List.{cons_option, range_with_len}
 use Rattle.std.specs.declared.cmp.Reverse.{Reverse}

@@ -2,19 +2,14 @@
 use Rattle.std.proofs.Common.{◌≡◌, ℕ, ◌%◌, ◌<◌, Bool, true, false, refl, sym, ap, ◌∙◌, arith, Option, Some, None, ⊎_elim}
 use Rattle.std.specs.Prelude.{option_map, option_and_then, unwrap_or}
 use Rattle.std.specs.FinMap as map
-use Rattle.std.proofs.lemmas.Bool.{cases_Bool, false≢true}
-use Rattle.std.proofs.lemmas.Option.{none-some, some_pair_parts}
-use Rattle.ipc_ids.specs.Table.{Table, IsSound, find_object, holds_at, id_at, id_of, least_from, object_at, seq_of}
-use Rattle.ipc_ids.proofs.Least.{least_found, least_none, least_some}
+use Rattle.std.proofs.lemmas.Bool.{cases_Bool}
+use Rattle.ipc_ids.specs.Table.{Table, IsSound, find_object, holds_at, id_at, id_of, object_at, seq_of}
+use Rattle.ipc_ids.proofs.Least.{least_none, least_some}
 use Rattle.ipc_ids.proofs.Identifiers.{slot_of-id, whole_id}
 
 none_passes : {X : Type 0} (test : X → Bool) (o : Option X) → ((x : X) → o ≡ Some x → test x ≡ false) → unwrap_or (option_map test o) false ≡ false
 none_passes test None fails = refl
 none_passes test (Some x) fails = fails x refl
-
-some_passes : {X : Type 0} (test : X → Bool) (o : Option X) → unwrap_or (option_map test o) false ≡ true → (x : X) × (o ≡ Some x) × (test x ≡ true)
-some_passes test None passes = absurd (false≢true passes)
-some_passes test (Some x) passes = (x, refl, passes)
 
 module _ {X : Type 0} (test : X → Bool) (t : Table X) where
   abbrev with_id : Option ℕ → Option (ℕ × X)
@@ -47,19 +42,3 @@ module _ {X : Type 0} (test : X → Bool) (t : Table X) where
         let first = least_some (λ k. holds_at test t k) t.slots 0 slot (omega arith) (omega (arith, within)) (λ k a b. fails_before id x alone k b (omega (arith, b, within, sound.few)))
         (ap (λ o. unwrap_or (option_map test o) false) here ∙ passes) in
         ap with_id first ∙ ap (λ o. option_map (λ y. (id_at t slot, y)) o) here ∙ ap (λ n. Some (n, x)) (at_slot id x there)
-
-  found_in : (id slot : ℕ) (x : X) (o : Option X) → o ≡ object_at t slot → holds_at test t slot ≡ true → option_map {U = ℕ × X} (λ y. (id_at t slot, y)) o ≡ Some (id, x)
-      → (map.get t.objects id ≡ Some x) × (test x ≡ true)
-  found_in id slot x None here holds found = absurd (none-some (id, x) found)
-  found_in id slot x (Some y) here holds found =
-      let parts = some_pair_parts (id_at t slot) id y x found in
-      let there : object_at t slot ≡ Some x = sym here ∙ ap (λ (z : X). Some z) parts.1 in
-      (ap (λ n. map.get t.objects n) (sym parts.0) ∙ there, sym (ap (λ o. unwrap_or (option_map test o) false) there) ∙ holds)
-
-  found_from : (id : ℕ) (x : X) (o : Option ℕ) → o ≡ least_from (λ slot. holds_at test t slot) t.slots 0 → with_id o ≡ Some (id, x) → (map.get t.objects id ≡ Some x) × (test x ≡ true)
-  found_from id x None same found = absurd (none-some (id, x) found)
-  found_from id x (Some slot) same found = found_in id slot x (object_at t slot) refl (least_found (λ k. holds_at test t k) t.slots 0 slot (sym same)).0 found
-
-  -- an object that is found is there, and passes
-  pub find_object-found : (id : ℕ) (x : X) → find_object test t ≡ Some (id, x) → (map.get t.objects id ≡ Some x) × (test x ≡ true)
-  find_object-found id x found = found_from id x (least_from (λ slot. holds_at test t slot) t.slots 0) refl found

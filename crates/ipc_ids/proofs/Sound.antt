@@ -74,10 +74,6 @@ fresh-unused t id fresh used =
     (λ (before : id / 32768 < seq_of t (id % 32768)). absurd (omega (arith, before, fresh.seq)))
     used
 
-some-is : {X : Type 0} (o : Option X) → is_some o ≡ true → (x : X) × (o ≡ Some x)
-some-is None is = absurd (false≢true is)
-some-is (Some x) is = (x, refl)
-
 pub IsSound-empty : {X : Type 0} (slots first_seq : ℕ) → slots ≤ 32768 → IsSound (empty_table {X = X} slots first_seq)
 IsSound-empty slots first_seq few = record {
   few = few;

@@ -6,7 +6,7 @@ use Rattle.ipc_model.specs.State.{State, opening}
 use Rattle.ipc_model.specs.Decision.{outcome_of, proceeds}
 use Rattle.ipc_model.specs.Decide.{decide, decide_call, is_reached, unless_late}
 use Rattle.ipc_model.specs.Step.{Event, Moved, after, and_then, at_time, begun, end_waiting, ended_by, expire, first_ready, is_ready, moved_by, settle, settle_from, step, stepped, without}
-use Rattle.ipc_model.specs.Waits.{AreInTime}
+use Rattle.ipc_history.specs.Waits.{AreInTime}
 use Rattle.ipc_history.specs.History.{History, run, run_from}
 use Rattle.ipc_laws.specs.Deadlines.{decide_waiting, end_due_or_ready, settle_by_deadlines, settle_by_deadlines_from, step_by_deadlines}
 use Rattle.ipc_laws.proofs.Lists.{all-found}

@@ -17,7 +17,7 @@ use Rattle.sem_set.specs.Sets.{pid_of as last_of, value_of}
 use Rattle.sem_undo.specs.Entries.{adj_of}
 use Rattle.ipc_model.specs.State.{Queues, SemSet, Sems, Shared, State, caller, creds_at, has_ended}
 use Rattle.ipc_model.specs.Plan.{Needs, Passes, Plan}
-use Rattle.ipc_model.specs.Gets.{getting_queue}
+use Rattle.ipc_model.specs.Gets.{getting_queue, Get}
 use Rattle.ipc_model.specs.Semaphores.{after_exit, set_at, stopping, stopping_on}
 use Rattle.ipc_model.specs.Segments.{after_detaches}
 use Rattle.ipc_model.specs.Processes.{process, with_creds}
@@ -108,10 +108,14 @@ module _ (client : ℕ) (s : State) where
 
   own-alive : (call : Call) → Both c R (plan_alive s client call) (plan_alive b client call)
   unfolding part_plan
-  own-alive (MsgGet key flags) = on-queues (both-get blank_queue (hides_closed client c) s.queues (λ x. refl) c (getting_queue s.limits) (λ x. refl) (caller s client) key flags)
-  own-alive (MsgSnd id mtype text flags) = on-queues (queues.own-send client c s.queues (caller s client) id flags s.limits (record { mtype = mtype; text = text }))
-  own-alive (MsgRcv id size msgtyp flags) = on-queues (queues.own-receive client c s.queues (caller s client) id flags size msgtyp)
-  own-alive (SemGet key nsems flags) = on-sems (sets.own-get client c s.sems s.limits (caller s client) key nsems flags)
+  own-alive (MsgGet key flags) =
+      let asked : Get = record { key = key; flags = flags } in
+      on-queues (both-get blank_queue (hides_closed client c) s.queues (λ x. refl) c (getting_queue s.limits) (λ x. refl) (caller s client) asked)
+  own-alive (MsgSnd id mtype text flags) = on-queues (queues.own-send client c s.queues (caller s client) id s.limits (record { message = record { mtype = mtype; text = text }; flags = flags }))
+  own-alive (MsgRcv id size msgtyp flags) = on-queues (queues.own-receive client c s.queues (caller s client) id (record { size = size; msgtyp = msgtyp; flags = flags }))
+  own-alive (SemGet key nsems flags) =
+      let asked : Get = record { key = key; flags = flags } in
+      on-sems (sets.own-get client c s.sems s.limits (caller s client) asked nsems)
   own-alive (SemOp id ops) = on-sems (sets.own-operate client c s.sems id (caller s client) ops s.limits)
   own-alive (SemTimedOp id ops timeout) = on-sems (sets.own-operate client c s.sems id (caller s client) ops s.limits)
   own-alive (GetVal id num) = on-sems (sets.own-look client c s.sems id num (λ ss. value_of ss num) (λ ss. value_of ss num) (λ o there isnt. refl))
@@ -121,7 +125,9 @@ module _ (client : ℕ) (s : State) where
   own-alive (GetAll id) = on-sems (sets.own-all client c s.sems id)
   own-alive (SetVal id num value) = on-sems (sets.own-set client c s.sems id (caller s client) num value)
   own-alive (SetAll id values) = on-sems (sets.own-set_all client c s.sems id (caller s client) values)
-  own-alive (ShmGet key size flags) = on-shared (segments.own-get client c s.shared s.limits (caller s client) key size flags)
+  own-alive (ShmGet key size flags) =
+      let asked : Get = record { key = key; flags = flags } in
+      on-shared (segments.own-get client c s.shared s.limits (caller s client) asked size)
   own-alive (ShmAt id flags) = on-shared (segments.own-attach client c s.shared c s.clock id flags)
   own-alive (ShmDt att) = on-shared (segments.own-detach client c s.shared c s.clock att)
   own-alive (ShmRead att offset len) = on-shared (segments.own-read client c s.shared c s.clock att offset len)

@@ -15,7 +15,7 @@ use Rattle.ipc_objects.specs.Objects.{changed, with_perm}
 use Rattle.ipc_objects.proofs.Seen.{next_id-free}
 use Rattle.ipc_model.specs.State.{Caller}
 use Rattle.ipc_model.specs.Plan.{IsPlain, Passes, Plan, Grant, found, in_order}
-use Rattle.ipc_model.specs.Gets.{Getting, get, get_found, make_object, new_object, object_of_key, to_open}
+use Rattle.ipc_model.specs.Gets.{Getting, get, get_found, make_object, new_object, object_of_key, to_open, Get}
 use Rattle.ipc_laws.specs.Worlds.{all_masked, blank, is_hidden_in, masked}
 use Rattle.ipc_laws.proofs.Pairs.{Both, both-check, both-found, both-grant, both-order, both-refuse}
 use Rattle.ipc_laws.proofs.Searches.{find-masked, next_id-masked, told}
@@ -112,23 +112,23 @@ module _ {X : Type 0} (empty : X → X) (hides : ℕ → Perm → Bool) (t : Tab
     both-make : (object : Object X) → Both c R (make_object t object) (make_object u object)
     both-make object = subst (λ o. Both c R (make_object t object) (found o NoSlot tt (λ id. Grant (Id id) (with_object u id object)))) (sym (next_id-masked empty hides t)) (both-made object (next_id t) refl)
 
-    module _ (getting : Getting X) (fits : (x : X) → getting.to_find (empty x) ≡ getting.to_find x) (who : Caller) (key flags : ℕ) where
+    module _ (getting : Getting X) (fits : (x : X) → getting.to_find (empty x) ≡ getting.to_find x) (who : Caller) (asked : Get) where
       contents-masked : (q : ℕ) (o : Object X) → getting.to_find (masked empty hides q o).contents ≡ getting.to_find o.contents
       contents-masked q o = ⊎_elim
           (λ (is : hides q o.perm ≡ true). ap (λ (x : Object X). getting.to_find x.contents) (masked-hidden empty hides q o is) ∙ fits o.contents)
           (λ (isnt : hides q o.perm ≡ false). ap (λ (x : Object X). getting.to_find x.contents) (masked-seen empty hides q o isnt))
           (cases_Bool (hides q o.perm))
 
-      by-key : (o : Option (ℕ × Object X)) → Both c R (get_found t who key flags getting o) (get_found u who key flags getting (option_map {U = ℕ × Object X} (told empty hides t) o))
+      by-key : (o : Option (ℕ × Object X)) → Both c R (get_found t who asked getting o) (get_found u who asked getting (option_map {U = ℕ × Object X} (told empty hides t) o))
       by-key None =
-          let object = new_object who key flags getting.new in
-          both-check R c (Passes (key == 0 || has_flag flags ipc_creat) NoKey tt) (both-order R c getting.to_make (both-make object))
+          let object = new_object who asked.key asked.flags getting.new in
+          both-check R c (Passes (asked.key == 0 || has_flag asked.flags ipc_creat) NoKey tt) (both-order R c getting.to_make (both-make object))
       by-key (Some there) =
           let id = there.0 in
           let o = there.1 in
-          subst (λ (p : Perm). Both c R (get_found t who key flags getting (Some there)) (in_order (to_open p flags) (in_order (getting.to_find (masked empty hides id o).contents) (Grant (Id id) u)))) (sym (perm-masked empty hides id o))
-          (subst (λ checks. Both c R (get_found t who key flags getting (Some there)) (in_order (to_open o.perm flags) (in_order checks (Grant (Id id) u)))) (sym (contents-masked id o))
-          (both-order R c (to_open o.perm flags) (both-order R c (getting.to_find o.contents) (both-grant R c (Id id) t u (again empty twice hides hides t (λ q p same. same), λ q is. is)))))
+          subst (λ (p : Perm). Both c R (get_found t who asked getting (Some there)) (in_order (to_open p asked.flags) (in_order (getting.to_find (masked empty hides id o).contents) (Grant (Id id) u)))) (sym (perm-masked empty hides id o))
+          (subst (λ checks. Both c R (get_found t who asked getting (Some there)) (in_order (to_open o.perm asked.flags) (in_order checks (Grant (Id id) u)))) (sym (contents-masked id o))
+          (both-order R c (to_open o.perm asked.flags) (both-order R c (getting.to_find o.contents) (both-grant R c (Id id) t u (again empty twice hides hides t (λ q p same. same), λ q is. is)))))
 
-      pub both-get : Both c R (get t who key flags getting) (get u who key flags getting)
-      both-get = subst (λ o. Both c R (get t who key flags getting) (get_found u who key flags getting o)) (sym (find-masked empty hides t key)) (by-key (object_of_key t key))
+      pub both-get : Both c R (get t who asked getting) (get u who asked getting)
+      both-get = subst (λ o. Both c R (get t who asked getting) (get_found u who asked getting o)) (sym (find-masked empty hides t asked.key)) (by-key (object_of_key t asked.key))

@@ -9,7 +9,7 @@ use Rattle.ipc_model.specs.State.{State, creds_at, is_waiting}
 use Rattle.ipc_model.specs.Decide.{waits_at}
 use Rattle.ipc_history.specs.History.{AreLegalFrom, run_from}
 use Rattle.ipc_model.specs.Step.{Event, begun, moved_by, step}
-use Rattle.ipc_model.specs.Waits.{AreNotReady}
+use Rattle.ipc_history.specs.Waits.{AreNotReady}
 use Rattle.ipc_laws.specs.Worlds.{AreOutOfSight, AreTwoWorlds, IsOutOfSight, IsSettled, IsUnaware, blur, blur_by, ends_from, ends_of, is_hidden_at, own_by, own_events, own_from}
 use Rattle.ipc_laws.proofs.Settled.{IsAnother}
 use Rattle.ipc_laws.proofs.Sight.{blur-more, sight}

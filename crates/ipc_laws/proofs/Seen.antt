@@ -1,8 +1,9 @@
 -- Calls of anyone: one that may wait comes out alike in sight, one that is unseen leaves the blur, and the client's own
 -- call doesn't wait out of sight. A line for each call.
-use Rattle.std.proofs.Common.{◌≡◌, ℕ, ℤ, true, false, List, length, refl, sym, ap, ◌∙◌, Some}
+use Rattle.std.proofs.Common.{◌≡◌, ℕ, true, false, List, length, refl, sym, ap, ◌∙◌, Some}
 use Rattle.std.specs.Prelude.{int_le, nat_le, nat_lt, pos, not, option_map}
 use Rattle.std.proofs.lemmas.Bool.{true≢false}
+use Rattle.ipc_call.specs.declared.settings.Receive.{Receive}
 use Rattle.ipc_call.specs.declared.calls.Call.{Call}
 use Rattle.ipc_call.specs.declared.calls.Call.TheVariants.{MsgSnd, MsgRcv, SemOp, SemTimedOp, GetVal, GetPid, GetNcnt, GetZcnt, GetAll, SetVal, SetAll, ShmRead, ShmWrite, IpcStat, Listing}
 use Rattle.ipc_call.specs.declared.calls.Kind.{Kind}
@@ -14,12 +15,11 @@ use Rattle.ipc_creds.specs.Credentials.{Credentials}
 use Rattle.ipc_perm.specs.Access.{Permission, class_of, rule_of, to_alter, to_read}
 use Rattle.shm_seg.specs.declared.attachments.Attachment.{Attachment}
 use Rattle.shm_seg.specs.Attachments.{attachment_at}
-use Rattle.msg_queue.specs.declared.messages.Message.{Message}
 use Rattle.ipc_model.specs.State.{Queues, Sems, Shared, State, caller, creds_at, has_ended}
 use Rattle.ipc_model.specs.Decision.{proceeds}
 use Rattle.ipc_model.specs.Plan.{Needs, Passes, Plan, decision}
 use Rattle.ipc_model.proofs.Plans.{IfGranted}
-use Rattle.ipc_model.specs.Messages.{queue_at, receive_message, send_message}
+use Rattle.ipc_model.specs.Messages.{queue_at, receive_message, send_message, Send}
 use Rattle.ipc_model.specs.Semaphores.{operate, set_at, wanted_by}
 use Rattle.ipc_model.specs.Controls.{status_of}
 use Rattle.ipc_model.specs.Listings.{rows_to}
@@ -46,10 +46,10 @@ module _ (client : ℕ) (c : Credentials) (s : State) where
     unfolding part_plan
     visible-alive (MsgSnd id mtype text flags) can seen =
         both-on (queues.IsExact client c s.queues) (IsExact client c s) (λ u. record s { queues = u }) (λ v. record b { queues = v }) (exact-queues client c s) d
-        (queues.exact-send client c s.queues (caller s who) id flags d seen s.limits (record { mtype = mtype; text = text }))
+        (queues.exact-send client c s.queues (caller s who) id d seen s.limits (record { message = record { mtype = mtype; text = text }; flags = flags }))
     visible-alive (MsgRcv id size msgtyp flags) can seen =
         both-on (queues.IsExact client c s.queues) (IsExact client c s) (λ u. record s { queues = u }) (λ v. record b { queues = v }) (exact-queues client c s) d
-        (queues.exact-receive client c s.queues (caller s who) id flags d seen size msgtyp)
+        (queues.exact-receive client c s.queues (caller s who) id d seen (record { size = size; msgtyp = msgtyp; flags = flags }))
     visible-alive (SemOp id ops) can seen =
         both-on (sets.IsExact client c s.sems) (IsExact client c s) (λ u. record s { sems = u }) (λ v. record b { sems = v }) (exact-sems client c s) d
         (sets.exact-operate client c s.sems id (caller s who) ops d seen s.limits)
@@ -77,8 +77,8 @@ module _ (client : ℕ) (c : Credentials) (s : State) where
 
     stays-alive : (call : Call) → is_unseen client c s who call ≡ true → Grants d (IsSame client c s) (plan_alive s who call)
     unfolding part_plan
-    stays-alive (MsgSnd id mtype text flags) hidden = stays-queues (queues.same-send client c s.queues (caller s who) id flags d hidden s.limits (record { mtype = mtype; text = text }))
-    stays-alive (MsgRcv id size msgtyp flags) hidden = stays-queues (queues.same-receive client c s.queues (caller s who) id flags d hidden size msgtyp)
+    stays-alive (MsgSnd id mtype text flags) hidden = stays-queues (queues.same-send client c s.queues (caller s who) id d hidden s.limits (record { message = record { mtype = mtype; text = text }; flags = flags }))
+    stays-alive (MsgRcv id size msgtyp flags) hidden = stays-queues (queues.same-receive client c s.queues (caller s who) id d hidden (record { size = size; msgtyp = msgtyp; flags = flags }))
     stays-alive (SemOp id ops) hidden = stays-sems (sets.same-operate client c s.sems id d hidden (caller s who) ops s.limits)
     stays-alive (SemTimedOp id ops timeout) hidden = stays-sems (sets.same-operate client c s.sems id d hidden (caller s who) ops s.limits)
     stays-alive (SetVal id num value) hidden = stays-sems (sets.same-set client c s.sems id d hidden (caller s who) num value)
@@ -114,14 +114,14 @@ module _ (client : ℕ) (c : Credentials) (s : State) where
     refused-sems : {p : Plan Sems} → Goes c p → Goes c (whole s (OnSems p))
     refused-sems goes = goes-on c (λ u. record s { sems = u }) goes
 
-    refused-send : (id flags : ℕ) (message : Message) → queues.hid client c s.queues id ≡ true → Goes c (send_message s.limits s.queues (caller s who) id flags message)
-    refused-send id flags message hidden =
-        goes-passes c (int_le (pos 1) message.mtype) BadType tt (λ right. goes-passes c (nat_le (length message.text) s.limits.msg_max) TextTooLong tt (λ short.
+    refused-send : (id : ℕ) (asked : Send) → queues.hid client c s.queues id ≡ true → Goes c (send_message s.limits s.queues (caller s who) id asked)
+    refused-send id asked hidden =
+        goes-passes c (int_le (pos 1) asked.message.mtype) BadType tt (λ right. goes-passes c (nat_le (length asked.message.text) s.limits.msg_max) TextTooLong tt (λ short.
         goes-found c (queue_at s.queues id) BadId tt (λ o there.
         goes-denied c (Permission o.perm to_alter) (rule_of (class_of c o.perm)) (denied-permission c o.perm to_alter (sym (hidden-at (hides_closed client c) s.queues id (Some o) there) ∙ hidden) refl))))
 
-    refused-receive : (id size : ℕ) (msgtyp : ℤ) (flags : ℕ) → queues.hid client c s.queues id ≡ true → Goes c (receive_message s.queues (caller s who) id size msgtyp flags)
-    refused-receive id size msgtyp flags hidden =
+    refused-receive : (id : ℕ) (asked : Receive) → queues.hid client c s.queues id ≡ true → Goes c (receive_message s.queues (caller s who) id asked)
+    refused-receive id asked hidden =
         goes-found c (queue_at s.queues id) BadId tt (λ o there.
         goes-denied c (Permission o.perm to_read) (rule_of (class_of c o.perm)) (denied-permission c o.perm to_read (sym (hidden-at (hides_closed client c) s.queues id (Some o) there) ∙ hidden) refl))
 
@@ -134,8 +134,10 @@ module _ (client : ℕ) (c : Credentials) (s : State) where
 
     refused-alive : (call : Call) → is_hidden_at client c s (waits_at call) ≡ true → Goes c (plan_alive s who call)
     unfolding part_plan
-    refused-alive (MsgSnd id mtype text flags) hidden = refused-queues (refused-send id flags (record { mtype = mtype; text = text }) hidden)
-    refused-alive (MsgRcv id size msgtyp flags) hidden = refused-queues (refused-receive id size msgtyp flags hidden)
+    refused-alive (MsgSnd id mtype text flags) hidden = refused-queues (refused-send id (record { message = record { mtype = mtype; text = text }; flags = flags }) hidden)
+    refused-alive (MsgRcv id size msgtyp flags) hidden =
+        let asked : Receive = record { size = size; msgtyp = msgtyp; flags = flags } in
+        refused-queues (refused-receive id asked hidden)
     refused-alive (SemOp id ops) hidden = refused-sems (refused-operate id ops hidden)
     refused-alive (SemTimedOp id ops timeout) hidden = refused-sems (refused-operate id ops hidden)
     refused-alive call hidden = absurd (true≢false (sym hidden))

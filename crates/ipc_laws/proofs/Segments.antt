@@ -6,7 +6,6 @@ use Rattle.std.proofs.lemmas.Bool.{and_parts, false≢true}
 use Rattle.std.proofs.lemmas.Bool.Decides.{nat_tests}
 use Rattle.std.proofs.lemmas.List.{length-append, length-replicate, length-take-le, length-drop}
 use Rattle.std.proofs.lemmas.Option.{none-some, same_Some}
-use Rattle.ipc_call.specs.Flags.{has_flag, shm_rdonly}
 use Rattle.ipc_call.specs.declared.limits.Limits.{Limits}
 use Rattle.ipc_call.specs.declared.perms.Perm.{Perm}
 use Rattle.ipc_call.specs.declared.rules.Rule.TheVariants.{BadId, BadSize, NotAttached, OutOfSegment, TooManyAttached}
@@ -22,9 +21,9 @@ use Rattle.shm_seg.specs.Segments.{lies_within, overwritten, part_of}
 use Rattle.shm_seg.proofs.Changes.{free_there}
 use Rattle.ipc_model.specs.State.{Caller, Segment, Shared}
 use Rattle.ipc_model.specs.Plan.{Needs, Passes, Grant, found, ◌⨾◌}
-use Rattle.ipc_model.specs.Gets.{get_segment, getting_segment}
+use Rattle.ipc_model.specs.Gets.{Get, get_segment, getting_segment}
 use Rattle.ipc_model.specs.Controls.{marked, without_segment}
-use Rattle.ipc_model.specs.Segments.{after_detaches, attach, attached_by, behind, detach, detached, detached_by, detached_from, left_segments, read_bytes, segment_at, wanted_to_attach, with_attached, with_bytes, without_number, write_bytes}
+use Rattle.ipc_model.specs.Segments.{after_detaches, attach, attached_by, behind, detach, detached, detached_by, detached_from, left_segment, read_bytes, segment_at, wanted_to_attach, with_attached, with_bytes, without_number, write_bytes, attachment_to}
 use Rattle.ipc_laws.specs.Worlds.{all_masked, blank_segment, blur_shared, has_attached, hides_segment, is_closed, is_hidden_in}
 use Rattle.ipc_laws.proofs.Attached.{attached-other, attached-there, detached-fewer}
 use Rattle.ipc_laws.proofs.Closed.{denied-permission}
@@ -118,12 +117,12 @@ module _ (client : ℕ) (c : Credentials) where
     alike-shared segments others attached alike = (ap (λ x. record { segments = x; attached = attached }) alike.0, alike.1)
 
     -- shmget
-    pub own-get : (limits : Limits) (who : Caller) (key size flags : ℕ) → Both c IsAlike (get_segment limits a who key size flags) (get_segment limits blurred who key size flags)
-    own-get limits who key size flags =
+    pub own-get : (limits : Limits) (who : Caller) (asked : Get) (size : ℕ) → Both c IsAlike (get_segment limits a who asked size) (get_segment limits blurred who asked size)
+    own-get limits who asked size =
         both-on (Alike (mask a.attached) (λ t q. is_hidden_in (hides_segment client c a.attached) t q) a.segments) IsAlike (λ segments. record a { segments = segments }) (λ segments. record blurred { segments = segments })
         (λ segments others alike. alike-shared segments others a.attached alike) c
         (both-get blank_segment (hides_segment client c a.attached) a.segments segment-twice c (getting_segment limits who.client size)
-        (λ x. ap (λ n. Passes (nat_le size n) BadSize tt ∷ []) (length-replicate (length x.bytes) 0)) who key flags)
+        (λ x. ap (λ n. Passes (nat_le size n) BadSize tt ∷ []) (length-replicate (length x.bytes) 0)) who asked)
 
     -- a segment in sight changes, and what is attached to another stays
     module _ (id : ℕ) (attached : Attached) (o : Object Segment) (there : finite.get a.segments.objects id ≡ Some o) (seen : hides_segment client c a.attached id o.perm ≡ false)
@@ -153,9 +152,9 @@ module _ (client : ℕ) (c : Credentials) where
 
       -- shmat
       alike-attached : (id flags number : ℕ) (o : Object Segment) → finite.get a.segments.objects id ≡ Some o → hides_segment client c a.attached id o.perm ≡ false → free_number a.attached client ≡ Some number
-          → IsAlike (with_attached a who id flags o.contents number) (with_attached blurred who id flags o.contents number)
+          → IsAlike (with_attached a who number (attachment_to id flags) o.contents) (with_attached blurred who number (attachment_to id flags) o.contents)
       alike-attached id flags number o there seen free =
-          let new : Attachment = record { segment = id; is_read_only = has_flag flags shm_rdonly } in
+          let new = attachment_to id flags in
           alike-set id (with_attachment a.attached client number new) o there seen
           (λ q ne none. attached-other client a.attached number new q (free_there a.attached client number free) (λ same. ne (sym same)) ∙ none)
           (λ (y : Object Segment). record y { contents = attached_by who o.contents })
@@ -192,7 +191,7 @@ module _ (client : ℕ) (c : Credentials) where
         still q p is = hides-by rest q p (closed-of a.attached q p is) (detached-fewer client a.attached number of there q (unattached-of a.attached q p is))
 
         left : (o : Option (Object Segment)) → finite.get a.segments.objects of.segment ≡ o
-            → IsAlike (record { segments = left_segments a.segments rest who of.segment o; attached = rest }) (record { segments = left_segments blurred.segments rest who of.segment o; attached = rest })
+            → IsAlike (left_segment (record a { attached = rest }) who of.segment o) (left_segment (record blurred { attached = rest }) who of.segment o)
         left None is = alike-shared a.segments blurred.segments rest
             (again blank_segment segment-twice (hides_segment client c a.attached) (hides_segment client c rest) a.segments still, λ q hidden. more-same a.segments (hides_segment client c a.attached) (hides_segment client c rest) q (still q) hidden)
         left (Some o) is = by (o.contents.is_marked && attach_count rest of.segment == 0)
@@ -203,7 +202,7 @@ module _ (client : ℕ) (c : Credentials) where
             by false = alike-set of.segment rest o is (here o.perm) fewer (λ (y : Object Segment). record y { contents = detached_by who o.contents })
 
         pub alike-left : IsAlike (without_number a who number (Some of)) (without_number blurred who number (Some of))
-        alike-left = subst (λ o. IsAlike (without_number a who number (Some of)) (record { segments = left_segments blurred.segments rest who of.segment o; attached = rest })) (sym same-there) (left (segment_at a of.segment) refl)
+        alike-left = subst (λ o. IsAlike (without_number a who number (Some of)) (left_segment (record blurred { attached = rest }) who of.segment o)) (sym same-there) (left (segment_at a of.segment) refl)
 
       pub own-detach : (number : ℕ) → Both c IsAlike (detach a who number) (detach blurred who number)
       own-detach number = both-found IsAlike c (attachment_at a.attached client number) NotAttached tt (λ of there. both-grant IsAlike c Done _ _ (alike-left number of there))

@@ -25,7 +25,7 @@ use Rattle.sem_undo.specs.Entries.{Adjusted, Entries, adj_of, cleared, without_c
 use Rattle.ipc_model.specs.State.{Caller, SemSet, Sems, pid_of}
 use Rattle.ipc_model.specs.Plan.{Needs, Passes, Grant, in_order}
 use Rattle.ipc_model.specs.Controls.{without_set}
-use Rattle.ipc_model.specs.Gets.{get_set, getting_set}
+use Rattle.ipc_model.specs.Gets.{Get, get_set, getting_set}
 use Rattle.ipc_model.specs.Semaphores.{after_exit, exited, undone_set, get_all, look, lowered, operate, operate_found, operated, renewed, set_all, set_at, set_value, trial_checks, values_of, wanted_by, with_values}
 use Rattle.ipc_model.proofs.Apart.{cleared-apart, lowered-apart}
 use Rattle.ipc_laws.specs.Worlds.{all_masked, blank, blank_set, masked, blur_sems, hides_closed, is_closed, is_hidden_in}
@@ -114,12 +114,12 @@ module _ (client : ℕ) (c : Credentials) where
         (blur-same (record { sets = sets; undo = undo }) (record { sets = others; undo = entries }) alike.0 (λ k isnt. same k (fewer (hid sems k.set) _ (alike.1 k.set) isnt)), alike.1)
 
     -- semget
-    pub own-get : (limits : Limits) (who : Caller) (key nsems flags : ℕ) → Both c IsAlike (get_set limits sems who key nsems flags) (get_set limits blurred who key nsems flags)
-    own-get limits who key nsems flags =
+    pub own-get : (limits : Limits) (who : Caller) (asked : Get) (nsems : ℕ) → Both c IsAlike (get_set limits sems who asked nsems) (get_set limits blurred who asked nsems)
+    own-get limits who asked nsems =
         both-check IsAlike c (Passes (nat_le nsems limits.sem_msl) BadSize tt)
         (both-on (Alike mask (λ t q. is_hidden_in (hides_closed client c) t q) sems.sets) IsAlike (λ sets. record sems { sets = sets }) (λ sets. record blurred { sets = sets })
         (λ sets others alike. alike-sems sets others sems.undo blurred.undo alike (same-kept (hid sems) sems.undo)) c
-        (both-get blank_set (hides_closed client c) sems.sets set-twice c (getting_set nsems) (λ x. ap (λ n. Passes (nat_le nsems n) BadSize tt ∷ []) (length-replicate (length x.semaphores) zeroed)) who key flags))
+        (both-get blank_set (hides_closed client c) sems.sets set-twice c (getting_set nsems) (λ x. ap (λ n. Passes (nat_le nsems n) BadSize tt ∷ []) (length-replicate (length x.semaphores) zeroed)) who asked))
 
     module _ (id : ℕ) where
       -- GETVAL, GETPID, GETNCNT and GETZCNT

@@ -16,7 +16,7 @@ use Rattle.ipc_model.specs.Decide.{can_wait, decide, decide_call, is_late, is_re
 use Rattle.ipc_model.specs.Plan.{decision}
 use Rattle.ipc_model.specs.Cancelled.{cancelled}
 use Rattle.ipc_model.specs.Step.{Event, Moved, after, begun, enter, expire, expired, Stepped, and_then, at_time, cancel, cancelled_by, entered, is_ready, moved_as, settled, state_by, step, stepped, told_cancelled, waiting_as}
-use Rattle.ipc_model.specs.Waits.{AreInTime, AreNotReady}
+use Rattle.ipc_history.specs.Waits.{AreInTime, AreNotReady}
 use Rattle.ipc_model.proofs.Calls.{only_parkable}
 use Rattle.ipc_model.proofs.Late.{Keeps-call, at-as, late-granted, late-waits, only_parkable_call}
 use Rattle.ipc_call.specs.declared.rules.Rule.TheVariants.{TimedOut}

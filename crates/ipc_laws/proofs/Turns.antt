@@ -12,7 +12,7 @@ use Rattle.ipc_model.specs.Decision.{Decision, Refuse, Wait, Grant, proceeds}
 use Rattle.ipc_model.specs.Decide.{decide, decide_call, deadline_of, is_late, is_reached}
 use Rattle.ipc_model.specs.Cancelled.{cancelled}
 use Rattle.ipc_model.specs.Step.{Event, Moved, and_then, at_time, begun, cancelled_by, end_waiting, ended_by, expired, first_ready, is_ready, moved_by, settle, settle_from, settled, state_by, step, waiting_as, without}
-use Rattle.ipc_model.specs.Waits.{AreInTime, AreNotReady, WaitOnce}
+use Rattle.ipc_history.specs.Waits.{AreInTime, AreNotReady, WaitOnce}
 use Rattle.ipc_model.proofs.Beside.{clock-kept}
 use Rattle.ipc_model.proofs.Calls.{Keeps-decide}
 use Rattle.ipc_model.proofs.Late.{Keeps-call, late-granted, waits-early}

@@ -23,7 +23,7 @@ use Rattle.ipc_model.specs.Decision.{Outcome}
 use Rattle.ipc_model.specs.Decide.{waits_at}
 use Rattle.ipc_model.specs.Step.{Event, Stepped, step}
 use Rattle.ipc_history.specs.History.{AreLegalFrom, run_from}
-use Rattle.ipc_model.specs.Waits.{AreInTime, AreNotReady, WaitOnce}
+use Rattle.ipc_history.specs.Waits.{AreInTime, AreNotReady, WaitOnce}
 
 -- no right on an object, no control of it, and no capability that overrides rights
 abbrev pub is_shut : Credentials → Perm → Bool

@@ -5,7 +5,7 @@
 ghost use Rattle.std.specs.Prelude.{◌≡◌, ℕ, List};
 ghost use Rattle.ipc_model.specs.State.{State};
 ghost use Rattle.ipc_model.specs.Step.{Event, step};
-ghost use Rattle.ipc_model.specs.Waits.{AreInTime};
+ghost use Rattle.ipc_history.specs.Waits.{AreInTime};
 ghost use Rattle.ipc_history.specs.History.{History, run};
 ghost use Rattle.ipc_laws.specs.Deadlines.{step_by_deadlines};
 ghost use Rattle.ipc_laws.specs.Worlds.{AreTwoWorlds, IsUnaware};

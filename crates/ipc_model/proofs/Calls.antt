@@ -1,8 +1,8 @@
 -- The calls, a line for each in three tables: on what a plan doesn't depend, which plans wait, and what a grant keeps.
-use Rattle.std.proofs.Common.{◌≡◌, ℕ, Bool, true, false, List, [], ◌∷◌, length, refl, sym, ap, ◌∙◌, Option, Some, None, ℤ}
+use Rattle.std.proofs.Common.{◌≡◌, ℕ, Bool, true, false, List, [], ◌∷◌, length, refl, sym, ap, ◌∙◌, Option, Some, None}
 use Rattle.std.specs.Prelude.{if◌then◌else◌, is_some, not, pos, int_le, nat_le, nat_lt, option_and_then, option_map}
 use Rattle.std.proofs.lemmas.Bool.{true≢false}
-use Rattle.ipc_call.specs.Flags.{has_flag, msg_except}
+use Rattle.ipc_call.specs.declared.settings.Receive.{Receive}
 use Rattle.ipc_call.specs.declared.calls.Call.{Call}
 use Rattle.ipc_call.specs.declared.calls.Call.TheVariants.{MsgGet, MsgSnd, MsgRcv, SemGet, SemOp, SemTimedOp, GetVal, GetPid, GetNcnt, GetZcnt, GetAll, SetVal, SetAll, ShmGet, ShmAt, ShmDt, ShmRead, ShmWrite, Exit, IpcStat, IpcSet, IpcRmid, Listing, Interrupt, SetCreds}
 use Rattle.ipc_call.specs.declared.calls.Kind.{Kind}
@@ -22,14 +22,14 @@ use Rattle.ipc_model.specs.State.{Caller, Queue, Queues, Segment, SemSet, Sems, 
 use Rattle.ipc_model.specs.Decision.{proceeds}
 use Rattle.ipc_model.specs.Plan.{Needs, Passes, Plan, decision, in_order, on_part, ◌⨾◌}
 use Rattle.ipc_model.specs.Plan as plans
-use Rattle.ipc_model.specs.Gets.{Getting, get, get_found, get_queue, get_segment, get_set, getting_queue, getting_segment, getting_set, new_object, object_of_key}
-use Rattle.ipc_model.specs.Messages.{chosen, queue_at, receive_message, send_found, send_message, take_chosen, receive_found}
+use Rattle.ipc_model.specs.Gets.{Getting, get, get_found, get_queue, get_segment, get_set, getting_queue, getting_segment, getting_set, new_object, object_of_key, Get}
+use Rattle.ipc_model.specs.Messages.{chosen, queue_at, receive_message, send_found, send_message, take_chosen, receive_found, Send}
 use Rattle.ipc_model.specs.Semaphores.{exited, get_all, get_pid, get_value, operate, operated, set_all, set_at, set_value, trial_checks, wanted_by}
 use Rattle.ipc_model.specs.Segments.{attach, behind, detach, read_bytes, segment_at, write_bytes}
 use Rattle.shm_seg.specs.Attachments.{attachment_at, free_number, shmseg}
 use Rattle.sem_set.specs.Trials.{are_in}
 use Rattle.sem_undo.specs.Entries.{adj_of}
-use Rattle.ipc_objects.specs.Objects.{changed}
+use Rattle.ipc_objects.specs.Objects.{changed, with_contents}
 use Rattle.std.proofs.lemmas.List.{length-set}
 use Rattle.ipc_creds.specs.Credentials.{became}
 use Rattle.ipc_model.specs.Processes.{process, with_creds}
@@ -49,17 +49,17 @@ use Rattle.ipc_call.specs.declared.perms.Perm.{Perm}
 -- a get: nothing in it waits, where nothing waits in the checks of its kind
 module _ {X : Type 0} (t : Table (Object X)) (getting : Getting X) (make : (p : Plan (Table (Object X))) → never_waits p ≡ true → never_waits (in_order getting.to_make p) ≡ true)
     (find : (x : X) (p : Plan (Table (Object X))) → never_waits p ≡ true → never_waits (in_order (getting.to_find x) p) ≡ true) where
-  never-get : (who : Caller) (key flags : ℕ) (there : Option (ℕ × Object X)) → never_waits (get_found t who key flags getting there) ≡ true
-  never-get who key flags None = make _ (never-found (next_id t) NoSlot tt _ (λ id. refl))
-  never-get who key flags (Some there) = find there.1.contents (plans.Grant (Id there.0) t) refl
+  never-get : (who : Caller) (asked : Get) (there : Option (ℕ × Object X)) → never_waits (get_found t who asked getting there) ≡ true
+  never-get who asked None = make _ (never-found (next_id t) NoSlot tt _ (λ id. refl))
+  never-get who asked (Some there) = find there.1.contents (plans.Grant (Id there.0) t) refl
 
 module _ (queues : Queues) (who other : Caller) where
-  send-alike : (id flags : ℕ) (message : Message) (queue : Option (Object Queue)) → blank (send_found queues who id flags message queue) ≡ blank (send_found queues other id flags message queue)
-  send-alike id flags message queue = blank-found queue BadId tt _ _ (λ queue. refl)
+  send-alike : (id : ℕ) (asked : Send) (queue : Option (Object Queue)) → blank (send_found queues who id asked queue) ≡ blank (send_found queues other id asked queue)
+  send-alike id asked queue = blank-found queue BadId tt _ _ (λ queue. refl)
 
-  take-alike : (id size flags : ℕ) (queue : Queue) (taken : Option (ℕ × Message)) → blank (take_chosen queues who id size flags queue taken) ≡ blank (take_chosen queues other id size flags queue taken)
-  take-alike id size flags queue None = refl
-  take-alike id size flags queue (Some taken) = refl
+  take-alike : (id : ℕ) (asked : Receive) (queue : Queue) (taken : Option (ℕ × Message)) → blank (on_part (with_contents queues id) (take_chosen who asked queue taken)) ≡ blank (on_part (with_contents queues id) (take_chosen other asked queue taken))
+  take-alike id asked queue None = refl
+  take-alike id asked queue (Some taken) = refl
 
 never-set : (s : State) (within : Bool) → never_waits (in_order (if within then [] else Needs Resource ∷ []) (plans.Grant Done s)) ≡ true
 never-set s true = refl
@@ -88,15 +88,16 @@ module _ (s : State) (parked : List Waiting) (clock : ℕ) where
   alive-alike : (client : ℕ) (call : Call) → can_wait call ≡ true → blank (plan_alive later client call) ≡ blank (plan_alive s client call)
   unfolding part_plan
   alive-alike client (MsgSnd id mtype text flags) can =
-      let message : Message = record { mtype = mtype; text = text } in
-      queues-alike (send_message s.limits s.queues (caller later client) id flags message) (send_message s.limits s.queues (caller s client) id flags message)
+      let asked : Send = record { message = record { mtype = mtype; text = text }; flags = flags } in
+      queues-alike (send_message s.limits s.queues (caller later client) id asked) (send_message s.limits s.queues (caller s client) id asked)
       (ap (λ p. Passes (int_le (pos 1) mtype) BadType tt ⨾ Passes (nat_le (length text) s.limits.msg_max) TextTooLong tt ⨾ p)
-      (send-alike s.queues (caller later client) (caller s client) id flags message (queue_at s.queues id)))
+      (send-alike s.queues (caller later client) (caller s client) id asked (queue_at s.queues id)))
   alive-alike client (MsgRcv id size msgtyp flags) can =
-      queues-alike (receive_message s.queues (caller later client) id size msgtyp flags) (receive_message s.queues (caller s client) id size msgtyp flags)
+      let asked : Receive = record { size = size; msgtyp = msgtyp; flags = flags } in
+      queues-alike (receive_message s.queues (caller later client) id asked) (receive_message s.queues (caller s client) id asked)
       (blank-found (queue_at s.queues id) BadId tt _ _ (λ (queue : Object Queue).
       ap (λ p. Needs (Permission queue.perm to_read) ⨾ p)
-      (take-alike s.queues (caller later client) (caller s client) id size flags queue.contents (chosen queue.contents.messages msgtyp (has_flag flags msg_except)))))
+      (take-alike s.queues (caller later client) (caller s client) id asked queue.contents (chosen queue.contents.messages asked))))
   alive-alike client (SemOp id ops) can = operate-alike client id ops
   alive-alike client (SemTimedOp id ops timeout) can = operate-alike client id ops
   alive-alike client call can = absurd (true≢false (sym can))
@@ -118,17 +119,19 @@ never-groups (Some gs) new = refl
 never-plan : (s : State) (client : ℕ) (call : Call) → can_wait call ≡ false → never_waits (plan s client call) ≡ true
 unfolding part_plan
 never-plan s client (MsgGet key flags) never =
+    let asked : Get = record { key = key; flags = flags } in
     let who = caller s client in
-    never-on (λ queues. record s { queues = queues }) (get_queue s.limits s.queues who key flags)
-    (never-get s.queues (getting_queue s.limits) (λ p waits. waits) (λ x p waits. waits) who key flags (object_of_key s.queues key))
+    never-on (λ queues. record s { queues = queues }) (get_queue s.limits s.queues who asked)
+    (never-get s.queues (getting_queue s.limits) (λ p waits. waits) (λ x p waits. waits) who asked (object_of_key s.queues key))
 never-plan s client (MsgSnd id mtype text flags) never = absurd (true≢false never)
 never-plan s client (MsgRcv id size msgtyp flags) never = absurd (true≢false never)
 never-plan s client (SemGet key nsems flags) never =
+    let asked : Get = record { key = key; flags = flags } in
     let who = caller s client in
     let sets = s.sems.sets in
-    never-on (λ sems. record s { sems = sems }) (get_set s.limits s.sems who key nsems flags)
-    (never-on (λ sets. record s.sems { sets = sets }) (get sets who key flags (getting_set nsems))
-    (never-get sets (getting_set nsems) (λ p waits. waits) (λ x p waits. waits) who key flags (object_of_key sets key)))
+    never-on (λ sems. record s { sems = sems }) (get_set s.limits s.sems who asked nsems)
+    (never-on (λ sets. record s.sems { sets = sets }) (get sets who asked (getting_set nsems))
+    (never-get sets (getting_set nsems) (λ p waits. waits) (λ x p waits. waits) who asked (object_of_key sets key)))
 never-plan s client (SemOp id ops) never = absurd (true≢false never)
 never-plan s client (SemTimedOp id ops timeout) never = absurd (true≢false never)
 never-plan s client (GetNcnt id num) never = never-sems s (get_waiting s id num (is_negative num)) (never-found (set_at s.sems id) BadId tt _ (λ set. refl))
@@ -140,12 +143,13 @@ never-plan s client (GetAll id) never = never-sems s (get_all s.sems id) (never-
 never-plan s client (SetVal id num value) never = never-sems s (set_value s.sems (caller s client) id num value) (never-found (set_at s.sems id) BadId tt _ (λ set. refl))
 never-plan s client (SetAll id values) never = never-sems s (set_all s.sems (caller s client) id values) (never-found (set_at s.sems id) BadId tt _ (λ set. refl))
 never-plan s client (ShmGet key size flags) never =
+    let asked : Get = record { key = key; flags = flags } in
     let who = caller s client in
     let segments = s.shared.segments in
     let getting = getting_segment s.limits client size in
-    never-shared s (get_segment s.limits s.shared who key size flags)
-    (never-on (λ segments. record s.shared { segments = segments }) (get segments who key flags getting)
-    (never-get segments getting (λ p waits. waits) (λ x p waits. waits) who key flags (object_of_key segments key)))
+    never-shared s (get_segment s.limits s.shared who asked size)
+    (never-on (λ segments. record s.shared { segments = segments }) (get segments who asked getting)
+    (never-get segments getting (λ p waits. waits) (λ x p waits. waits) who asked (object_of_key segments key)))
 never-plan s client (ShmAt id flags) never =
     never-shared s (attach s.shared (caller s client) id flags) (never-found (segment_at s.shared id) BadId tt _ (λ segment. never-found (free_number s.shared.attached client) TooManyAttached tt _ (λ number. refl)))
 never-plan s client (ShmDt att) never = never-shared s (detach s.shared (caller s client) att) (never-found (attachment_at s.shared.attached client att) NotAttached tt _ (λ a. refl))
@@ -184,28 +188,28 @@ clock_alike s now client call = either s (at_time s now) client call refl (plan-
 
 module _ {X : Type 0} where
   -- a get, of any kind: what holds of the table as it is, and with the new object, holds of what is left
-  module _ (t : Table (Object X)) (who : Caller) (key flags : ℕ) (getting : Getting X) (P : Table (Object X) → Type 0) (same : P t)
-      (new : (id : ℕ) → next_id t ≡ Some id → P (with_object t id (new_object who key flags getting.new))) where
-    pub Ends-getting : (there : Option (ℕ × Object X)) → Ends (λ answer u. P u) (get_found t who key flags getting there)
+  module _ (t : Table (Object X)) (who : Caller) (asked : Get) (getting : Getting X) (P : Table (Object X) → Type 0) (same : P t)
+      (new : (id : ℕ) → next_id t ≡ Some id → P (with_object t id (new_object who asked.key asked.flags getting.new))) where
+    pub Ends-getting : (there : Option (ℕ × Object X)) → Ends (λ answer u. P u) (get_found t who asked getting there)
     Ends-getting None = Ends-order (λ answer u. P u) getting.to_make _ (Ends-found (λ answer u. P u) (next_id t) NoSlot tt _ new)
     Ends-getting (Some there) = Ends-order (λ answer u. P u) (getting.to_find there.1.contents) (plans.Grant (Id there.0) t) same
 
-  Ends-get : (t : Table (Object X)) (who : Caller) (key flags : ℕ) (getting : Getting X) (there : Option (ℕ × Object X)) → Ends (λ answer u. Grows t u) (get_found t who key flags getting there)
-  Ends-get t who key flags getting there =
-      Ends-getting t who key flags getting (λ u. Grows t u) (Grows-same t) (λ id is. Grows-new t id (new_object who key flags getting.new) is) there
+  Ends-get : (t : Table (Object X)) (who : Caller) (asked : Get) (getting : Getting X) (there : Option (ℕ × Object X)) → Ends (λ answer u. Grows t u) (get_found t who asked getting there)
+  Ends-get t who asked getting there =
+      Ends-getting t who asked getting (λ u. Grows t u) (Grows-same t) (λ id is. Grows-new t id (new_object who asked.key asked.flags getting.new) is) there
 
 -- the calls on messages
-Ends-send : (queues : Queues) (who : Caller) (id flags : ℕ) (message : Message) (queue : Option (Object Queue)) → Ends (λ answer u. Grows queues u) (send_found queues who id flags message queue)
-Ends-send queues who id flags message None = tt
-Ends-send queues who id flags message (Some queue) = Grows-changed queues id _
+Ends-send : (queues : Queues) (who : Caller) (id : ℕ) (asked : Send) (queue : Option (Object Queue)) → Ends (λ answer u. Grows queues u) (send_found queues who id asked queue)
+Ends-send queues who id asked None = tt
+Ends-send queues who id asked (Some queue) = Grows-changed queues id _
 
-Ends-take : (queues : Queues) (who : Caller) (id size flags : ℕ) (queue : Queue) (taken : Option (ℕ × Message)) → Ends (λ answer u. Grows queues u) (take_chosen queues who id size flags queue taken)
-Ends-take queues who id size flags queue None = tt
-Ends-take queues who id size flags queue (Some taken) = Grows-changed queues id _
+Ends-take : (queues : Queues) (who : Caller) (id : ℕ) (asked : Receive) (queue : Queue) (taken : Option (ℕ × Message)) → Ends (λ answer u. Grows queues u) (on_part (with_contents queues id) (take_chosen who asked queue taken))
+Ends-take queues who id asked queue None = tt
+Ends-take queues who id asked queue (Some taken) = Grows-changed queues id _
 
-Ends-receive : (queues : Queues) (who : Caller) (id size : ℕ) (msgtyp : ℤ) (flags : ℕ) (queue : Option (Object Queue)) → Ends (λ answer u. Grows queues u) (receive_found queues who id size msgtyp flags queue)
-Ends-receive queues who id size msgtyp flags None = tt
-Ends-receive queues who id size msgtyp flags (Some queue) = Ends-take queues who id size flags queue.contents (chosen queue.contents.messages msgtyp (has_flag flags msg_except))
+Ends-receive : (queues : Queues) (who : Caller) (id : ℕ) (asked : Receive) (queue : Option (Object Queue)) → Ends (λ answer u. Grows queues u) (receive_found queues who id asked queue)
+Ends-receive queues who id asked None = tt
+Ends-receive queues who id asked (Some queue) = Ends-take queues who id asked queue.contents (chosen queue.contents.messages asked)
 
 -- an object of a table has these permissions
 with_perm_of : {X : Type 0} (o : Option (Object X)) (perm : Perm) → option_map (λ (object : Object X). object.perm) o ≡ Some perm → (object : Object X) × (o ≡ Some object)
@@ -275,17 +279,20 @@ Ends-operate s client id ops =
 Ends-plan : (s : State) (client : ℕ) (call : Call) → Ends (Succeeds s) (plan s client call)
 unfolding part_plan
 Ends-plan s client (MsgGet key flags) =
-    Ends-queues s (get_queue s.limits s.queues (caller s client) key flags) (Ends-get s.queues (caller s client) key flags (getting_queue s.limits) (object_of_key s.queues key))
+    let asked : Get = record { key = key; flags = flags } in
+    Ends-queues s (get_queue s.limits s.queues (caller s client) asked) (Ends-get s.queues (caller s client) asked (getting_queue s.limits) (object_of_key s.queues key))
 Ends-plan s client (MsgSnd id mtype text flags) =
-    let message : Message = record { mtype = mtype; text = text } in
-    Ends-queues s (send_message s.limits s.queues (caller s client) id flags message) (Ends-send s.queues (caller s client) id flags message (queue_at s.queues id))
+    let asked : Send = record { message = record { mtype = mtype; text = text }; flags = flags } in
+    Ends-queues s (send_message s.limits s.queues (caller s client) id asked) (Ends-send s.queues (caller s client) id asked (queue_at s.queues id))
 Ends-plan s client (MsgRcv id size msgtyp flags) =
-    Ends-queues s (receive_message s.queues (caller s client) id size msgtyp flags) (Ends-receive s.queues (caller s client) id size msgtyp flags (queue_at s.queues id))
+    let asked : Receive = record { size = size; msgtyp = msgtyp; flags = flags } in
+    Ends-queues s (receive_message s.queues (caller s client) id asked) (Ends-receive s.queues (caller s client) id asked (queue_at s.queues id))
 Ends-plan s client (SemGet key nsems flags) =
+    let asked : Get = record { key = key; flags = flags } in
     let who = caller s client in
     let P : Answer → Sems → Type 0 = λ answer u. Grows s.sems.sets u.sets in
-    Ends-sems s (get_set s.limits s.sems who key nsems flags)
-    (Ends-on (λ sets. record s.sems { sets = sets }) P (get s.sems.sets who key flags (getting_set nsems)) (Ends-get s.sems.sets who key flags (getting_set nsems) (object_of_key s.sems.sets key)))
+    Ends-sems s (get_set s.limits s.sems who asked nsems)
+    (Ends-on (λ sets. record s.sems { sets = sets }) P (get s.sems.sets who asked (getting_set nsems)) (Ends-get s.sems.sets who asked (getting_set nsems) (object_of_key s.sems.sets key)))
 Ends-plan s client (SemOp id ops) = Ends-operate s client id ops
 Ends-plan s client (SemTimedOp id ops timeout) = Ends-operate s client id ops
 Ends-plan s client (GetNcnt id num) = Ends-sems s (get_waiting s id num (is_negative num)) (Ends-found _ (set_at s.sems id) BadId tt _ (λ set is. Grows-same s.sems.sets))
@@ -297,13 +304,14 @@ Ends-plan s client (GetAll id) = Ends-sems s (get_all s.sems id) (Ends-found _ (
 Ends-plan s client (SetVal id num value) = Ends-sems s (set_value s.sems (caller s client) id num value) (Ends-found _ (set_at s.sems id) BadId tt _ (λ set is. Grows-changed s.sems.sets id _))
 Ends-plan s client (SetAll id values) = Ends-sems s (set_all s.sems (caller s client) id values) (Ends-found _ (set_at s.sems id) BadId tt _ (λ set is. Grows-changed s.sems.sets id _))
 Ends-plan s client (ShmGet key size flags) =
+    let asked : Get = record { key = key; flags = flags } in
     let who = caller s client in
     let a = s.shared in
     let put : Table (Object Segment) → Shared = λ segments. record a { segments = segments } in
     let getting = getting_segment s.limits client size in
-    Ends-shared s (get_segment s.limits a who key size flags)
-    (Ends-on put (λ answer u. Leads a u) (get a.segments who key flags getting)
-    (Ends-getting a.segments who key flags getting (λ t. Leads a (put t)) (Leads-same a) (λ id is. Leads-new a id (new_object who key flags getting.new) refl is) (object_of_key a.segments key)))
+    Ends-shared s (get_segment s.limits a who asked size)
+    (Ends-on put (λ answer u. Leads a u) (get a.segments who asked getting)
+    (Ends-getting a.segments who asked getting (λ t. Leads a (put t)) (Leads-same a) (λ id is. Leads-new a id (new_object who asked.key asked.flags getting.new) refl is) (object_of_key a.segments key)))
 Ends-plan s client (ShmAt id flags) =
     let who = caller s client in
     Ends-shared s (attach s.shared who id flags) (Ends-found _ (segment_at s.shared id) BadId tt _ (λ segment there. Ends-found _ (free_number s.shared.attached client) TooManyAttached tt _ (λ number free. Leads-attached s.shared who id flags number segment there free)))

@@ -12,7 +12,7 @@ use Rattle.ipc_ids.proofs.Sound.{IsSound-change, IsSound-new, IsSound-without, W
 use Rattle.ipc_objects.specs.declared.object.Object.{Object}
 use Rattle.ipc_objects.specs.Objects.{changed, with_perm}
 use Rattle.ipc_model.specs.State.{Queues, Sems, Shared, State}
-use Rattle.ipc_model.specs.Attached.{AreAttached}
+use Rattle.ipc_model.specs.Segments.{AreAttached}
 use Rattle.ipc_model.specs.Decision.{Decision}
 use Rattle.ipc_model.proofs.Plans.{IfGranted}
 

@@ -4,7 +4,6 @@ use Rattle.std.specs.Prelude.{nat_eq, ◌==◌, ◌&&◌, ◌⊎◌}
 use Rattle.std.specs.FinMap as finite
 use Rattle.std.proofs.lemmas.Bool.{cases_eq, true≢false}
 use Rattle.std.proofs.lemmas.Option.{none-some, same_Some}
-use Rattle.ipc_call.specs.Flags.{has_flag, shm_rdonly}
 use Rattle.ipc_ids.specs.Table.{Table, next_id, with_object, without_object}
 use Rattle.ipc_ids.proofs.Identifiers.{same_eq}
 use Rattle.ipc_ids.proofs.Ids.{get-removed}
@@ -16,8 +15,7 @@ use Rattle.shm_seg.specs.Attachments.{Attached, attach_count, attachment_at, fre
 use Rattle.shm_seg.proofs.Changes.{attached_count, detached_count_other, free_there}
 use Rattle.ipc_model.specs.State.{Caller, Segment, Shared}
 use Rattle.ipc_model.specs.Controls.{marked, without_segment}
-use Rattle.ipc_model.specs.Attached.{AreAttached}
-use Rattle.ipc_model.specs.Segments.{attached_by, detached, detached_by, detached_from, left_segments, segment_at, with_attached, with_bytes, without_number}
+use Rattle.ipc_model.specs.Segments.{AreAttached, attached_by, attachment_to, detached, detached_by, detached_from, left_segment, segment_at, with_attached, with_bytes, without_number}
 use Rattle.ipc_model.proofs.Growing.{Grows-changed, Grows-gone, Grows-new, Grows-same, Leads, Leads-on, Leads-same}
 
 module _ (t : Table (Object Segment)) (id : ℕ) where
@@ -70,11 +68,11 @@ Leads-new a id object new is = record {
 }
 
 -- shmat
-pub Leads-attached : (a : Shared) (who : Caller) (id flags number : ℕ) (segment : Object Segment) → segment_at a id ≡ Some segment → free_number a.attached who.client ≡ Some number → Leads a (with_attached a who id flags segment.contents number)
+pub Leads-attached : (a : Shared) (who : Caller) (id flags number : ℕ) (segment : Object Segment) → segment_at a id ≡ Some segment → free_number a.attached who.client ≡ Some number → Leads a (with_attached a who number (attachment_to id flags) segment.contents)
 Leads-attached a who id flags number segment there free =
-    Leads-kept a id (λ (o : Object Segment). record o { contents = attached_by who segment.contents }) (with_attached a who id flags segment.contents number).attached
+    Leads-kept a id (λ (o : Object Segment). record o { contents = attached_by who segment.contents }) (with_attached a who number (attachment_to id flags) segment.contents).attached
     (λ x is. ap (λ (o : Object Segment). o.contents.is_marked) (same_Some segment x (sym there ∙ is)))
-    (λ j was. let more = attached_count a.attached who.client number (record { segment = id; is_read_only = has_flag flags shm_rdonly }) (free_there a.attached who.client number free) j in omega (arith, more, was))
+    (λ j was. let more = attached_count a.attached who.client number (attachment_to id flags) (free_there a.attached who.client number free) j in omega (arith, more, was))
 
 -- shmwrite
 pub Leads-written : (a : Shared) (id : ℕ) (segment : Object Segment) (offset : ℕ) (new : _) → segment_at a id ≡ Some segment → Leads a (with_bytes a id segment.contents offset new)
@@ -110,7 +108,7 @@ module _ (a : Shared) (who : Caller) (number : ℕ) (of : Attachment) (there : a
   id = of.segment
 
   abbrev left-with : Option (Object Segment) → Shared
-  left-with o = record { segments = left_segments a.segments rest who id o; attached = rest }
+  left-with o = left_segment (record a { attached = rest }) who id o
 
   -- another segment has as many
   other-count : (j : ℕ) → (j ≡ id → ⊥) → 0 < attach_count a.attached j → 0 < attach_count rest j

@@ -6,8 +6,10 @@ pub mod Growing
 pub mod Keeping
 pub mod Late
 pub mod Leading
+pub mod Needs
 pub mod Plans
 pub mod Staying
+pub mod Stays
 pub mod Touched
 pub mod Trial
 pub mod Turning

@@ -1,11 +1,11 @@
 -- What the grant of a call leaves as it was: each object that the call doesn't touch, to the calls of other clients that
 -- wait there.
-use Rattle.std.proofs.Common.{◌≡◌, ◌≢◌, ℕ, ℤ, Bool, true, false, eqb, List, [], ◌∷◌, ◌++◌, refl, sym, ap, ◌∙◌, Option, Some, None}
+use Rattle.std.proofs.Common.{◌≡◌, ◌≢◌, ℕ, Bool, true, false, eqb, List, [], ◌∷◌, ◌++◌, refl, sym, ap, ◌∙◌, Option, Some, None}
 use Rattle.std.specs.Prelude.{◌&&◌, is_some, pos, option_map, unwrap_or, if◌then◌else◌}
 use Rattle.std.specs.FinMap as finite
 use Rattle.std.proofs.lemmas.Bool.{eqb-false, false≢true}
 use Rattle.std.proofs.lemmas.List.{get_or-set_other}
-use Rattle.ipc_call.specs.Flags.{has_flag, msg_except}
+use Rattle.ipc_call.specs.declared.settings.Receive.{Receive}
 use Rattle.ipc_call.specs.declared.calls.Call.{Call}
 use Rattle.ipc_call.specs.declared.calls.Call.TheVariants.{MsgGet, MsgSnd, MsgRcv, SemGet, SemOp, SemTimedOp, GetVal, GetPid, GetNcnt, GetZcnt, GetAll, SetVal, SetAll, ShmGet, ShmAt, ShmDt, ShmRead, ShmWrite, Exit, IpcStat, IpcSet, IpcRmid, Listing, Interrupt, SetCreds}
 use Rattle.ipc_call.specs.declared.calls.Kind.{Kind}
@@ -19,7 +19,7 @@ use Rattle.ipc_ids.specs.Table.{Table, next_id, with_object}
 use Rattle.ipc_ids.proofs.Images.{get-entries}
 use Rattle.ipc_ids.proofs.Sound.{get-insert-other, get-remove-other}
 use Rattle.ipc_objects.specs.declared.object.Object.{Object}
-use Rattle.ipc_objects.specs.Objects.{changed}
+use Rattle.ipc_objects.specs.Objects.{changed, with_contents}
 use Rattle.ipc_perm.specs.Access.{Resource, SetGroups}
 use Rattle.msg_queue.specs.declared.messages.Message.{Message}
 use Rattle.sem_set.specs.declared.sets.Semaphore.{Semaphore}
@@ -30,14 +30,15 @@ use Rattle.ipc_model.specs.State.{Queue, Queues, SemSet, Sems, Shared, State, ca
 use Rattle.ipc_model.specs.Plan.{Needs, Plan, found, on_part, ◌⨾◌}
 use Rattle.ipc_model.specs.Plan as plans
 use Rattle.ipc_model.specs.Cancelled.{is_same}
-use Rattle.ipc_model.specs.Gets.{get, get_queue, get_segment, get_set, getting_queue, getting_set, object_of_key}
-use Rattle.ipc_model.specs.Messages.{chosen, queue_at, receive_found, receive_message, send_found, send_message, take_chosen}
+use Rattle.ipc_model.specs.Gets.{get, get_queue, get_segment, get_set, getting_queue, getting_set, object_of_key, Get}
+use Rattle.ipc_model.specs.Messages.{chosen, queue_at, receive_found, receive_message, send_found, send_message, take_chosen, Send}
 use Rattle.ipc_model.specs.Semaphores.{after_exit, exited, get_all, get_pid, get_value, operate, operated, set_all, set_at, set_value, trial_checks, with_values}
 use Rattle.ipc_model.specs.Processes.{process, with_creds}
 use Rattle.ipc_model.specs.Controls.{is_within, perm_of, removed, status_of, with_set, without_set}
 use Rattle.ipc_model.specs.Decide.{get_waiting, is_negative, is_zero, part_plan, plan}
 use Rattle.ipc_model.specs.Segments.{after_detaches, attach, detach, read_bytes, write_bytes}
-use Rattle.ipc_model.specs.Touched.{IsSeenAlike, Stays, is_id, owes, touches}
+use Rattle.ipc_model.specs.Touched.{is_id, owes, touches}
+use Rattle.ipc_model.proofs.Stays.{IsSeenAlike, Stays}
 use Rattle.ipc_model.proofs.Apart.{changed-apart, cleared-apart, ended-other, exited-none, lowered-apart, without-apart}
 use Rattle.ipc_model.proofs.Calls.{Ends-getting}
 use Rattle.ipc_model.proofs.Plans.{Ends, Ends-found, Ends-order}
@@ -142,17 +143,17 @@ module _ (s : State) (client : ℕ) (kind : Kind) (at : ℕ) where
   new-apart t id x b other is on =
       get-insert-other t.objects id x at (apart id at (ap (λ o. is_id o at) (sym is) ∙ off b (is_id (next_id t) at) other on))
 
-  sent : (id flags : ℕ) (message : Message) (queue : Option (Object Queue)) → Elsewhere kinds.Queue id → Ends (λ answer u. KeepsQueue u) (send_found s.queues (caller s client) id flags message queue)
-  sent id flags message None other = tt
-  sent id flags message (Some queue) other = queue-changed id _ other
+  sent : (id : ℕ) (asked : Send) (queue : Option (Object Queue)) → Elsewhere kinds.Queue id → Ends (λ answer u. KeepsQueue u) (send_found s.queues (caller s client) id asked queue)
+  sent id asked None other = tt
+  sent id asked (Some queue) other = queue-changed id _ other
 
-  taken : (id size flags : ℕ) (queue : Queue) (found : Option (ℕ × Message)) → Elsewhere kinds.Queue id → Ends (λ answer u. KeepsQueue u) (take_chosen s.queues (caller s client) id size flags queue found)
-  taken id size flags queue None other = tt
-  taken id size flags queue (Some found) other = queue-changed id _ other
+  taken : (id : ℕ) (asked : Receive) (queue : Queue) (found : Option (ℕ × Message)) → Elsewhere kinds.Queue id → Ends (λ answer u. KeepsQueue u) (on_part (with_contents s.queues id) (take_chosen (caller s client) asked queue found))
+  taken id asked queue None other = tt
+  taken id asked queue (Some found) other = queue-changed id _ other
 
-  received : (id size : ℕ) (msgtyp : ℤ) (flags : ℕ) (queue : Option (Object Queue)) → Elsewhere kinds.Queue id → Ends (λ answer u. KeepsQueue u) (receive_found s.queues (caller s client) id size msgtyp flags queue)
-  received id size msgtyp flags None other = tt
-  received id size msgtyp flags (Some queue) other = taken id size flags queue.contents (chosen queue.contents.messages msgtyp (has_flag flags msg_except)) other
+  received : (id : ℕ) (asked : Receive) (queue : Option (Object Queue)) → Elsewhere kinds.Queue id → Ends (λ answer u. KeepsQueue u) (receive_found s.queues (caller s client) id asked queue)
+  received id asked None other = tt
+  received id asked (Some queue) other = taken id asked queue.contents (chosen queue.contents.messages asked) other
 
   -- a call on one set
   on-set : (id : ℕ) (rest : Object SemSet → Plan Sems) → ((set : Object SemSet) → set_at s.sems id ≡ Some set → Ends (λ answer u. KeepsSet u) (rest set)) → Ends (λ answer u. KeepsSet u) (found (set_at s.sems id) BadId tt rest)
@@ -207,20 +208,23 @@ module _ (s : State) (client : ℕ) (kind : Kind) (at : ℕ) where
   pub stays : (call : Call) → touches s client call kind at ≡ false → Ends (λ answer new. Kept new) (plan s client call)
   unfolding part_plan
   stays (MsgGet key flags) other =
+      let asked : Get = record { key = key; flags = flags } in
       let who = caller s client in
-      on-queues (get_queue s.limits s.queues who key flags)
-      (Ends-getting s.queues who key flags (getting_queue s.limits) KeepsQueue queue-same (λ id is on. new-apart s.queues id _ (is_same kinds.Queue kind) other is on) (object_of_key s.queues key))
+      on-queues (get_queue s.limits s.queues who asked)
+      (Ends-getting s.queues who asked (getting_queue s.limits) KeepsQueue queue-same (λ id is on. new-apart s.queues id _ (is_same kinds.Queue kind) other is on) (object_of_key s.queues key))
   stays (MsgSnd id mtype text flags) other =
-      let message : Message = record { mtype = mtype; text = text } in
-      on-queues (send_message s.limits s.queues (caller s client) id flags message) (sent id flags message (queue_at s.queues id) other)
+      let asked : Send = record { message = record { mtype = mtype; text = text }; flags = flags } in
+      on-queues (send_message s.limits s.queues (caller s client) id asked) (sent id asked (queue_at s.queues id) other)
   stays (MsgRcv id size msgtyp flags) other =
-      on-queues (receive_message s.queues (caller s client) id size msgtyp flags) (received id size msgtyp flags (queue_at s.queues id) other)
+      let asked : Receive = record { size = size; msgtyp = msgtyp; flags = flags } in
+      on-queues (receive_message s.queues (caller s client) id asked) (received id asked (queue_at s.queues id) other)
   stays (SemGet key nsems flags) other =
+      let asked : Get = record { key = key; flags = flags } in
       let who = caller s client in
       let sets = s.sems.sets in
-      on-sems (get_set s.limits s.sems who key nsems flags)
-      (on-sets (get sets who key flags (getting_set nsems))
-      (Ends-getting sets who key flags (getting_set nsems) (λ t. is_same kinds.Sems kind ≡ true → finite.get t.objects at ≡ set_at s.sems at) (λ is. refl) (λ id is on. new-apart sets id _ (is_same kinds.Sems kind) other is on) (object_of_key sets key)))
+      on-sems (get_set s.limits s.sems who asked nsems)
+      (on-sets (get sets who asked (getting_set nsems))
+      (Ends-getting sets who asked (getting_set nsems) (λ t. is_same kinds.Sems kind ≡ true → finite.get t.objects at ≡ set_at s.sems at) (λ is. refl) (λ id is on. new-apart sets id _ (is_same kinds.Sems kind) other is on) (object_of_key sets key)))
   stays (SemOp id ops) other = operating id ops other
   stays (SemTimedOp id ops timeout) other = operating id ops other
   stays (GetVal id num) other = on-sems (get_value s.sems id num) (on-set id _ (λ set is. set-same))
@@ -230,7 +234,9 @@ module _ (s : State) (client : ℕ) (kind : Kind) (at : ℕ) where
   stays (GetAll id) other = on-sems (get_all s.sems id) (on-set id _ (λ set is. set-same))
   stays (SetVal id num value) other = on-sems (set_value s.sems (caller s client) id num value) (on-set id _ (λ set there. values-kept s.clock id _ _ other))
   stays (SetAll id values) other = on-sems (set_all s.sems (caller s client) id values) (on-set id _ (λ set there. values-kept s.clock id _ _ other))
-  stays (ShmGet key size flags) other = any-shared (get_segment s.limits s.shared (caller s client) key size flags)
+  stays (ShmGet key size flags) other =
+      let asked : Get = record { key = key; flags = flags } in
+      any-shared (get_segment s.limits s.shared (caller s client) asked size)
   stays (ShmAt id flags) other = any-shared (attach s.shared (caller s client) id flags)
   stays (ShmDt att) other = any-shared (detach s.shared (caller s client) att)
   stays (ShmRead att offset len) other = any-shared (read_bytes s.shared (caller s client) att offset len)

@@ -1,12 +1,13 @@
 -- A call that waits on an object that an event doesn't touch is ready after it if it was before. So the earliest that is
 -- ready is found among those that were touched.
-use Rattle.std.proofs.Common.{◌≡◌, ◌≢◌, ℕ, ℤ, Bool, true, false, cond, eqb, List, [], ◌∷◌, length, refl, sym, ap, subst, ◌∙◌, ⊎_elim, Option, Some, None}
+use Rattle.std.proofs.Common.{◌≡◌, ◌≢◌, ℕ, Bool, true, false, cond, eqb, List, [], ◌∷◌, length, refl, sym, ap, subst, ◌∙◌, ⊎_elim, Option, Some, None}
 use Rattle.std.specs.Prelude.{◌&&◌, is_some, not, pos, int_le, nat_le, nat_lt}
 use Rattle.std.specs.FinMap as finite
 use Rattle.std.specs.List.{AllByRecursion, find, filter}
 use Rattle.std.proofs.lemmas.Bool.{cases_Bool, eqb-true, false≢true, true≢false}
 use Rattle.std.proofs.lemmas.Option.{none-some, same_Some}
-use Rattle.ipc_call.specs.Flags.{has_flag, msg_except}
+use Rattle.ipc_objects.specs.Objects.{with_contents}
+use Rattle.ipc_call.specs.declared.settings.Receive.{Receive}
 use Rattle.ipc_call.specs.declared.calls.Call.{Call}
 use Rattle.ipc_call.specs.declared.calls.Call.TheVariants.{MsgSnd, MsgRcv, SemOp, SemTimedOp}
 use Rattle.ipc_call.specs.declared.calls.Kind.{Kind}
@@ -25,22 +26,23 @@ use Rattle.ipc_model.specs.State.{Caller, Queue, Queues, SemSet, Sems, State, ca
 use Rattle.ipc_model.specs.Decision.{proceeds}
 use Rattle.ipc_model.specs.Plan.{Grant, Needs, Passes, Plan, decision, in_order, on_part, ◌⨾◌}
 use Rattle.ipc_model.specs.Cancelled.{is_same, waits_on}
-use Rattle.ipc_model.specs.Messages.{chosen, queue_at, receive_found, receive_message, send_found, send_message, take_chosen}
+use Rattle.ipc_model.specs.Messages.{chosen, queue_at, receive_found, receive_message, send_found, send_message, take_chosen, Send}
 use Rattle.ipc_model.specs.Semaphores.{operate, operate_found, operated, set_at, trial_checks, wanted_by}
 use Rattle.ipc_model.specs.Decide.{OnQueues, OnSems, decide, part_plan, plan, plan_alive, waits_at, whole}
 use Rattle.ipc_model.specs.Step.{first_ready, is_ready}
-use Rattle.ipc_model.specs.Touched.{AreQuietBut, IsSeenAlike, Stays, is_id}
+use Rattle.ipc_model.specs.Touched.{is_id}
+use Rattle.ipc_model.proofs.Stays.{IsSeenAlike, Stays}
 use Rattle.ipc_model.proofs.Apart.{next-free}
 use Rattle.ipc_model.proofs.Alike.{blank, blank-found, blank-on, blank-order, proceeds-alike}
 use Rattle.ipc_model.proofs.Plans.{never_waits, proceeds-never}
 
 -- plans over the same object are the same but for what they grant
-send-seen : (a b : Queues) (who other : Caller) (id flags : ℕ) (message : Message) (queue : Option (Object Queue)) → blank (send_found a who id flags message queue) ≡ blank (send_found b other id flags message queue)
-send-seen a b who other id flags message queue = blank-found queue BadId tt _ _ (λ queue. refl)
+send-seen : (a b : Queues) (who other : Caller) (id : ℕ) (asked : Send) (queue : Option (Object Queue)) → blank (send_found a who id asked queue) ≡ blank (send_found b other id asked queue)
+send-seen a b who other id asked queue = blank-found queue BadId tt _ _ (λ queue. refl)
 
-take-seen : (a b : Queues) (who other : Caller) (id size flags : ℕ) (queue : Queue) (taken : Option (ℕ × Message)) → blank (take_chosen a who id size flags queue taken) ≡ blank (take_chosen b other id size flags queue taken)
-take-seen a b who other id size flags queue None = refl
-take-seen a b who other id size flags queue (Some taken) = refl
+take-seen : (a b : Queues) (who other : Caller) (id : ℕ) (asked : Receive) (queue : Queue) (taken : Option (ℕ × Message)) → blank (on_part (with_contents a id) (take_chosen who asked queue taken)) ≡ blank (on_part (with_contents b id) (take_chosen other asked queue taken))
+take-seen a b who other id asked queue None = refl
+take-seen a b who other id asked queue (Some taken) = refl
 
 module _ (s new : State) (client c : ℕ) (kind : Kind) (at : ℕ) (stays : Stays s client kind at new) (other : c ≢ client) where
   queues-seen : (p q : Plan Queues) → blank p ≡ blank q → blank (whole new (OnQueues p)) ≡ blank (whole s (OnQueues q))
@@ -80,16 +82,17 @@ module _ (s new : State) (client c : ℕ) (kind : Kind) (at : ℕ) (stays : Stay
   alive-seen : (call : Call) → waits_on kind at call ≡ true → blank (plan_alive new c call) ≡ blank (plan_alive s c call)
   unfolding part_plan
   alive-seen (MsgSnd id mtype text flags) on =
-      let message : Message = record { mtype = mtype; text = text } in
-      queues-seen (send_message new.limits new.queues (caller new c) id flags message) (send_message s.limits s.queues (caller s c) id flags message)
-      ((λ i. Passes (int_le (pos 1) mtype) BadType tt ⨾ Passes (nat_le (length text) (stays.limits i).msg_max) TextTooLong tt ⨾ blank (send_found new.queues (caller new c) id flags message (queue-same id on i)))
-      ∙ ap (λ p. Passes (int_le (pos 1) mtype) BadType tt ⨾ Passes (nat_le (length text) s.limits.msg_max) TextTooLong tt ⨾ p) (send-seen new.queues s.queues (caller new c) (caller s c) id flags message (queue_at s.queues id)))
+      let asked : Send = record { message = record { mtype = mtype; text = text }; flags = flags } in
+      queues-seen (send_message new.limits new.queues (caller new c) id asked) (send_message s.limits s.queues (caller s c) id asked)
+      ((λ i. Passes (int_le (pos 1) mtype) BadType tt ⨾ Passes (nat_le (length text) (stays.limits i).msg_max) TextTooLong tt ⨾ blank (send_found new.queues (caller new c) id asked (queue-same id on i)))
+      ∙ ap (λ p. Passes (int_le (pos 1) mtype) BadType tt ⨾ Passes (nat_le (length text) s.limits.msg_max) TextTooLong tt ⨾ p) (send-seen new.queues s.queues (caller new c) (caller s c) id asked (queue_at s.queues id)))
   alive-seen (MsgRcv id size msgtyp flags) on =
-      queues-seen (receive_message new.queues (caller new c) id size msgtyp flags) (receive_message s.queues (caller s c) id size msgtyp flags)
-      (ap (λ o. blank (receive_found new.queues (caller new c) id size msgtyp flags o)) (queue-same id on)
+      let asked : Receive = record { size = size; msgtyp = msgtyp; flags = flags } in
+      queues-seen (receive_message new.queues (caller new c) id asked) (receive_message s.queues (caller s c) id asked)
+      (ap (λ o. blank (receive_found new.queues (caller new c) id asked o)) (queue-same id on)
       ∙ blank-found (queue_at s.queues id) BadId tt _ _ (λ (queue : Object Queue).
       ap (λ p. Needs (Permission queue.perm to_read) ⨾ p)
-      (take-seen new.queues s.queues (caller new c) (caller s c) id size flags queue.contents (chosen queue.contents.messages msgtyp (has_flag flags msg_except)))))
+      (take-seen new.queues s.queues (caller new c) (caller s c) id asked queue.contents (chosen queue.contents.messages asked))))
   alive-seen (SemOp id ops) on = operate-seen id ops on
   alive-seen (SemTimedOp id ops timeout) on = operate-seen id ops on
   alive-seen call on = absurd (false≢true on)
@@ -109,11 +112,11 @@ is_there s kinds.Segment id = false
 
 -- where the object isn't there, the plan of a call on it doesn't wait
 module _ (s : State) (client : ℕ) where
-  sent-nowhere : (id flags : ℕ) (message : Message) → queue_at s.queues id ≡ None → never_waits (whole s (OnQueues (send_message s.limits s.queues (caller s client) id flags message))) ≡ true
-  sent-nowhere id flags message none = ap (λ o. never_waits (on_part (λ queues. record s { queues = queues }) (send_found s.queues (caller s client) id flags message o))) none
+  sent-nowhere : (id : ℕ) (asked : Send) → queue_at s.queues id ≡ None → never_waits (whole s (OnQueues (send_message s.limits s.queues (caller s client) id asked))) ≡ true
+  sent-nowhere id asked none = ap (λ o. never_waits (on_part (λ queues. record s { queues = queues }) (send_found s.queues (caller s client) id asked o))) none
 
-  received-nowhere : (id size : ℕ) (msgtyp : ℤ) (flags : ℕ) → queue_at s.queues id ≡ None → never_waits (whole s (OnQueues (receive_message s.queues (caller s client) id size msgtyp flags))) ≡ true
-  received-nowhere id size msgtyp flags none = ap (λ o. never_waits (on_part (λ queues. record s { queues = queues }) (receive_found s.queues (caller s client) id size msgtyp flags o))) none
+  received-nowhere : (id : ℕ) (asked : Receive) → queue_at s.queues id ≡ None → never_waits (whole s (OnQueues (receive_message s.queues (caller s client) id asked))) ≡ true
+  received-nowhere id asked none = ap (λ o. never_waits (on_part (λ queues. record s { queues = queues }) (receive_found s.queues (caller s client) id asked o))) none
 
   operated-nowhere : (id : ℕ) (ops : List SemOper) → set_at s.sems id ≡ None → never_waits (whole s (OnSems (operate s.limits s.sems (caller s client) id ops))) ≡ true
   operated-nowhere id ops none = ap (λ o. never_waits (on_part (λ sems. record s { sems = sems }) (operate_found s.sems (caller s client) id ops o))) none
@@ -129,10 +132,11 @@ module _ (s : State) (client : ℕ) where
   unfolding part_plan
   waits-there (MsgSnd id mtype text flags) waits kind at is =
       subst (λ (p : Kind × ℕ). is_there s p.0 p.1 ≡ true) (same_Some (kinds.Queue, id) (kind, at) is)
-      (there-or (queue_at s.queues id) (λ none. refused-nowhere (MsgSnd id mtype text flags) waits (sent-nowhere id flags (record { mtype = mtype; text = text }) none)))
+      (there-or (queue_at s.queues id) (λ none. refused-nowhere (MsgSnd id mtype text flags) waits (sent-nowhere id (record { message = record { mtype = mtype; text = text }; flags = flags }) none)))
   waits-there (MsgRcv id size msgtyp flags) waits kind at is =
+      let asked : Receive = record { size = size; msgtyp = msgtyp; flags = flags } in
       subst (λ (p : Kind × ℕ). is_there s p.0 p.1 ≡ true) (same_Some (kinds.Queue, id) (kind, at) is)
-      (there-or (queue_at s.queues id) (λ none. refused-nowhere (MsgRcv id size msgtyp flags) waits (received-nowhere id size msgtyp flags none)))
+      (there-or (queue_at s.queues id) (λ none. refused-nowhere (MsgRcv id size msgtyp flags) waits (received-nowhere id asked none)))
   waits-there (SemOp id ops) waits kind at is =
       subst (λ (p : Kind × ℕ). is_there s p.0 p.1 ≡ true) (same_Some (kinds.Sems, id) (kind, at) is)
       (there-or (set_at s.sems id) (λ none. refused-nowhere (SemOp id ops) waits (operated-nowhere id ops none)))
@@ -158,5 +162,5 @@ first-touched touched test (w ∷ ws) quiet =
     (λ (off : touched w ≡ false). let no : test w ≡ false = quiet.0 off in rw (off, no) (first-touched touched test ws quiet.1))
     (cases_Bool (touched w))
 
-pub ready_touched : (touched : Waiting → Bool) (s : State) → AreQuietBut touched s → first_ready s ≡ find (is_ready s) (filter touched s.parked)
+pub ready_touched : (touched : Waiting → Bool) (s : State) → AllByRecursion (λ w. touched w ≡ false → is_ready s w ≡ false) s.parked → first_ready s ≡ find (is_ready s) (filter touched s.parked)
 ready_touched touched s quiet = first-touched touched (is_ready s) s.parked quiet

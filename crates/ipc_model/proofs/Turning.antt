@@ -16,7 +16,8 @@ use Rattle.ipc_model.specs.Decision.{Decision, Grant}
 use Rattle.ipc_model.specs.Decide.{can_wait, decide, plan, waits_at}
 use Rattle.ipc_model.specs.Cancelled.{is_same, waits_on}
 use Rattle.ipc_model.specs.Step.{is_ready}
-use Rattle.ipc_model.specs.Touched.{Stays, is_id, touches, touches_place}
+use Rattle.ipc_model.specs.Touched.{is_id, touches, touches_place}
+use Rattle.ipc_model.proofs.Stays.{Stays}
 use Rattle.ipc_model.proofs.Calls.{only_parkable}
 use Rattle.ipc_model.proofs.Plans.{Ends-decision, IfGranted}
 use Rattle.ipc_model.proofs.Staying.{stays}

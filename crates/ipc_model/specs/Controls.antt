@@ -3,23 +3,20 @@
 -- msg_qbytes above MSGMNB needs CAP_SYS_RESOURCE too, and with one for another kind is refused before all else.
 use Rattle.std.specs.Prelude.{ℕ, ◌%◌, nat_le, ◌==◌, Bool, true, is_none, if◌then◌else◌, [], ◌∷◌, length, Option, Some, None, option_map, unwrap_or}
 use Rattle.std.specs.FinMap as finite
-use Rattle.ipc_call.specs.declared.calls.Kind.{Kind}
 use Rattle.ipc_call.specs.declared.calls.Kind.TheVariants as kinds
 use Rattle.ipc_call.specs.declared.rules.Rule.TheVariants.{BadId, BadArgument}
 use Rattle.ipc_call.specs.declared.replies.Answer.TheVariants.{Done, Status as StatusAnswer}
 use Rattle.ipc_call.specs.declared.settings.Settings.{Settings}
 use Rattle.ipc_call.specs.declared.replies.Status.{Status}
 use Rattle.ipc_call.specs.declared.replies.Status.TheVariants as statuses
-use Rattle.ipc_call.specs.declared.perms.Perm.{Perm}
 use Rattle.ipc_perm.specs.Access.{Permission, Control, Resource, to_read}
 use Rattle.ipc_ids.specs.Table.{Table, without_object}
-use Rattle.ipc_objects.specs.declared.object.Object.{Object}
 use Rattle.ipc_objects.specs.declared.object.Owner.{Owner}
 use Rattle.ipc_objects.specs.Objects.{changed, with_owner, without_key}
 use Rattle.msg_queue.specs.Messages.{bytes_of}
 use Rattle.sem_undo.specs.Entries.{cleared}
 use Rattle.shm_seg.specs.Attachments.{attach_count}
-use Rattle.ipc_model.specs.State.{Queue, Segment, SemSet, Sems, Shared, State}
+use Rattle.ipc_model.specs.State.{Kind, Object, Perm, Queue, Segment, SemSet, Sems, Shared, State}
 use Rattle.ipc_model.specs.Segments.{segment_at}
 use Rattle.ipc_model.specs.Plan.{Needs, Passes, Plan, Grant, found, in_order, ◌⨾◌}
 
@@ -141,5 +138,4 @@ set_object s kind id new =
     Passes (takes_qbytes kind new.qbytes) BadArgument _
     ⨾ found (perm_of s kind id) BadId _ (λ perm.
     Needs (Control perm)
-    ⨾ in_order (if is_within s new.qbytes then [] else Needs Resource ∷ [])
-    (Grant Done (with_set s kind id new)))
+    ⨾ in_order (if is_within s new.qbytes then [] else Needs Resource ∷ []) (Grant Done (with_set s kind id new)))

@@ -2,15 +2,11 @@
 use Rattle.std.specs.Prelude.{ℕ, ◌+◌, ◌==◌, min, nat_le, pos, int_lt, Bool, true, false, not, ◌&&◌, List, Option, Some, None, is_some}
 use Rattle.std.specs.List.{count_by}
 use Rattle.std.specs.Ordering.{int_eq}
-use Rattle.ipc_call.specs.declared.calls.Call.{Call}
-use Rattle.ipc_call.specs.declared.calls.Call.TheVariants.{MsgGet, MsgSnd, MsgRcv, SemGet, SemOp, SemTimedOp, GetVal, GetPid, GetNcnt, GetZcnt, GetAll}
-use Rattle.ipc_call.specs.declared.calls.Call.TheVariants.{SetVal, SetAll, ShmGet, ShmAt, ShmDt, ShmRead, ShmWrite, IpcStat, IpcSet, IpcRmid, Listing, Interrupt, SetCreds, Exit}
-use Rattle.ipc_call.specs.declared.calls.SemOper.{SemOper}
+use Rattle.ipc_call.specs.declared.calls.Call.TheVariants.{MsgGet, MsgSnd, MsgRcv, SemGet, SemOp, SemTimedOp, GetVal, GetPid, GetNcnt, GetZcnt, GetAll, SetVal, SetAll, ShmGet, ShmAt, ShmDt, ShmRead, ShmWrite, IpcStat, IpcSet, IpcRmid, Listing, Interrupt, SetCreds, Exit}
 use Rattle.ipc_call.specs.declared.rules.Rule.TheVariants.{Ended, TimedOut}
-use Rattle.ipc_call.specs.declared.calls.Kind.{Kind}
 use Rattle.ipc_call.specs.declared.calls.Kind.TheVariants as kinds
 use Rattle.ipc_perm.specs.Access.{Need}
-use Rattle.ipc_model.specs.State.{Caller, Queues, Sems, Shared, State, caller, creds_at, has_ended}
+use Rattle.ipc_model.specs.State.{Call, Caller, Kind, Message, Queues, SemOper, Sems, Shared, State, caller, creds_at, has_ended}
 use Rattle.ipc_model.specs.Decision.{Decision}
 use Rattle.ipc_model.specs.Decision as decisions
 use Rattle.ipc_model.specs.Plan.{Passes, Plan, decision, needs_in, on_part, ◌⨾◌}
@@ -59,11 +55,14 @@ whole s (OnState plan) = plan
 
 -- each call as a row of the table of checks
 unfoldable pub part_plan : State → Caller → Call → PartPlan
-part_plan s who (MsgGet key flags) = OnQueues (get_queue s.limits s.queues who key flags)
+part_plan s who (MsgGet key flags) = OnQueues (get_queue s.limits s.queues who (record { key = key; flags = flags }))
 part_plan s who (MsgSnd id mtype text flags) =
-    OnQueues (send_message s.limits s.queues who id flags (record { mtype = mtype; text = text }))
-part_plan s who (MsgRcv id size msgtyp flags) = OnQueues (receive_message s.queues who id size msgtyp flags)
-part_plan s who (SemGet key nsems flags) = OnSems (get_set s.limits s.sems who key nsems flags)
+    let message : Message = record { mtype = mtype; text = text } in
+    OnQueues (send_message s.limits s.queues who id (record { message = message; flags = flags }))
+part_plan s who (MsgRcv id size msgtyp flags) =
+    OnQueues (receive_message s.queues who id (record { size = size; msgtyp = msgtyp; flags = flags }))
+part_plan s who (SemGet key nsems flags) =
+    OnSems (get_set s.limits s.sems who (record { key = key; flags = flags }) nsems)
 part_plan s who (SemOp id ops) = OnSems (operate s.limits s.sems who id ops)
 part_plan s who (SemTimedOp id ops timeout) = OnSems (operate s.limits s.sems who id ops)
 part_plan s who (GetVal id num) = OnSems (get_value s.sems id num)
@@ -73,7 +72,8 @@ part_plan s who (GetZcnt id num) = OnSems (get_waiting s id num (is_zero num))
 part_plan s who (GetAll id) = OnSems (get_all s.sems id)
 part_plan s who (SetVal id num value) = OnSems (set_value s.sems who id num value)
 part_plan s who (SetAll id values) = OnSems (set_all s.sems who id values)
-part_plan s who (ShmGet key size flags) = OnShared (get_segment s.limits s.shared who key size flags)
+part_plan s who (ShmGet key size flags) =
+    OnShared (get_segment s.limits s.shared who (record { key = key; flags = flags }) size)
 part_plan s who (ShmAt id flags) = OnShared (attach s.shared who id flags)
 part_plan s who (ShmDt att) = OnShared (detach s.shared who att)
 part_plan s who (ShmRead att offset len) = OnShared (read_bytes s.shared who att offset len)
@@ -117,13 +117,6 @@ waits_at call = None
 -- a call that may wait
 abbrev pub can_wait : Call → Bool
 can_wait call = is_some (waits_at call)
-
--- a call that stands among those that wait
-abbrev pub stands : Call → Bool
-stands (MsgSnd id mtype text flags) = true
-stands (MsgRcv id size msgtyp flags) = true
-stands (SemOp id ops) = true
-stands call = false
 
 -- as what a call waits: semtimedop as the semop that it is but for its deadline
 abbrev pub waits_as : Call → Call

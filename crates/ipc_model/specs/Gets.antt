@@ -3,17 +3,13 @@
 -- key: IPC_CREAT is needed, and then a slot. Key 0 is IPC_PRIVATE: no object has it, and it needs no IPC_CREAT.
 use Rattle.std.specs.Prelude.{ℕ, ◌%◌, ◌==◌, nat_le, nat_lt, false, not, ◌&&◌, ◌||◌, List, [], ◌∷◌, length, replicate, Option, Some, None}
 use Rattle.ipc_call.specs.Flags.{has_flag, ipc_creat, ipc_excl}
-use Rattle.ipc_call.specs.declared.limits.Limits.{Limits}
 use Rattle.ipc_call.specs.declared.rules.Rule.TheVariants.{NoKey, KeyExists, NoSlot, BadSize}
 use Rattle.ipc_call.specs.declared.replies.Answer.TheVariants.{Id}
-use Rattle.ipc_creds.specs.Credentials.{Credentials}
-use Rattle.ipc_call.specs.declared.perms.Perm.{Perm}
 use Rattle.ipc_perm.specs.Access.{Permission, asked_of}
 use Rattle.ipc_ids.specs.Table.{Table, find_object, next_id, with_object}
-use Rattle.ipc_objects.specs.declared.object.Object.{Object}
 use Rattle.ipc_objects.specs.Objects.{has_key}
 use Rattle.sem_set.specs.Sets.{zeroed}
-use Rattle.ipc_model.specs.State.{Caller, Queue, Queues, Segment, SemSet, Sems, Shared, pid_of}
+use Rattle.ipc_model.specs.State.{Caller, Credentials, Limits, Object, Perm, Queue, Queues, Segment, SemSet, Sems, Shared, pid_of}
 use Rattle.ipc_model.specs.Plan.{Check, Needs, Passes, Plan, Grant, found, in_order, on_part, ◌⨾◌}
 
 -- the caller is owner and creator
@@ -28,6 +24,11 @@ new_object who key flags contents =
 abbrev pub make_object : {X : Type 0} → Table (Object X) → Object X → Plan (Table (Object X))
 make_object t object = found (next_id t) NoSlot _ (λ id. Grant (Id id) (with_object t id object))
 
+-- what a get asks for
+pub record Get : Type 0 where
+  pub key : ℕ
+  pub flags : ℕ
+
 -- what a get of a kind has of its own: what a new object holds, the checks before one is made, and those on one that is
 -- found
 pub record Getting (X : Type 0) : Type 0 where
@@ -41,21 +42,20 @@ to_open perm flags =
     Passes (not (has_flag flags ipc_creat && has_flag flags ipc_excl)) KeyExists _
     ∷ Needs (Permission perm (asked_of flags)) ∷ []
 
-abbrev pub get_found : {X : Type 0} → Table (Object X) → Caller → ℕ → ℕ → Getting X → Option (ℕ × Object X)
+abbrev pub get_found : {X : Type 0} → Table (Object X) → Caller → Get → Getting X → Option (ℕ × Object X)
     → Plan (Table (Object X))
-get_found t who key flags getting None =
-    Passes (key == 0 || has_flag flags ipc_creat) NoKey _
-    ⨾ in_order getting.to_make (make_object t (new_object who key flags getting.new))
-get_found t who key flags getting (Some there) =
-    in_order (to_open there.1.perm flags)
-    (in_order (getting.to_find there.1.contents) (Grant (Id there.0) t))
+get_found t who asked getting None =
+    Passes (asked.key == 0 || has_flag asked.flags ipc_creat) NoKey _
+    ⨾ in_order getting.to_make (make_object t (new_object who asked.key asked.flags getting.new))
+get_found t who asked getting (Some there) =
+    in_order (to_open there.1.perm asked.flags) (in_order (getting.to_find there.1.contents) (Grant (Id there.0) t))
 
 -- the object with its identifier
 abbrev pub object_of_key : {X : Type 0} → Table (Object X) → ℕ → Option (ℕ × Object X)
 object_of_key t key = find_object (has_key key) t
 
-abbrev pub get : {X : Type 0} → Table (Object X) → Caller → ℕ → ℕ → Getting X → Plan (Table (Object X))
-get t who key flags getting = get_found t who key flags getting (object_of_key t key)
+abbrev pub get : {X : Type 0} → Table (Object X) → Caller → Get → Getting X → Plan (Table (Object X))
+get t who asked getting = get_found t who asked getting (object_of_key t asked.key)
 
 -- msgget: a new queue has no messages; its pids and times are 0
 abbrev pub new_queue : Limits → Queue
@@ -65,8 +65,8 @@ new_queue max =
 abbrev pub getting_queue : Limits → Getting Queue
 getting_queue limits = record { new = new_queue limits; to_make = []; to_find = λ queue. [] }
 
-abbrev pub get_queue : Limits → Queues → Caller → ℕ → ℕ → Plan Queues
-get_queue limits queues who key flags = get queues who key flags (getting_queue limits)
+abbrev pub get_queue : Limits → Queues → Caller → Get → Plan Queues
+get_queue limits queues who asked = get queues who asked (getting_queue limits)
 
 -- semget: at most SEMMSL semaphores; a new set has at least one, each 0, and one that is found has as many
 abbrev pub new_set : ℕ → SemSet
@@ -79,10 +79,10 @@ getting_set nsems = record {
   to_find = λ set. Passes (nat_le nsems (length set.semaphores)) BadSize _ ∷ [];
 }
 
-abbrev pub get_set : Limits → Sems → Caller → ℕ → ℕ → ℕ → Plan Sems
-get_set limits sems who key nsems flags =
+abbrev pub get_set : Limits → Sems → Caller → Get → ℕ → Plan Sems
+get_set limits sems who asked nsems =
     Passes (nat_le nsems limits.sem_msl) BadSize _
-    ⨾ on_part (λ sets. record sems { sets = sets }) (get sems.sets who key flags (getting_set nsems))
+    ⨾ on_part (λ sets. record sems { sets = sets }) (get sems.sets who asked (getting_set nsems))
 
 -- shmget: a new segment has at least one byte and at most SHMMAX, each 0, and one that is found has as many
 abbrev pub new_segment : ℕ → ℕ → Segment
@@ -102,7 +102,7 @@ getting_segment limits client size = record {
   to_find = λ segment. Passes (nat_le size (length segment.bytes)) BadSize _ ∷ [];
 }
 
-abbrev pub get_segment : Limits → Shared → Caller → ℕ → ℕ → ℕ → Plan Shared
-get_segment limits shared who key size flags =
+abbrev pub get_segment : Limits → Shared → Caller → Get → ℕ → Plan Shared
+get_segment limits shared who asked size =
     on_part (λ segments. record shared { segments = segments })
-    (get shared.segments who key flags (getting_segment limits who.client size))
+    (get shared.segments who asked (getting_segment limits who.client size))

@@ -1,4 +1,3 @@
-pub mod Attached
 pub mod Cancelled
 pub mod Controls
 pub mod Decide
@@ -13,4 +12,3 @@ pub mod Semaphores
 pub mod State
 pub mod Step
 pub mod Touched
-pub mod Waits

@@ -1,16 +1,13 @@
 -- Listings of the objects of a kind (ipcs(1)). A listing asks nothing: it shows each object to those who may read it.
 use Rattle.std.specs.Prelude.{ℕ, is_none, if◌then◌else◌, List, [], ◌++◌, filter_map, Option, Some, None, option_map, option_and_then}
 use Rattle.ipc_call.specs.Listings.{row_of}
-use Rattle.ipc_call.specs.declared.calls.Kind.{Kind}
 use Rattle.ipc_call.specs.declared.calls.Kind.TheVariants as kinds
 use Rattle.ipc_call.specs.declared.listings.Row.{Row}
-use Rattle.ipc_call.specs.declared.perms.Perm.{Perm}
 use Rattle.ipc_call.specs.declared.replies.Answer.TheVariants.{Rows}
 use Rattle.ipc_call.specs.declared.replies.Status.{Status}
-use Rattle.ipc_creds.specs.Credentials.{Credentials}
 use Rattle.ipc_ids.specs.Table.{ids_of}
 use Rattle.ipc_perm.specs.Access.{Permission, denial, to_read}
-use Rattle.ipc_model.specs.State.{Caller, State}
+use Rattle.ipc_model.specs.State.{Caller, Credentials, Kind, Perm, State}
 use Rattle.ipc_model.specs.Semaphores.{values_at}
 use Rattle.ipc_model.specs.Controls.{status_of}
 use Rattle.ipc_model.specs.Plan.{Plan, Grant}

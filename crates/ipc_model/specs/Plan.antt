@@ -1,6 +1,6 @@
 -- The plan of a call: its checks in their order, and what it does where all pass (the order is the project's own where
 -- POSIX leaves it open).
-use Rattle.std.specs.Prelude.{ℕ, ⊤, Result, Bool, true, false, not, T, List, [], ◌∷◌, Option, Some, None, is_none, if◌then◌else◌}
+use Rattle.std.specs.Prelude.{ℕ, ⊤, Result, Bool, true, false, not, T, List, [], ◌∷◌, Option, Some, None, if◌then◌else◌}
 use Rattle.ipc_call.specs.Flags.{has_flag, ipc_nowait}
 use Rattle.ipc_call.specs.declared.rules.Rule.{Rule}
 use Rattle.ipc_call.specs.declared.rules.Rule.TheVariants.{NotOwner, NeedsResource, NotSameUser, NotOwnUser, NotOwnGroup, NeedsSetgid, ReadOnly, OwnerBits, GroupBits, OtherBits}
@@ -101,8 +101,3 @@ needs_among (Proceeds proceeds flags rule plain ∷ cs) = needs_among cs
 
 abbrev pub needs_in : {X : Type 0} → Plan X → List Need
 needs_in plan = needs_among (checks_in plan)
-
-abbrev pub does_pass : Credentials → Check → Bool
-does_pass c (Passes passes rule plain) = passes
-does_pass c (Needs need) = is_none (denial c need)
-does_pass c (Proceeds proceeds flags rule plain) = proceeds

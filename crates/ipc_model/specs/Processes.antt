@@ -12,8 +12,7 @@ use Rattle.ipc_model.specs.Plan.{Needs, Passes, Plan, Grant, found, in_order, �
 
 -- the credentials of the client of a process, which is its number plus 1; one that ended has none
 abbrev pub process : State → ℕ → Option Credentials
-process s pid =
-    if pid == 0 then None else (if has_ended s (pid - 1) then None else slice_get s.clients (pid - 1))
+process s pid = if pid == 0 then None else (if has_ended s (pid - 1) then None else slice_get s.clients (pid - 1))
 
 -- a waiting call of the target is cancelled after the grant
 abbrev pub interrupt : State → ℕ → Plan State

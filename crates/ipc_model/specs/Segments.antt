@@ -2,20 +2,19 @@
 -- offsets in the place of mapped memory, is the project's own). shmat: the segment is there; the caller may read it,
 -- and alter it without SHM_RDONLY; it has a number free. The others: the caller has the attachment; a write asks that
 -- it isn't read-only; a read or write is all within the segment.
-use Rattle.std.specs.Prelude.{ℕ, zero, suc, ◌+◌, ◌==◌, true, not, ◌&&◌, List, length, Option, Some, None, option_and_then, option_map, if◌then◌else◌}
+use Rattle.std.specs.Prelude.{◌≡◌, ◌<◌, ℕ, zero, suc, ◌+◌, ◌==◌, true, not, ◌&&◌, List, length, Option, Some, None, option_and_then, option_map, if◌then◌else◌}
 use Rattle.std.specs.FinMap as finite
 use Rattle.ipc_call.specs.Flags.{has_flag, shm_rdonly}
 use Rattle.ipc_call.specs.declared.rules.Rule.TheVariants.{BadId, NotAttached, OutOfSegment, TooManyAttached}
 use Rattle.ipc_call.specs.declared.replies.Answer.TheVariants.{Attached as AttachedAnswer, Bytes, Done}
 use Rattle.ipc_perm.specs.declared.access.Want.{Want}
 use Rattle.ipc_perm.specs.Access.{Permission, Writable}
-use Rattle.ipc_ids.specs.Table.{Table, without_object}
-use Rattle.ipc_objects.specs.declared.object.Object.{Object}
+use Rattle.ipc_ids.specs.Table.{without_object}
 use Rattle.ipc_objects.specs.Objects.{with_contents}
 use Rattle.shm_seg.specs.declared.attachments.Attachment.{Attachment}
-use Rattle.shm_seg.specs.Attachments.{Attached, attach_count, attachment_at, free_number, shmseg, with_attachment, without_attachment}
+use Rattle.shm_seg.specs.Attachments.{attach_count, attachment_at, free_number, shmseg, with_attachment, without_attachment}
 use Rattle.shm_seg.specs.Segments.{lies_within, overwritten, part_of}
-use Rattle.ipc_model.specs.State.{Caller, Segment, Shared, pid_of}
+use Rattle.ipc_model.specs.State.{Caller, Object, Segment, Shared, pid_of}
 use Rattle.ipc_model.specs.Plan.{Needs, Passes, Plan, Grant, found, ◌⨾◌}
 
 abbrev pub segment_at : Shared → ℕ → Option (Object Segment)
@@ -29,11 +28,13 @@ wanted_to_attach flags = record { read = true; alter = not (has_flag flags shm_r
 abbrev pub attached_by : Caller → Segment → Segment
 attached_by who segment = record segment { last = pid_of who.client; attach_time = who.now }
 
-abbrev pub with_attached : Shared → Caller → ℕ → ℕ → Segment → ℕ → Shared
-with_attached shared who id flags segment number = record {
-  segments = with_contents shared.segments id (attached_by who segment);
-  attached = with_attachment shared.attached who.client number
-      (record { segment = id; is_read_only = has_flag flags shm_rdonly });
+abbrev pub attachment_to : ℕ → ℕ → Attachment
+attachment_to id flags = record { segment = id; is_read_only = has_flag flags shm_rdonly }
+
+abbrev pub with_attached : Shared → Caller → ℕ → Attachment → Segment → Shared
+with_attached shared who number a segment = record {
+  segments = with_contents shared.segments a.segment (attached_by who segment);
+  attached = with_attachment shared.attached who.client number a;
 }
 
 -- shmat: the least number that is free
@@ -41,37 +42,30 @@ abbrev pub attach : Shared → Caller → ℕ → ℕ → Plan Shared
 attach shared who id flags = found (segment_at shared id) BadId _ (λ segment.
     Needs (Permission segment.perm (wanted_to_attach flags))
     ⨾ found (free_number shared.attached who.client) TooManyAttached _ (λ number.
-    Grant (AttachedAnswer number) (with_attached shared who id flags segment.contents number)))
+    Grant (AttachedAnswer number) (with_attached shared who number (attachment_to id flags) segment.contents)))
 
 -- shm_lpid and shm_dtime are set
 abbrev pub detached_by : Caller → Segment → Segment
 detached_by who segment = record segment { last = pid_of who.client; detach_time = who.now }
 
 -- after one of its attachments has gone: a marked segment goes with its last
-abbrev pub left_segments : Table (Object Segment) → Attached → Caller → ℕ → Option (Object Segment)
-    → Table (Object Segment)
-left_segments segments attached who id None = segments
-left_segments segments attached who id (Some segment) =
-    if segment.contents.is_marked && attach_count attached id == 0
-    then without_object segments id
-    else with_contents segments id (detached_by who segment.contents)
-
--- the attachments are what is left of them
-abbrev pub left_shared : Table (Object Segment) → Attached → Caller → ℕ → Shared
-left_shared segments attached who id = record {
-  segments = left_segments segments attached who id (finite.get segments.objects id);
-  attached = attached;
+abbrev pub left_segment : Shared → Caller → ℕ → Option (Object Segment) → Shared
+left_segment shared who id None = shared
+left_segment shared who id (Some segment) = record shared {
+  segments = if segment.contents.is_marked && attach_count shared.attached id == 0
+      then without_object shared.segments id
+      else with_contents shared.segments id (detached_by who segment.contents);
 }
 
 -- what the caller has attached under the number is detached, where there is anything
 abbrev pub without_number : Shared → Caller → ℕ → Option Attachment → Shared
 without_number shared who number None = shared
 without_number shared who number (Some a) =
-    left_shared shared.segments (without_attachment shared.attached who.client number) who a.segment
+    let rest : Shared = record shared { attached = without_attachment shared.attached who.client number } in
+    left_segment rest who a.segment (segment_at shared a.segment)
 
 abbrev pub detached : Shared → Caller → ℕ → Shared
-detached shared who number =
-    without_number shared who number (attachment_at shared.attached who.client number)
+detached shared who number = without_number shared who number (attachment_at shared.attached who.client number)
 
 -- shmdt
 abbrev pub detach : Shared → Caller → ℕ → Plan Shared
@@ -108,3 +102,8 @@ write_bytes shared who number offset new = found (behind shared who.client numbe
     Needs (Writable there.0.is_read_only)
     ⨾ Passes (lies_within offset (length new) there.1.contents.bytes) OutOfSegment _
     ⨾ Grant Done (with_bytes shared there.0.segment there.1.contents offset new))
+
+-- what is true after each event: a segment marked for removal has an attachment (IPC_RMID of shmctl(2))
+pub record AreAttached (shared : Shared) : Type 0 where
+  pub each : (id : ℕ) (segment : Object Segment) → segment_at shared id ≡ Some segment
+      → segment.contents.is_marked ≡ true → 0 < attach_count shared.attached id

@@ -7,24 +7,19 @@ use Rattle.std.specs.Prelude.{ℕ, ◌==◌, nat_le, nat_lt, ℤ, pos, ◌+ℤ�
 use Rattle.std.specs.List.{list_all, list_any}
 use Rattle.std.specs.Ordering.{int_eq}
 use Rattle.std.specs.FinMap as finite
-use Rattle.ipc_call.specs.declared.calls.SemOper.{SemOper}
-use Rattle.ipc_call.specs.declared.limits.Limits.{Limits}
-use Rattle.ipc_call.specs.declared.rules.Rule.{Rule}
 use Rattle.ipc_call.specs.declared.rules.Rule.TheVariants.{BadId, BadSem, BadSize, NoOperations, SemOutOfSet, TooManyOperations, UndoRange, ValueRange, WouldWait}
 use Rattle.ipc_call.specs.declared.replies.Answer.TheVariants.{Done, Value, Values}
 use Rattle.ipc_perm.specs.declared.access.Want.{Want}
 use Rattle.ipc_perm.specs.Access.{Permission, to_alter, to_read}
 use Rattle.ipc_ids.specs.Images.{map_entries}
-use Rattle.ipc_objects.specs.declared.object.Object.{Object}
 use Rattle.ipc_objects.specs.Objects.{changed, with_contents}
-use Rattle.sem_set.specs.declared.sets.Semaphore.{Semaphore}
 use Rattle.sem_set.specs.declared.trials.Met.{Met}
 use Rattle.sem_set.specs.Exits.{any_from, undone_from}
 use Rattle.sem_set.specs.Met.{met_at}
 use Rattle.sem_set.specs.Sets.{is_value, pid_of as last_of, semvmx, set_to, value_of}
 use Rattle.sem_set.specs.Trials.{are_in, committed, is_semadj, must_wait, sum_of, undoes, undoes_on}
 use Rattle.sem_undo.specs.Entries.{Entries, adj_of, cleared, with_adj, without_client}
-use Rattle.ipc_model.specs.State.{Caller, SemSet, Sems, nobody, pid_of}
+use Rattle.ipc_model.specs.State.{Caller, Limits, Object, Rule, SemOper, SemSet, Semaphore, Sems, nobody, pid_of}
 use Rattle.ipc_model.specs.Plan.{Check, Needs, Passes, Plan, Proceeds, Grant, found, in_order, passed, ◌⨾◌}
 
 abbrev pub set_at : Sems → ℕ → Option (Object SemSet)
@@ -172,9 +167,8 @@ undone_set adj pid now set = record {
 
 -- a set after the exit of the caller
 abbrev pub exited : Sems → Caller → ℕ → Object SemSet → Object SemSet
-exited sems who id set = record set {
-  contents = undone_set (adj_of sems.undo who.client id) (pid_of who.client) who.now set.contents;
-}
+exited sems who id set =
+    record set { contents = undone_set (adj_of sems.undo who.client id) (pid_of who.client) who.now set.contents }
 
 -- each set, and the caller's entries go
 abbrev pub after_exit : Sems → Caller → Sems

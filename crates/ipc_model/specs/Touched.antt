@@ -1,21 +1,15 @@
--- Which object the grant of a call touches, and what every other object keeps. A call that waits elsewhere is decided as
--- before, so only the calls that wait on what was touched have to be tried.
-use Rattle.std.specs.Prelude.{◌≡◌, ◌≢◌, ℕ, ◌==◌, ◌&&◌, Bool, false, Option, Some, None, option_map, unwrap_or}
-use Rattle.std.specs.List.{AllByRecursion}
-use Rattle.ipc_call.specs.declared.calls.Call.{Call}
+-- Which object the grant of a call touches. A call that waits elsewhere is decided as before, so only the calls that
+-- wait on what was touched have to be tried.
+use Rattle.std.specs.Prelude.{ℕ, ◌==◌, ◌&&◌, Bool, false, Option, Some, None, option_map, unwrap_or}
 use Rattle.ipc_call.specs.declared.calls.Call.TheVariants.{MsgGet, MsgSnd, MsgRcv, SemGet, SemOp, SemTimedOp, SetVal, SetAll, IpcSet, IpcRmid, Exit}
-use Rattle.ipc_call.specs.declared.calls.Kind.{Kind}
 use Rattle.ipc_call.specs.declared.calls.Kind.TheVariants as kinds
-use Rattle.ipc_call.specs.declared.replies.Waiting.{Waiting}
 use Rattle.ipc_ids.specs.Table.{next_id}
 use Rattle.sem_set.specs.Exits.{any_from}
 use Rattle.sem_undo.specs.Entries.{adj_of}
-use Rattle.ipc_model.specs.State.{Sems, State, creds_at, has_ended}
+use Rattle.ipc_model.specs.State.{Call, Kind, Sems, State, Waiting}
 use Rattle.ipc_model.specs.Cancelled.{is_same}
 use Rattle.ipc_model.specs.Decide.{waits_at}
-use Rattle.ipc_model.specs.Messages.{queue_at}
 use Rattle.ipc_model.specs.Semaphores.{set_at}
-use Rattle.ipc_model.specs.Step.{is_ready}
 
 abbrev pub is_object : Kind → ℕ → Kind → ℕ → Bool
 is_object at id kind i = is_same at kind && id == i
@@ -26,8 +20,8 @@ is_id (Some id) i = id == i
 
 -- exit adds something to a semaphore of the set: a semadj of the client isn't 0
 abbrev pub owes : Sems → ℕ → ℕ → Bool
-owes sems client id =
-    unwrap_or (option_map (λ set. any_from (adj_of sems.undo client id) 0 set.contents.semaphores) (set_at sems id)) false
+owes sems client id = unwrap_or
+    (option_map (λ set. any_from (adj_of sems.undo client id) 0 set.contents.semaphores) (set_at sems id)) false
 
 -- the grant of the client's call touches the object of this kind and identifier: a get the object that it creates, exit
 -- each set to which it adds something, and others the object that they name, where they change it
@@ -48,23 +42,3 @@ touches s client call kind i = false
 -- it touches the object on which a call waits
 abbrev pub touches_place : State → ℕ → Call → Waiting → Bool
 touches_place s client call w = unwrap_or (option_map (λ at. touches s client call at.0 at.1) (waits_at w.call)) false
-
--- an object is the same to the calls of other clients that wait on it: of a set they see the semadj of their own clients
--- too. No call waits on a segment
-abbrev pub IsSeenAlike : Kind → ℕ → ℕ → State → State → Type 0
-IsSeenAlike kinds.Queue id client s new = queue_at new.queues id ≡ queue_at s.queues id
-IsSeenAlike kinds.Sems id client s new = (set_at new.sems id ≡ set_at s.sems id)
-    × ((c : ℕ) → c ≢ client → (num : ℕ) → adj_of new.sems.undo c id num ≡ adj_of s.sems.undo c id num)
-IsSeenAlike kinds.Segment id client s new = Unit {0}
-
--- all that a call of another client that waits on this object depends on stays: the limits, its client's credentials,
--- whether its client has ended, and the object
-pub record Stays (s : State) (client : ℕ) (kind : Kind) (id : ℕ) (new : State) : Type 0 where
-  pub limits : new.limits ≡ s.limits
-  pub creds : (c : ℕ) → c ≢ client → creds_at new c ≡ creds_at s c
-  pub alive : (c : ℕ) → c ≢ client → has_ended new c ≡ has_ended s c
-  pub object : IsSeenAlike kind id client s new
-
--- no waiting call is ready but those that were touched
-abbrev pub AreQuietBut : (Waiting → Bool) → State → Type 0
-AreQuietBut touched s = AllByRecursion (λ w. touched w ≡ false → is_ready s w ≡ false) s.parked

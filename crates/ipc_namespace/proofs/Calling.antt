@@ -21,19 +21,16 @@ use Rattle.ipc_perm.specs.Access.{Permission, denial}
 use Rattle.sem_set.specs.Trials.{are_in}
 use Rattle.ipc_model.specs.Semaphores.{operate, operate_found, set_at, wanted_by}
 use Rattle.ipc_model.specs.Gets.{get_queue}
-use Rattle.ipc_model.specs.Messages.{queue_at, receive_message, send_found, send_message}
+use Rattle.ipc_model.specs.Messages.{Send, queue_at, receive_message, send_found, send_message}
 use Rattle.ipc_model.specs.Decide as decisions
 use Rattle.ipc_model.specs.Decide.{OnSems, PartPlan, decide_alive as decide, part_plan, whole}
 use Rattle.ipc_model.specs.Step.{end_waiting, ended_by, without}
 use Rattle.ipc_model.proofs.Plans.{Ends-decision, Ends-found, IfGranted, left-on, outcome-on}
 use Rattle.ipc_model.proofs.Alike.{proceeds-on}
 use Rattle.queue_calls.specs.Calls.{sending}
+use Rattle.queue_calls.proofs.Holding.{IfOk-map}
 use Rattle.ipc_model.specs.Decision.{without_answer}
 use Rattle.ipc_namespace.specs.Namespace.{MayReserve, is_send_to}
-
-pub IfOk-map : {T E : Type 0} (r : Result T E) (P Q : T → Type 0) → ((x : T) → P x → Q x) → IfOk r P → IfOk r Q
-IfOk-map (Ok x) P Q f p = f x p
-IfOk-map (Err e) P Q f p = tt
 
 pub IfSome-at : {A : Type 0} (o : Option A) (x : A) (P : A → Type 0) → o ≡ Some x → IfSome o P → P x
 IfSome-at o x P is p = subst (λ v. IfSome v P) is p
@@ -118,26 +115,26 @@ answered-as Wait = refl
 answered-as (Grant answer new) = refl
 
 module _ (v s : State) (client : ℕ) (who : Caller) (is : v ≡ s) (called : who ≡ caller v client) where
-  pub get-outcome : (key flags : ℕ) → outcome_of (decision who.creds (get_queue v.limits v.queues who key flags)) ≡ outcome_of (decide s client (MsgGet key flags))
+  pub get-outcome : (key flags : ℕ) → outcome_of (decision who.creds (get_queue v.limits v.queues who (record { key = key; flags = flags }))) ≡ outcome_of (decide s client (MsgGet key flags))
   unfolding part_plan
-  get-outcome key flags = outcome-as (λ t w. get_queue t.limits t.queues w key flags) v s client who is called
+  get-outcome key flags = outcome-as (λ t w. get_queue t.limits t.queues w (record { key = key; flags = flags })) v s client who is called
 
-  pub get-left : (key flags : ℕ) (queues : Queues) → queues ≡ left_by v.queues (decision who.creds (get_queue v.limits v.queues who key flags)) → put_in v queues ≡ left_by s (decide s client (MsgGet key flags))
+  pub get-left : (key flags : ℕ) (queues : Queues) → queues ≡ left_by v.queues (decision who.creds (get_queue v.limits v.queues who (record { key = key; flags = flags }))) → put_in v queues ≡ left_by s (decide s client (MsgGet key flags))
   unfolding part_plan
-  get-left key flags = left-as (λ t w. get_queue t.limits t.queues w key flags) v s client who is called
+  get-left key flags = left-as (λ t w. get_queue t.limits t.queues w (record { key = key; flags = flags })) v s client who is called
 
   module _ (id size flags : ℕ) (read msgtyp : ℤ) (back : read ≡ msgtyp) where
-    pub receive-outcome : outcome_of (decision who.creds (receive_message v.queues who id size read flags)) ≡ outcome_of (decide s client (MsgRcv id size msgtyp flags))
+    pub receive-outcome : outcome_of (decision who.creds (receive_message v.queues who id (record { size = size; msgtyp = read; flags = flags }))) ≡ outcome_of (decide s client (MsgRcv id size msgtyp flags))
     unfolding part_plan
-    receive-outcome = outcome-as (λ t w. receive_message t.queues w id size read flags) v s client who is called ∙ ap (λ z. outcome_of (decide s client (MsgRcv id size z flags))) back
+    receive-outcome = outcome-as (λ t w. receive_message t.queues w id (record { size = size; msgtyp = read; flags = flags })) v s client who is called ∙ ap (λ z. outcome_of (decide s client (MsgRcv id size z flags))) back
 
-    pub receive-proceeds : proceeds (decision who.creds (receive_message v.queues who id size read flags)) ≡ proceeds (decide s client (MsgRcv id size msgtyp flags))
+    pub receive-proceeds : proceeds (decision who.creds (receive_message v.queues who id (record { size = size; msgtyp = read; flags = flags }))) ≡ proceeds (decide s client (MsgRcv id size msgtyp flags))
     unfolding part_plan
-    receive-proceeds = proceeds-as (λ t w. receive_message t.queues w id size read flags) v s client who is called ∙ ap (λ z. proceeds (decide s client (MsgRcv id size z flags))) back
+    receive-proceeds = proceeds-as (λ t w. receive_message t.queues w id (record { size = size; msgtyp = read; flags = flags })) v s client who is called ∙ ap (λ z. proceeds (decide s client (MsgRcv id size z flags))) back
 
-    pub receive-left : (queues : Queues) → queues ≡ left_by v.queues (decision who.creds (receive_message v.queues who id size read flags)) → put_in v queues ≡ left_by s (decide s client (MsgRcv id size msgtyp flags))
+    pub receive-left : (queues : Queues) → queues ≡ left_by v.queues (decision who.creds (receive_message v.queues who id (record { size = size; msgtyp = read; flags = flags }))) → put_in v queues ≡ left_by s (decide s client (MsgRcv id size msgtyp flags))
     unfolding part_plan
-    receive-left queues left = left-as (λ t w. receive_message t.queues w id size read flags) v s client who is called queues left ∙ ap (λ z. left_by s (decide s client (MsgRcv id size z flags))) back
+    receive-left queues left = left-as (λ t w. receive_message t.queues w id (record { size = size; msgtyp = read; flags = flags })) v s client who is called queues left ∙ ap (λ z. left_by s (decide s client (MsgRcv id size z flags))) back
 
   module _ (id flags : ℕ) (read mtype : ℤ) (text : List ℕ) (back : read ≡ mtype) where
     abbrev sent : Decision Queues
@@ -146,13 +143,13 @@ module _ (v s : State) (client : ℕ) (who : Caller) (is : v ≡ s) (called : wh
     pub send-outcome : outcome_of sent ≡ outcome_of (decide s client (MsgSnd id mtype text flags))
     unfolding part_plan
     send-outcome =
-        outcome-as (λ t w. send_message t.limits t.queues w id flags (record { mtype = read; text = text })) v s client who is called
+        outcome-as (λ t w. send_message t.limits t.queues w id (record { message = record { mtype = read; text = text }; flags = flags })) v s client who is called
         ∙ ap (λ z. outcome_of (decide s client (MsgSnd id z text flags))) back
 
     pub send-proceeds : proceeds sent ≡ proceeds (decide s client (MsgSnd id mtype text flags))
     unfolding part_plan
     send-proceeds =
-        proceeds-as (λ t w. send_message t.limits t.queues w id flags (record { mtype = read; text = text })) v s client who is called
+        proceeds-as (λ t w. send_message t.limits t.queues w id (record { message = record { mtype = read; text = text }; flags = flags })) v s client who is called
         ∙ ap (λ z. proceeds (decide s client (MsgSnd id z text flags))) back
 
     pub send-answered : without_answer sent ≡ without_answer (decide s client (MsgSnd id mtype text flags))
@@ -161,7 +158,7 @@ module _ (v s : State) (client : ℕ) (who : Caller) (is : v ≡ s) (called : wh
     pub send-left : (queues : Queues) → queues ≡ left_by v.queues sent → put_in v queues ≡ left_by s (decide s client (MsgSnd id mtype text flags))
     unfolding part_plan
     send-left queues left =
-        left-as (λ t w. send_message t.limits t.queues w id flags (record { mtype = read; text = text })) v s client who is called queues left
+        left-as (λ t w. send_message t.limits t.queues w id (record { message = record { mtype = read; text = text }; flags = flags })) v s client who is called queues left
         ∙ ap (λ z. left_by s (decide s client (MsgSnd id z text flags))) back
 
 -- a call that waits changes nothing
@@ -195,7 +192,7 @@ pub sent-done : (limits : Limits) (queues : Queues) (who : Caller) (id flags : �
     → outcome_of (sending limits queues who id flags message) ≡ Some (Ok Done)
 sent-done limits queues who id flags message =
     done-granted (sending limits queues who id flags message)
-    (Ends-decision who.creds (λ answer new. answer ≡ Done) (send_message limits queues who id flags message) (Ends-found (λ answer new. answer ≡ Done) (queue_at queues id) BadId tt _ (λ queue is. refl)))
+    (Ends-decision who.creds (λ answer new. answer ≡ Done) (send_message limits queues who id (record { message = message; flags = flags })) (Ends-found (λ answer new. answer ≡ Done) (queue_at queues id) BadId tt _ (λ queue is. refl)))
 
 pub answered-none : {X : Type 0} (d : Decision X) → without_answer d ≡ None → outcome_of d ≡ None
 answered-none (Refuse rule) is = cc
@@ -230,10 +227,10 @@ no-queue true true is = cc
 no-queue true false is = cc
 no-queue false b is = cc
 
-there-where : (a b : Bool) (c : Credentials) (queues : Queues) (who : Caller) (id flags : ℕ) (message : Message) (queue : Option (Object Queue))
-    → outcome_of (if a then (if b then decision c (send_found queues who id flags message queue) else Refuse TextTooLong) else Refuse BadType) ≡ None → IsSome queue
-there-where a b c queues who id flags message None is = absurd (no-queue a b is)
-there-where a b c queues who id flags message (Some queue) is = refl
+there-where : (a b : Bool) (c : Credentials) (queues : Queues) (who : Caller) (id : ℕ) (asked : Send) (queue : Option (Object Queue))
+    → outcome_of (if a then (if b then decision c (send_found queues who id asked queue) else Refuse TextTooLong) else Refuse BadType) ≡ None → IsSome queue
+there-where a b c queues who id asked None is = absurd (no-queue a b is)
+there-where a b c queues who id asked (Some queue) is = refl
 
 -- a semop that waits has its set, with the semaphores that it names
 no-set : (a b : Bool) → outcome_of {X = Sems} (if a then (if b then Refuse BadId else Refuse TooManyOperations) else Refuse NoOperations) ≡ None → ⊥
@@ -277,9 +274,9 @@ unfolding part_plan
 sender-there s client (MsgSnd other mtype text flags) id waits sends =
     let c = creds_at s client in
     let who = caller s client in
-    let message : Message = record { mtype = mtype; text = text } in
-    let p = send_message s.limits s.queues who other flags message in
+    let asked : Send = record { message = record { mtype = mtype; text = text }; flags = flags } in
+    let p = send_message s.limits s.queues who other asked in
     ap (λ n. is_some (queue_at s.queues n)) (eqb-true id other sends)
-    ∙ there-where (int_le (pos 1) mtype) (nat_le (length text) s.limits.msg_max) c s.queues who other flags message (queue_at s.queues other)
+    ∙ there-where (int_le (pos 1) mtype) (nat_le (length text) s.limits.msg_max) c s.queues who other asked (queue_at s.queues other)
     (sym (outcome-on c (put_in s) p) ∙ waits)
 sender-there s client call id waits sends = absurd (false≢true sends)

@@ -1,37 +1,24 @@
 -- The waiting calls that a granted call cancels: the code ends the first until none is left, the definition filters the list.
-use Rattle.std.proofs.Common.{◌≡◌, ℕ, ℤ, ◌+◌, Bool, true, false, List, [], ◌∷◌, ◌++◌, cond, length, append_assoc, refl, sym, ap, subst, ◌∙◌, ⊎_elim, Option, Some, None, Err}
+use Rattle.std.proofs.Common.{◌≡◌, ℕ, ◌+◌, Bool, true, false, List, [], ◌∷◌, ◌++◌, cond, length, append_assoc, refl, sym, ap, subst, ◌∙◌, ⊎_elim, Option, Some, None, Err}
 use Rattle.std.specs.Prelude.{◌==◌, ◌&&◌, is_none, is_some, option_map, unwrap_or, IfSome}
 use Rattle.std.specs.List.{find, AllByRecursion}
 use Rattle.std.proofs.lemmas.Bool.{cases_Bool, false≢true, true≢false}
-use Rattle.ipc_call.specs.Flags.{has_flag, msg_except}
 use Rattle.ipc_call.specs.declared.calls.Call.{Call}
-use Rattle.ipc_call.specs.declared.calls.Call.TheVariants.{MsgSnd, MsgRcv, SemOp, SemTimedOp}
-use Rattle.ipc_call.specs.declared.calls.SemOper.{SemOper}
-use Rattle.ipc_call.specs.declared.replies.Answer.TheVariants.{Done}
-use Rattle.sem_set.specs.declared.sets.Semaphore.{Semaphore}
-use Rattle.sem_undo.specs.Entries.{adj_of}
-use Rattle.ipc_model.specs.Controls.{perm_in}
-use Rattle.ipc_model.specs.Semaphores.{operate, operate_found, operated, set_at, trial_checks, wanted_by}
 use Rattle.ipc_call.specs.declared.calls.Kind.{Kind}
 use Rattle.ipc_call.specs.declared.replies.Waiting.{Waiting}
 use Rattle.ipc_call.specs.declared.replies.Ended.{Ended}
 use Rattle.ipc_call.specs.declared.rules.Rule.{Rule}
-use Rattle.ipc_perm.specs.Access.{Permission, to_alter, to_read}
-use Rattle.msg_queue.specs.declared.messages.Message.{Message}
-use Rattle.ipc_model.specs.State.{Caller, Queue, Queues, SemSet, Sems, State, caller, creds_at, is_waiting, waiting_of}
-use Rattle.ipc_model.specs.Plan.{Plan, Grant, in_order, needs_in}
-use Rattle.ipc_objects.specs.declared.object.Object.{Object}
-use Rattle.ipc_model.specs.Messages.{chosen, queue_at, receive_found, receive_message, send_found, send_message, take_chosen}
-use Rattle.ipc_model.specs.Decide.{can_wait, needs, part_plan, plan, waits_at}
-use Rattle.ipc_model.proofs.Plans.{needs-on}
+use Rattle.ipc_model.specs.State.{State, creds_at, is_waiting, waiting_of}
+use Rattle.ipc_model.specs.Decide.{can_wait, needs, plan, waits_at}
 use Rattle.ipc_model.proofs.Alike.{needs-alike}
 use Rattle.ipc_model.proofs.Calls.{plan-alike}
 use Rattle.ipc_model.specs.Cancelled.{first_denial, is_same, waits_on}
 use Rattle.ipc_model.specs.Step.{told_cancelled, without}
 use Rattle.ipc_namespace.specs.declared.cancelling.Cancelling.{Cancelling}
 use Rattle.ipc_namespace.specs.declared.cancelling.Cancelling.TheVariants as cancellings
-use Rattle.ipc_namespace.specs.Namespace.{ended_as, cancelled_as, kept_by, needs_for}
+use Rattle.ipc_namespace.specs.Namespace.{ended_as, cancelled_as, kept_by}
 use Rattle.ipc_parked.specs.Parked.{AreApart}
+use Rattle.ipc_namespace.proofs.Calling.{IfSome-at}
 use Rattle.ipc_namespace.proofs.Own.{At, found-at, found-none, length-others, others, own-there}
 
 module _ (rule : Waiting → Option Rule) where
@@ -106,58 +93,6 @@ pub without-until : (s : State) (cancelling : Cancelling) (w : Waiting) → canc
 without-until s (cancellings.Denied kind id) w = refl
 without-until s (cancellings.Removed kind id) w = refl
 without-until s (cancellings.Interrupted pid) w = refl
-
--- what a call on messages needs, whatever it finds
-module _ (queues : Queues) (who : Caller) (id : ℕ) where
-  taken-needs : (size flags : ℕ) (queue : Queue) (taken : Option (ℕ × Message)) → needs_in (take_chosen queues who id size flags queue taken) ≡ []
-  taken-needs size flags queue None = refl
-  taken-needs size flags queue (Some taken) = refl
-
-  received-needs : (size : ℕ) (msgtyp : ℤ) (flags : ℕ) (queue : Option (Object Queue)) → needs_in (receive_found queues who id size msgtyp flags queue) ≡ needs_for to_read (option_map (λ q. q.perm) queue)
-  received-needs size msgtyp flags None = refl
-  received-needs size msgtyp flags (Some queue) =
-      ap (λ ns. Permission queue.perm to_read ∷ ns) (taken-needs size flags queue.contents (chosen queue.contents.messages msgtyp (has_flag flags msg_except)))
-
-  sent-needs : (flags : ℕ) (message : Message) (queue : Option (Object Queue)) → needs_in (send_found queues who id flags message queue) ≡ needs_for to_alter (option_map (λ q. q.perm) queue)
-  sent-needs flags message None = refl
-  sent-needs flags message (Some queue) = refl
-
-module _ (s : State) (client id : ℕ) where
-  pub receiver-needs : (size : ℕ) (msgtyp : ℤ) (flags : ℕ) → needs s client (MsgRcv id size msgtyp flags) ≡ needs_for to_read (perm_in s.queues id)
-  unfolding part_plan
-  receiver-needs size msgtyp flags =
-      needs-on (λ queues. record s { queues = queues }) (receive_message s.queues (caller s client) id size msgtyp flags)
-      ∙ received-needs s.queues (caller s client) id size msgtyp flags (queue_at s.queues id)
-
-  pub sender-needs : (mtype : ℤ) (text : List ℕ) (flags : ℕ) → needs s client (MsgSnd id mtype text flags) ≡ needs_for to_alter (perm_in s.queues id)
-  unfolding part_plan
-  sender-needs mtype text flags =
-      let message : Message = record { mtype = mtype; text = text } in
-      needs-on (λ queues. record s { queues = queues }) (send_message s.limits s.queues (caller s client) id flags message)
-      ∙ sent-needs s.queues (caller s client) id flags message (queue_at s.queues id)
-
--- a trial needs nothing more
-tried-needs : {X : Type 0} (sems : List Semaphore) (adj : ℕ → ℤ) (earlier ops : List SemOper) (p : Plan X) → needs_in (in_order (trial_checks sems adj earlier ops) p) ≡ needs_in p
-tried-needs sems adj earlier [] p = refl
-tried-needs sems adj earlier (o ∷ os) p = tried-needs sems adj (earlier ++ o ∷ []) os p
-
-operated-needs : (sems : Sems) (who : Caller) (id : ℕ) (ops : List SemOper) (set : Option (Object SemSet)) → needs_in (operate_found sems who id ops set) ≡ needs_for (wanted_by ops) (option_map (λ o. o.perm) set)
-operated-needs sems who id ops None = refl
-operated-needs sems who id ops (Some set) =
-    ap (λ ns. Permission set.perm (wanted_by ops) ∷ ns) (tried-needs set.contents.semaphores (adj_of sems.undo who.client id) [] ops (Grant Done (operated sems who id ops set.contents)))
-
-pub timed-needs : (s : State) (client id : ℕ) (ops : List SemOper) (timeout : ℕ) → needs s client (SemTimedOp id ops timeout) ≡ needs_for (wanted_by ops) (perm_in s.sems.sets id)
-unfolding part_plan
-timed-needs s client id ops timeout =
-    needs-on (λ sems. record s { sems = sems }) (operate s.limits s.sems (caller s client) id ops) ∙ operated-needs s.sems (caller s client) id ops (set_at s.sems id)
-
-pub operator-needs : (s : State) (client id : ℕ) (ops : List SemOper) → needs s client (SemOp id ops) ≡ needs_for (wanted_by ops) (perm_in s.sems.sets id)
-unfolding part_plan
-operator-needs s client id ops =
-    needs-on (λ sems. record s { sems = sems }) (operate s.limits s.sems (caller s client) id ops) ∙ operated-needs s.sems (caller s client) id ops (set_at s.sems id)
-
-IfSome-at : {A : Type 0} (o : Option A) (x : A) (P : A → Type 0) → o ≡ Some x → IfSome o P → P x
-IfSome-at o x P is p = subst (λ v. IfSome v P) is p
 
 -- one turn of those that end by a rule: the first leaves, and what is left to end is the rest
 module _ (initial s : State) (f0 : Waiting → Option Rule) (rest : s ≡ record initial { parked = s.parked }) where

@@ -1,5 +1,5 @@
 -- The waiting calls whose deadline is reached, and a call that doesn't look at those that wait.
-use Rattle.std.proofs.Common.{◌≡◌, ℕ, ◌+◌, ◌≤◌, Bool, true, false, List, [], ◌∷◌, ◌++◌, cond, length, append_assoc, arith, length-append, refl, sym, ap, subst, ◌∙◌, ⊎_elim, Option, Some, None, Err}
+use Rattle.std.proofs.Common.{◌≡◌, ℕ, ◌+◌, ◌≤◌, Bool, true, false, List, [], ◌∷◌, ◌++◌, cond, length, append_assoc, arith, length-append, refl, sym, ap, subst, ◌∙◌, Option, Some, None, Err}
 use Rattle.std.specs.Prelude.{◌==◌, is_none, is_some, option_map, IfSome}
 use Rattle.std.specs.List.{find, AllByRecursion}
 use Rattle.std.proofs.lemmas.Bool.{true≢false}

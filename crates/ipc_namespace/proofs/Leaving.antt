@@ -5,12 +5,11 @@ use Rattle.std.specs.List.{find}
 use Rattle.ipc_call.specs.declared.calls.Call.{Call}
 use Rattle.ipc_call.specs.declared.replies.Waiting.{Waiting}
 use Rattle.queue_calls.specs.Held.{one_if}
-use Rattle.ipc_model.specs.Decide.{stands}
 use Rattle.ipc_parked.specs.declared.parked.Arrival.{Arrival}
 use Rattle.ipc_parked.specs.Parked.{arrival_of, waiting}
 use Rattle.ipc_parked.specs.Parked as parked
 use Rattle.ipc_parked.proofs.Listed.{waiting_at, waiting-others}
-use Rattle.ipc_namespace.specs.Namespace.{AreParked, is_send_to, sends_on}
+use Rattle.ipc_namespace.specs.Namespace.{AreParked, is_send_to, sends_on, stands}
 use Rattle.ipc_namespace.proofs.Own.{length-others, others}
 use Rattle.ipc_namespace.proofs.Parked.{AreParked-filter, apart-parked, parked_found}
 use Rattle.ipc_namespace.proofs.Reserved.{room-left, sent-roomy}

@@ -6,9 +6,8 @@ use Rattle.std.proofs.lemmas.Bool.{cases_Bool, or_parts, or_from, or_cases, eqb-
 use Rattle.std.proofs.lemmas.Option.{none-some, same_Some}
 use Rattle.std.proofs.lemmas.Map.Steps.{length-le_from_distinct_below}
 use Rattle.ipc_call.specs.declared.replies.Waiting.{Waiting}
-use Rattle.ipc_model.specs.Decide.{stands}
 use Rattle.ipc_parked.specs.Parked.{AreApart}
-use Rattle.ipc_namespace.specs.Namespace.{AreParked}
+use Rattle.ipc_namespace.specs.Namespace.{AreParked, stands}
 
 -- no call waits
 pub none_parked : (n : ℕ) (ws : List Waiting) → ws ≡ [] → AreParked n ws

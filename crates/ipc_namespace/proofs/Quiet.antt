@@ -13,14 +13,14 @@ use Rattle.ipc_model.specs.Decision.{Decision, Grant, Refuse, Wait, outcome_of}
 use Rattle.ipc_model.specs.Decide.{decide, decide_call, is_late, unless_late}
 use Rattle.ipc_model.specs.Cancelled.{cancelled}
 use Rattle.ipc_model.specs.Step.{Moved, end_waiting, ended_by, first_ready, is_ready, moved_as, moved_by, without}
-use Rattle.ipc_model.specs.Touched.{AreQuietBut, touches_place}
+use Rattle.ipc_model.specs.Touched.{touches_place}
 use Rattle.ipc_model.proofs.Calls.{Keeps-decide, parked_alike}
 use Rattle.ipc_model.proofs.Growing.{Keeps}
 use Rattle.ipc_model.proofs.Turning.{event_quiet, turn_quiet}
 use Rattle.ipc_parked.specs.declared.touched.Touched.{Touched}
 use Rattle.ipc_parked.specs.declared.touched.Touched.TheVariants.{Anything, Nothing, Object}
 use Rattle.ipc_parked.specs.Touched.{Covers, is_touched}
-use Rattle.ipc_namespace.specs.Namespace.{is_grant}
+use Rattle.ipc_namespace.specs.Namespace.{is_grant, AreQuietBut}
 use Rattle.ipc_namespace.proofs.Own.{found-none, found-passes, others}
 use Rattle.ipc_namespace.proofs.Parked.{all-filter, all-found}
 

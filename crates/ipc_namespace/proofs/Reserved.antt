@@ -9,13 +9,12 @@ use Rattle.ipc_call.specs.declared.calls.SemOper.{SemOper}
 use Rattle.ipc_call.specs.declared.replies.Waiting.{Waiting}
 use Rattle.ipc_call.specs.declared.rules.Rule.TheVariants.{Removed}
 use Rattle.queue_calls.specs.Held.{one_if}
-use Rattle.ipc_model.specs.Decide.{stands}
 use Rattle.ipc_call.specs.declared.calls.Kind.TheVariants as kinds
 use Rattle.ipc_model.specs.Cancelled.{waits_on}
 use Rattle.ipc_parked.specs.Parked.{AreApart}
 use Rattle.ipc_namespace.proofs.Own.{found-at, others}
 use Rattle.ipc_namespace.proofs.Parked.{turned}
-use Rattle.ipc_namespace.specs.Namespace.{is_send_to, kept_by, sends_on, sent_to}
+use Rattle.ipc_namespace.specs.Namespace.{is_send_to, kept_by, sends_on, sent_to, stands}
 
 pub sends_on-push : (id : ℕ) (ws : List Waiting) (w : Waiting) → sends_on id (ws ++ w ∷ []) ≡ sends_on id ws + one_if (is_send_to id w.call)
 sends_on-push id [] w = let e : one_if (is_send_to id w.call) + 0 ≡ 0 + one_if (is_send_to id w.call) = omega arith in e

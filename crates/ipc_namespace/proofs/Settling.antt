@@ -43,14 +43,6 @@ settled-turn s new e ends shorter = by (first_ready s) refl ends
         let count : length s.parked ≡ suc (length new.parked) = omega (arith, shorter) in
         settle-some (length s.parked) (length new.parked) s new w e count first (same_Some (end_waiting s w) (record { state = new; ended = e ∷ [] }) ends)
 
--- the last: none is left that is ready
-pub settled-over : (s : State) → option_map (end_waiting s) (first_ready s) ≡ None → settled s ≡ record { state = s; ended = [] }
-settled-over s ends = by (first_ready s) refl ends
-  where
-    by : (o : Option Waiting) → first_ready s ≡ o → option_map (end_waiting s) o ≡ None → settled s ≡ record { state = s; ended = [] }
-    by None first ends = settled-none s first
-    by (Some w) first ends = absurd (none-some (end_waiting s w) (sym ends))
-
 -- the calls are tried in turn: what is found from one on
 module _ (test : Waiting → Bool) where
   pub find-next : (ws : List Waiting) (i : ℕ) (w : Waiting) → slice_get ws i ≡ Some w → test w ≡ false → find test (drop i ws) ≡ find test (drop (suc i) ws)

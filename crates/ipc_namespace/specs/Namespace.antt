@@ -3,7 +3,7 @@ use Rattle.std.specs.Prelude.{◌≡◌, ⊤, Ok, Err, Result, ℕ, ◌+◌, ◌
 use Rattle.std.specs.List.{AllByRecursion, list_any}
 use Rattle.ipc_call.specs.declared.replies.Waiting.{Waiting}
 use Rattle.ipc_call.specs.declared.calls.Call.{Call}
-use Rattle.ipc_call.specs.declared.calls.Call.TheVariants.{MsgSnd, SemOp, SemGet, GetNcnt, GetZcnt, GetVal, GetPid, GetAll, SetVal, SetAll, ShmGet, ShmAt, ShmDt, ShmRead, ShmWrite, IpcSet, IpcRmid, Interrupt}
+use Rattle.ipc_call.specs.declared.calls.Call.TheVariants.{MsgSnd, MsgRcv, SemOp, SemGet, GetNcnt, GetZcnt, GetVal, GetPid, GetAll, SetVal, SetAll, ShmGet, ShmAt, ShmDt, ShmRead, ShmWrite, IpcSet, IpcRmid, Interrupt}
 use Rattle.ipc_call.specs.declared.replies.Ended.{Ended}
 use Rattle.ipc_call.specs.declared.rules.Rule.{Rule}
 use Rattle.ipc_call.specs.declared.rules.Rule.TheVariants.{Removed, Interrupted}
@@ -11,24 +11,28 @@ use Rattle.ipc_ids.specs.Table.{Table}
 use Rattle.ipc_objects.specs.declared.object.Object.{Object}
 use Rattle.queue_calls.specs.Held.{Held, one_if, room}
 use Rattle.set_calls.specs.Held.{Held as Sets, HasRow}
-use Rattle.ipc_perm.specs.Access.{Need, Permission}
 use Rattle.ipc_perm.specs.declared.access.Verdict.{Verdict}
 use Rattle.ipc_perm.specs.declared.access.Verdict.TheVariants.{Allowed, Denied}
-use Rattle.ipc_perm.specs.declared.access.Want.{Want}
-use Rattle.ipc_call.specs.declared.perms.Perm.{Perm}
 use Rattle.ipc_model.specs.State.{Sems, State, creds_at, pid_of}
 use Rattle.ipc_model.specs.Semaphores.{set_at}
 use Rattle.sem_set.specs.Trials.{are_in}
-use Rattle.ipc_model.specs.Decide.{decide_alive, is_late, is_negative, is_zero, needs, stands, unless_late}
+use Rattle.ipc_model.specs.Decide.{decide_alive, is_late, is_negative, is_zero, needs, unless_late}
 use Rattle.ipc_model.specs.Cancelled.{first_denial, waits_on}
 use Rattle.ipc_model.specs.Decision.{Decision, Outcome, left_by}
-use Rattle.ipc_model.specs.Step.{Moved, cancelled_by, state_by, told_cancelled}
+use Rattle.ipc_model.specs.Step.{Moved, cancelled_by, is_ready, state_by, told_cancelled}
 use Rattle.ipc_parked.specs.Parked.{AreApart}
 use Rattle.ipc_call.specs.declared.calls.SemOper.{SemOper}
 use Rattle.ipc_namespace.specs.declared.semaphore_calls.Awaited.{Awaited}
 use Rattle.ipc_namespace.specs.declared.semaphore_calls.Awaited.TheVariants as awaits
 use Rattle.ipc_namespace.specs.declared.cancelling.Cancelling.{Cancelling}
 use Rattle.ipc_namespace.specs.declared.cancelling.Cancelling.TheVariants as cancellings
+
+-- a call that stands among those that wait
+abbrev pub stands : Call → Bool
+stands (MsgSnd id mtype text flags) = true
+stands (MsgRcv id size msgtyp flags) = true
+stands (SemOp id ops) = true
+stands call = false
 
 -- each is of a client that there is, of so many, and may wait; no two are of one client
 unfoldable pub AreParked : ℕ → List Waiting → Type 0
@@ -129,11 +133,6 @@ abbrev pub allowed_by : Verdict → Result ⊤ Rule
 allowed_by (Allowed _) = Ok tt
 allowed_by (Denied rule) = Err rule
 
--- what a call that waits needs on its object
-abbrev pub needs_for : Want → Option Perm → List Need
-needs_for want None = []
-needs_for want (Some perm) = Permission perm want ∷ []
-
 -- what is left of a list of waiting calls, and those that end
 abbrev pub kept_by : (Waiting → Option Rule) → List Waiting → List Waiting
 kept_by rule ws = filter (λ w. is_none (rule w)) ws
@@ -144,3 +143,7 @@ ended_as rule ws = flat_map (λ w. told_cancelled w.client (rule w)) ws
 -- in each queue a place is reserved for each waiting call that sends to it, and no other
 abbrev pub IsReserved : Table (Object Held) → List Waiting → Type 0
 IsReserved queues ws = (id : ℕ) → room queues id ≡ sends_on id ws
+
+-- no waiting call is ready but those that were touched
+abbrev pub AreQuietBut : (Waiting → Bool) → State → Type 0
+AreQuietBut touched s = AllByRecursion (λ w. touched w ≡ false → is_ready s w ≡ false) s.parked

@@ -15,14 +15,18 @@ ghost use Rattle.std.specs.Prelude.{
   is_some,
   option_map,
   option_and_then,
+  unwrap_or,
   Some,
   None,
+  [],
+  ◌∷◌,
 };
+ghost use Rattle.ipc_perm.specs.Access.{Permission};
 ghost use Rattle.std.specs.List.{find};
 ghost use Rattle.ipc_model.specs.State.{creds_at, is_waiting as waits, waiting_of};
-ghost use Rattle.ipc_model.specs.Decide.{needs, stands};
+ghost use Rattle.ipc_model.specs.Decide.{needs};
 ghost use Rattle.ipc_model.specs.Cancelled.{first_denial, waits_on as call_waits_on};
-ghost use Rattle.ipc_namespace.specs.Namespace.{ended_as, cancelled_as, kept_by, needs_for};
+ghost use Rattle.ipc_namespace.specs.Namespace.{ended_as, cancelled_as, kept_by, stands};
 ghost use Rattle.ipc_parked.specs.Parked.{AreApart};
 
 use crate::namespace::Namespace;
@@ -122,7 +126,7 @@ impl Namespace {
     /// The rule of the right on an object of these permissions, where the client lacks it.
     fn denial_on(&self, client: u32, perm: Option<Perm>, want: Want) -> Option<Rule>
         requires { client < length self.now.clients }
-        ensures { result ≡ first_denial (creds_at self.now client) (needs_for want perm) }
+        ensures { result ≡ first_denial (creds_at self.now client) (unwrap_or (option_map (λ p. Permission p want ∷ []) perm) []) }
     {
         let creds = &self.clients[client as usize];
         match decide(creds, &perm?, want) {

@@ -6,7 +6,7 @@ ghost use Rattle.ipc_model.specs.Decide.{decide_alive as decision_on};
 
 use crate::callers::caller_of;
 use crate::namespace::Namespace;
-use ipc_call::{Answer, Call, Items, Memory, Outcome};
+use ipc_call::{Answer, Call, Items, Memory, Outcome, Receive};
 
 impl Namespace {
     /// msgget. The error comes only where an allocation fails, and then nothing has changed.
@@ -24,21 +24,14 @@ impl Namespace {
 
     /// msgrcv: None where it is to wait, and then nothing has changed. It takes no memory.
     #[tactic(auto, unfolding(ipc_model::specs::Decide::part_plan))]
-    pub(super) fn msgrcv(
-        &mut self,
-        client: u32,
-        id: u32,
-        size: u64,
-        msgtyp: i64,
-        flags: u32,
-    ) -> Option<Outcome>
+    pub(super) fn msgrcv(&mut self, client: u32, id: u32, asked: Receive) -> Option<Outcome>
         requires known { client < length self.old.clients }
-        ensures outcome { result ≡ outcome_of (decision_on self.old client (Call.MsgRcv id size msgtyp flags)) }
-        ensures state { self.new ≡ left_by self.old (decision_on self.old client (Call.MsgRcv id size msgtyp flags)) }
+        ensures outcome { result ≡ outcome_of (decision_on self.old client (Call.MsgRcv id asked.size asked.msgtyp asked.flags)) }
+        ensures state { self.new ≡ left_by self.old (decision_on self.old client (Call.MsgRcv id asked.size asked.msgtyp asked.flags)) }
         ensures parked { self.new.parked ≡ self.old.parked }
     {
         let who = caller_of(&self.clients, client, self.clock);
-        self.queues.msgrcv(&who, id, size, msgtyp, flags)
+        self.queues.msgrcv(&who, id, asked)
     }
 
     /// msgsnd: None where it is to wait, and then nothing has changed. The error comes only where an allocation fails,

@@ -29,12 +29,10 @@ ghost use Rattle.std.specs.Prelude.{
 ghost use Rattle.ipc_call.specs.Limits.{are_in_range};
 ghost use Rattle.ipc_model.specs.State.{opening, has_ended as ended_before, is_waiting as waits, waiting_of};
 ghost use Rattle.ipc_model.specs.Decision.{left_by, outcome_of};
-ghost use Rattle.ipc_model.specs.Decide.{decide_alive as decision_alive, decide_call as decision_made, deadline_of, is_reached, stands, waits_as};
-ghost use Rattle.std.specs.List.{find};
+ghost use Rattle.ipc_model.specs.Decide.{decide_alive as decision_alive, decide_call as decision_made, deadline_of, is_reached, waits_as};
+ghost use Rattle.std.specs.List.{AllByRecursion, find};
 ghost use Rattle.ipc_parked.specs.Parked.{AreApart};
 ghost use Rattle.ipc_parked.specs.Touched.{is_touched};
-ghost use Rattle.ipc_model.specs.Touched.{AreQuietBut};
-ghost use Rattle.ipc_model.specs.Waits.{AreNotReady};
 ghost use Rattle.ipc_model.specs.Step.{
   Moved as MovedTo,
   after,
@@ -48,13 +46,13 @@ ghost use Rattle.ipc_model.specs.Step.{
   step,
   without,
 };
-ghost use Rattle.ipc_namespace.specs.Namespace.{decide_made, is_grant, is_on_waiting as is_on_waiting_by, left_alive, left_made, sent_to as call_sent_to};
+ghost use Rattle.ipc_namespace.specs.Namespace.{decide_made, is_grant, is_on_waiting as is_on_waiting_by, left_alive, left_made, sent_to as call_sent_to, stands, AreQuietBut};
 ghost use Rattle.ipc_model.specs.Decision.{without_answer};
 
 use crate::callers::caller_of;
 use crate::reserving::{release_in, reserve_in, reserve_row, sent_to};
 use crate::semaphore_calls::Awaited;
-use ipc_call::{Answer, Call, Ended, Limits, Memory, Outcome, Rule, Settings};
+use ipc_call::{Answer, Call, Ended, Limits, Memory, Outcome, Receive, Rule, Settings};
 use ipc_creds::Creds;
 use ipc_parked::{Parked, Touched};
 use queue_calls::Queues;
@@ -178,7 +176,7 @@ impl Namespace {
     ) -> Result<Option<Outcome>, Memory>
         requires known { client < length self.old.clients }
         requires free { waits self.old client ≡ false }
-        requires quiet { AreNotReady self.old }
+        requires quiet { AllByRecursion (λ w. is_ready self.old w ≡ false) self.old.parked }
         requires empty { ended.old.items ≡ [] }
         requires space { length self.old.parked < vec_capacity ended.old }
         ensures ok { IfOk result (λ own. step self.old (record { client = client; now = now; call = call.now })
@@ -355,7 +353,14 @@ impl Namespace {
                 size,
                 msgtyp,
                 flags,
-            } => Ok(self.msgrcv(client, *id, *size, *msgtyp, *flags)),
+            } => {
+                let asked = Receive {
+                    size: *size,
+                    msgtyp: *msgtyp,
+                    flags: *flags,
+                };
+                Ok(self.msgrcv(client, *id, asked))
+            }
             Call::SemOp { id, ops } => self.semop(client, *id, ops),
             Call::SemTimedOp { id, ops, .. } => self.semop(client, *id, ops),
             Call::SemGet { .. }
@@ -492,7 +497,12 @@ impl Namespace {
                 msgtyp,
                 flags,
             } => {
-                let outcome = self.queues.msgrcv(&who, *id, *size, *msgtyp, *flags)?;
+                let asked = Receive {
+                    size: *size,
+                    msgtyp: *msgtyp,
+                    flags: *flags,
+                };
+                let outcome = self.queues.msgrcv(&who, *id, asked)?;
                 Some(self.end_as(client, outcome))
             }
             Call::SemOp { id, ops } => {

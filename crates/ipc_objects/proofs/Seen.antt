@@ -12,7 +12,7 @@ use Rattle.ipc_ids.proofs.Listed.{ids_of-image}
 use Rattle.ipc_ids.proofs.Sound.{get-insert-other, get-insert-same}
 use Rattle.ipc_objects.specs.declared.object.Object.{Object}
 use Rattle.ipc_objects.specs.declared.object.Owner.{Owner}
-use Rattle.ipc_objects.specs.Objects.{changed, contents_of, has_key, with_contents, with_owner, with_perm, without_key}
+use Rattle.ipc_objects.specs.Objects.{changed, contents_of, has_key, with_contents, with_owner, with_perm}
 use Rattle.ipc_objects.specs.Seen.{all_seen, seen}
 
 -- an object that is put back leaves the table as it was
@@ -149,9 +149,6 @@ module _ {X Y : Type 0} (f : X → Y) where
 
     pub owned-seen : (id : ℕ) (owner : Owner) (now : ℕ) → all_seen f (changed t id (λ o. with_owner o owner now)) ≡ changed (all_seen f t) id (λ o. with_owner o owner now)
     owned-seen id owner now = changed-seen id (λ o. with_owner o owner now) (λ o. with_owner o owner now) (λ object. refl)
-
-    pub freed-seen : (id : ℕ) → all_seen f (changed t id without_key) ≡ changed (all_seen f t) id without_key
-    freed-seen id = changed-seen id without_key without_key (λ object. refl)
 
     pub contents-seen : (id : ℕ) (x : X) → all_seen f (with_contents t id x) ≡ with_contents (all_seen f t) id (f x)
     contents-seen id x = changed-seen id (λ o. record o { contents = x }) (λ o. record o { contents = f x }) (λ object. refl)

@@ -1,12 +1,13 @@
 -- Each call ends with an answer of its own, and only one that may wait is made to wait.
-use Rattle.std.proofs.Common.{◌≡◌, ℕ, zero, suc, ◌+◌, Bool, true, false, List, [], ◌∷◌, ◌++◌, length, refl, sym, ap, ◌∙◌, subst, Option, Some, None, Ok, Err, ⊎_elim, All, ℤ}
+use Rattle.std.proofs.Common.{◌≡◌, ℕ, zero, suc, Bool, true, false, List, [], ◌∷◌, ◌++◌, length, refl, sym, ap, ◌∙◌, subst, Option, Some, None, Ok, Err, ⊎_elim, All, ℤ}
 use Rattle.std.specs.Prelude.{if◌then◌else◌, ◌==◌, ◌&&◌, ◌||◌, not, filter, flat_map, is_none, is_some, option_map}
 use Rattle.std.specs.List.{list_any, AllByRecursion}
 use Rattle.std.specs.FinMap as finite
 use Rattle.std.proofs.lemmas.Bool.{cases_Bool, eq-eqb, or_parts, true≢false}
 use Rattle.std.proofs.lemmas.List.Elements.{All-nil, All-cons}
 use Rattle.std.proofs.lemmas.Option.{none-some, same_Some}
-use Rattle.ipc_call.specs.Flags.{has_flag, msg_except}
+use Rattle.ipc_objects.specs.Objects.{with_contents}
+use Rattle.ipc_call.specs.declared.settings.Receive.{Receive}
 use Rattle.ipc_call.specs.declared.calls.Call.{Call}
 use Rattle.ipc_call.specs.declared.calls.Call.TheVariants.{MsgGet, MsgSnd, MsgRcv, SemGet, SemOp, SemTimedOp, GetVal, GetPid, GetNcnt, GetZcnt, GetAll, SetVal, SetAll, ShmGet, ShmAt, ShmDt, ShmRead, ShmWrite, Exit, IpcStat, IpcSet, IpcRmid, Listing, Interrupt, SetCreds}
 use Rattle.ipc_call.specs.declared.calls.Kind.{Kind}
@@ -24,12 +25,12 @@ use Rattle.ipc_objects.specs.declared.object.Object.{Object}
 use Rattle.msg_queue.specs.declared.messages.Message.{Message}
 use Rattle.shm_seg.specs.Attachments.{attachment_at, free_number}
 use Rattle.sem_undo.specs.Entries.{adj_of}
-use Rattle.ipc_model.specs.State.{Caller, Queue, Queues, SemSet, Sems, Segment, Shared, State, caller, creds_at}
+use Rattle.ipc_model.specs.State.{Caller, Queue, Queues, SemSet, Sems, Shared, State, caller, creds_at}
 use Rattle.ipc_model.specs.Decision.{Decision, Outcome, Refuse, Wait, Grant, outcome_of, proceeds}
-use Rattle.ipc_model.specs.Plan.{Needs, Plan}
+use Rattle.ipc_model.specs.Plan.{Needs, Plan, on_part}
 use Rattle.ipc_model.specs.Plan as plans
 use Rattle.ipc_perm.specs.Access.{Resource, SetGroups}
-use Rattle.ipc_model.specs.Gets.{Getting, get, get_found, get_queue, get_segment, get_set, getting_queue, getting_segment, getting_set, object_of_key}
+use Rattle.ipc_model.specs.Gets.{Getting, get, get_found, get_queue, get_segment, get_set, getting_queue, getting_segment, getting_set, object_of_key, Get}
 use Rattle.ipc_model.specs.Messages.{chosen, queue_at, receive_message, send_message, take_chosen}
 use Rattle.ipc_model.specs.Semaphores.{get_all, get_pid, get_value, operate, operated, set_all, set_at, set_value, trial_checks}
 use Rattle.ipc_model.specs.Segments.{attach, behind, detach, read_bytes, segment_at, write_bytes}
@@ -53,9 +54,9 @@ abbrev Gives : {X : Type 0} → Call → Answer → X → Type 0
 Gives call answer new = can_give call answer ≡ true
 
 module _ {X : Type 0} (call : Call) (id : (n : ℕ) → can_give call (Id n) ≡ true) where
-  gives-get : (t : Table (Object X)) (who : Caller) (key flags : ℕ) (getting : Getting X) (there : Option (ℕ × Object X)) → Ends (Gives call) (get_found t who key flags getting there)
-  gives-get t who key flags getting None = Ends-order (Gives call) getting.to_make _ (Ends-found (Gives call) (next_id t) NoSlot tt _ (λ n is. id n))
-  gives-get t who key flags getting (Some there) = Ends-order (Gives call) (getting.to_find there.1.contents) (plans.Grant (Id there.0) t) (id there.0)
+  gives-get : (t : Table (Object X)) (who : Caller) (asked : Get) (getting : Getting X) (there : Option (ℕ × Object X)) → Ends (Gives call) (get_found t who asked getting there)
+  gives-get t who asked getting None = Ends-order (Gives call) getting.to_make _ (Ends-found (Gives call) (next_id t) NoSlot tt _ (λ n is. id n))
+  gives-get t who asked getting (Some there) = Ends-order (Gives call) (getting.to_find there.1.contents) (plans.Grant (Id there.0) t) (id there.0)
 
 -- what is told of an object of the kind is a status of the kind
 module _ {X : Type 0} (kind : Kind) (told : X → Perm × Status) (each : (x : X) → is_status_of kind (told x).1 ≡ true) where
@@ -79,28 +80,31 @@ module _ (s : State) (call : Call) where
   on-shared p gives = Ends-on (λ shared. record s { shared = shared }) (Gives call) p gives
 
 gives-take : (call : Call) → ((mtype : ℤ) (text : List ℕ) → can_give call (MessageAnswer mtype text) ≡ true)
-    → (queues : Queues) (who : Caller) (id size flags : ℕ) (queue : Queue) (taken : Option (ℕ × Message)) → Ends (Gives call) (take_chosen queues who id size flags queue taken)
-gives-take call gives queues who id size flags queue None = tt
-gives-take call gives queues who id size flags queue (Some taken) = gives taken.1.mtype _
+    → (queues : Queues) (who : Caller) (id : ℕ) (asked : Receive) (queue : Queue) (taken : Option (ℕ × Message)) → Ends (Gives call) (on_part (with_contents queues id) (take_chosen who asked queue taken))
+gives-take call gives queues who id asked queue None = tt
+gives-take call gives queues who id asked queue (Some taken) = gives taken.1.mtype _
 
 -- each call
 gives-plan : (s : State) (client : ℕ) (call : Call) → Ends (Gives call) (plan s client call)
 unfolding part_plan
 gives-plan s client (MsgGet key flags) =
+    let asked : Get = record { key = key; flags = flags } in
     let call = MsgGet key flags in
-    on-queues s call (get_queue s.limits s.queues (caller s client) key flags) (gives-get call (λ n. refl) s.queues (caller s client) key flags (getting_queue s.limits) (object_of_key s.queues key))
+    on-queues s call (get_queue s.limits s.queues (caller s client) asked) (gives-get call (λ n. refl) s.queues (caller s client) asked (getting_queue s.limits) (object_of_key s.queues key))
 gives-plan s client (MsgSnd id mtype text flags) =
     let call = MsgSnd id mtype text flags in
-    on-queues s call (send_message s.limits s.queues (caller s client) id flags (record { mtype = mtype; text = text })) (Ends-found (Gives call) (queue_at s.queues id) BadId tt _ (λ queue is. refl))
+    on-queues s call (send_message s.limits s.queues (caller s client) id (record { message = record { mtype = mtype; text = text }; flags = flags })) (Ends-found (Gives call) (queue_at s.queues id) BadId tt _ (λ queue is. refl))
 gives-plan s client (MsgRcv id size msgtyp flags) =
+    let asked : Receive = record { size = size; msgtyp = msgtyp; flags = flags } in
     let call = MsgRcv id size msgtyp flags in
-    on-queues s call (receive_message s.queues (caller s client) id size msgtyp flags) (Ends-found (Gives call) (queue_at s.queues id) BadId tt _ (λ (queue : Object Queue) is.
-    gives-take call (λ mtype text. refl) s.queues (caller s client) id size flags queue.contents (chosen queue.contents.messages msgtyp (has_flag flags msg_except))))
+    on-queues s call (receive_message s.queues (caller s client) id asked) (Ends-found (Gives call) (queue_at s.queues id) BadId tt _ (λ (queue : Object Queue) is.
+    gives-take call (λ mtype text. refl) s.queues (caller s client) id asked queue.contents (chosen queue.contents.messages asked)))
 gives-plan s client (SemGet key nsems flags) =
+    let asked : Get = record { key = key; flags = flags } in
     let call = SemGet key nsems flags in
-    let got = get s.sems.sets (caller s client) key flags (getting_set nsems) in
-    on-sems s call (get_set s.limits s.sems (caller s client) key nsems flags)
-    (Ends-on (λ sets. record s.sems { sets = sets }) (Gives call) got (gives-get call (λ n. refl) s.sems.sets (caller s client) key flags (getting_set nsems) (object_of_key s.sems.sets key)))
+    let got = get s.sems.sets (caller s client) asked (getting_set nsems) in
+    on-sems s call (get_set s.limits s.sems (caller s client) asked nsems)
+    (Ends-on (λ sets. record s.sems { sets = sets }) (Gives call) got (gives-get call (λ n. refl) s.sems.sets (caller s client) asked (getting_set nsems) (object_of_key s.sems.sets key)))
 gives-plan s client (SemOp id ops) =
     let call = SemOp id ops in
     on-sems s call (operate s.limits s.sems (caller s client) id ops) (Ends-found (Gives call) (set_at s.sems id) BadId tt _ (λ (set : Object SemSet) is.
@@ -117,11 +121,12 @@ gives-plan s client (GetAll id) = on-sems s (GetAll id) (get_all s.sems id) (End
 gives-plan s client (SetVal id num value) = on-sems s (SetVal id num value) (set_value s.sems (caller s client) id num value) (Ends-found (Gives (SetVal id num value)) (set_at s.sems id) BadId tt _ (λ set is. refl))
 gives-plan s client (SetAll id values) = on-sems s (SetAll id values) (set_all s.sems (caller s client) id values) (Ends-found (Gives (SetAll id values)) (set_at s.sems id) BadId tt _ (λ set is. refl))
 gives-plan s client (ShmGet key size flags) =
+    let asked : Get = record { key = key; flags = flags } in
     let call = ShmGet key size flags in
     let getting = getting_segment s.limits client size in
-    let got = get s.shared.segments (caller s client) key flags getting in
-    on-shared s call (get_segment s.limits s.shared (caller s client) key size flags)
-    (Ends-on (λ segments. record s.shared { segments = segments }) (Gives call) got (gives-get call (λ n. refl) s.shared.segments (caller s client) key flags getting (object_of_key s.shared.segments key)))
+    let got = get s.shared.segments (caller s client) asked getting in
+    on-shared s call (get_segment s.limits s.shared (caller s client) asked size)
+    (Ends-on (λ segments. record s.shared { segments = segments }) (Gives call) got (gives-get call (λ n. refl) s.shared.segments (caller s client) asked getting (object_of_key s.shared.segments key)))
 gives-plan s client (ShmAt id flags) =
     let call = ShmAt id flags in
     on-shared s call (attach s.shared (caller s client) id flags)

@@ -16,8 +16,8 @@ ghost use Rattle.ipc_history.specs.History.{History, IsLegal, run, own, replies,
 ghost use Rattle.ipc_space.specs.Answers.{can_give, is_end_of};
 ghost use Rattle.ipc_space.specs.Telling.{told_of, replies_in};
 ghost use Rattle.ipc_history.specs.Made.{made};
-ghost use Rattle.ipc_model.specs.Attached.{AreAttached};
-ghost use Rattle.ipc_model.specs.Waits.{AreNotReady, ArePermitted, WaitOnce};
+ghost use Rattle.ipc_model.specs.Segments.{AreAttached};
+ghost use Rattle.ipc_history.specs.Waits.{AreNotReady, ArePermitted, WaitOnce};
 
 pub use ipc_laws::{settling_reads_deadlines, two_worlds, waiting_calls_are_in_time};
 

@@ -23,9 +23,9 @@ ghost use Rattle.ipc_call.specs.Limits.{are_in_range};
 ghost use Rattle.ipc_model.specs.State.{is_waiting as waits};
 ghost use Rattle.ipc_model.specs.Step.{Stepped};
 ghost use Rattle.ipc_history.specs.History.{run, rows_of, rows_by, IsLegal, with_event, next_step, told_own, told_ended, answered_row, rule_in};
-ghost use Rattle.ipc_model.specs.Attached.{AreAttached};
+ghost use Rattle.ipc_model.specs.Segments.{AreAttached};
 ghost use Rattle.ipc_model.specs.Listings.{lines_of};
-ghost use Rattle.ipc_model.specs.Waits.{AreInTime, AreNotReady, ArePermitted, WaitOnce};
+ghost use Rattle.ipc_history.specs.Waits.{AreInTime, AreNotReady, ArePermitted, WaitOnce};
 ghost use Rattle.ipc_space.specs.Spaces.{own_reply, other_replies};
 ghost use Rattle.ipc_space.specs.Telling.{replies_in};
 

@@ -1,6 +1,7 @@
 //! Who calls.
 
 ghost use Rattle.std.specs.Prelude.{◌≡◌, ◌<◌};
+ghost use Rattle.ipc_model.specs.State.{pid_of};
 
 use ipc_creds::Creds;
 use std::marker::Model;
@@ -39,6 +40,13 @@ impl<'a> Caller<'a> {
         ensures few { result < 64 }
     {
         self.client
+    }
+
+    /// Its process: the number of the client plus 1.
+    pub fn pid(&self) -> u32
+        ensures { result ≡ pid_of self.entry.now.client }
+    {
+        self.client + 1
     }
 
     /// Its credentials.

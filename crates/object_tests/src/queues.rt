@@ -2,7 +2,8 @@
 
 use bitflags::Flags;
 use ipc_call::{
-    Answer, IPC_CREAT, IPC_EXCL, IPC_NOWAIT, Items, Limits, MSG_EXCEPT, MSG_NOERROR, Rule, Status,
+    Answer, IPC_CREAT, IPC_EXCL, IPC_NOWAIT, Items, Limits, MSG_EXCEPT, MSG_NOERROR, Receive, Rule,
+    Status,
 };
 use ipc_creds::{Caps, Creds};
 use object_calls::Caller;
@@ -45,10 +46,19 @@ fn send(
     Ok(())
 }
 
+/// What msgrcv asks for.
+fn asked(size: u64, msgtyp: i64, flags: u32) -> Receive {
+    Receive {
+        size,
+        msgtyp,
+        flags,
+    }
+}
+
 /// Receives a message of which one byte is wanted, of another type than this.
 fn receive_but(queues: &mut Queues, who: &Caller, msgtyp: i64) -> Result<(i64, Items<u8>), Fail> {
     let flags = MSG_EXCEPT | MSG_NOERROR;
-    match queues.msgrcv(who, 0, 1, msgtyp, flags) {
+    match queues.msgrcv(who, 0, asked(1, msgtyp, flags)) {
         Some(Ok(Answer::Message { mtype, text })) => Ok((mtype, text)),
         _ => Err(Fail::from("no message")),
     }
@@ -103,9 +113,9 @@ fn check_refusals(rt: &impl Abort, queues: &Queues, who: &Caller) {
 
 /// Receives that leave the only message, two bytes of type 3, in its queue.
 fn check_receives(rt: &impl Abort, queues: &mut Queues, who: &Caller) {
-    assert!(rt; queues.msgrcv(who, 0, 9, 4, IPC_NOWAIT) == Some(Err(Rule::NoMessage)));
-    assert!(rt; queues.msgrcv(who, 0, 9, 4, 0).is_none());
-    assert!(rt; queues.msgrcv(who, 0, 1, 0, 0) == Some(Err(Rule::MessageTooLong)));
+    assert!(rt; queues.msgrcv(who, 0, asked(9, 4, IPC_NOWAIT)) == Some(Err(Rule::NoMessage)));
+    assert!(rt; queues.msgrcv(who, 0, asked(9, 4, 0)).is_none());
+    assert!(rt; queues.msgrcv(who, 0, asked(1, 0, 0)) == Some(Err(Rule::MessageTooLong)));
 }
 
 /// The queue had one message, which client 4 sent and received at time 7.

@@ -148,10 +148,6 @@ seen-of at (Some found) = refl
 pub room-empty : (slots first_seq id : ℕ) → room (empty_table slots first_seq) id ≡ 0
 room-empty slots first_seq id = ap (λ (o : Option (Object Held)). held_places (option_map (λ (object : Object Held). object.contents) o)) (map.get-empty nat_cmp id)
 
-pub IfSome-map : {A : Type 0} (o : Option A) (P Q : A → Type 0) → ((x : A) → P x → Q x) → IfSome o P → IfSome o Q
-IfSome-map None P Q f p = tt
-IfSome-map (Some x) P Q f p = f x p
-
 pub IfOk-map : {A E : Type 0} (r : Result A E) (P Q : A → Type 0) → ((x : A) → P x → Q x) → IfOk r P → IfOk r Q
 IfOk-map (Ok x) P Q f p = f x p
 IfOk-map (Err e) P Q f p = tt

@@ -18,17 +18,15 @@ ghost use Rattle.std.specs.Prelude.{
 ghost use Rattle.ipc_call.specs.declared.limits.Limits.{Limits as LimitsOf};
 ghost use Rattle.ipc_model.specs.State.{Queue as Contents, Queues as Table};
 ghost use Rattle.ipc_model.specs.Decision.{left_by, outcome_of, without_answer};
-ghost use Rattle.ipc_model.specs.Gets.{get_found, get_queue, getting_queue, new_object as object_of, new_queue as new_contents, object_of_key};
-ghost use Rattle.ipc_model.specs.Messages.{receive_message};
-ghost use Rattle.ipc_model.specs.Plan.{decision};
+ghost use Rattle.ipc_model.specs.Gets.{new_object as object_of, new_queue as new_contents, object_of_key};
 ghost use Rattle.ipc_objects.specs.declared.object.Object.{Object as Entry};
 ghost use Rattle.ipc_objects.specs.Seen.{seen};
-ghost use Rattle.queue_calls.specs.Calls.{MaySend, sending};
+ghost use Rattle.queue_calls.specs.Calls.{IsSent, MaySend, getting, getting_found, receiving, sending};
 ghost use Rattle.queue_calls.specs.Held.{one_if, queue_of, queues_of, room};
 
 use crate::queue::Queue;
 use crate::queues::Queues;
-use ipc_call::{Answer, Items, Limits, Memory, Outcome, Rule, creates, may_wait};
+use ipc_call::{Answer, Items, Limits, Memory, Outcome, Receive, Rule, creates, may_wait};
 use ipc_objects::Object;
 use ipc_perm::{Perm, TO_ALTER, TO_READ, Verdict, decide};
 use object_calls::{Caller, may_open, new_object};
@@ -44,8 +42,10 @@ impl Queues {
         key: u32,
         flags: u32,
     ) -> Result<Outcome, Memory>
-        ensures outcome { IfOk result (λ outcome. outcome_of (decision who.entry.now.creds (get_queue limits.now (queues_of self.old) who.entry.now key flags)) ≡ Some outcome) }
-        ensures queues { OnOk result (queues_of self.new ≡ left_by (queues_of self.old) (decision who.entry.now.creds (get_queue limits.now (queues_of self.old) who.entry.now key flags))) }
+        ensures outcome { IfOk result (λ outcome.
+            outcome_of (getting limits.now (queues_of self.old) who.entry.now key flags) ≡ Some outcome) }
+        ensures queues { OnOk result (queues_of self.new
+            ≡ left_by (queues_of self.old) (getting limits.now (queues_of self.old) who.entry.now key flags)) }
         ensures room { (j : ℕ) → room self.new j ≡ room self.old j }
         ensures err { OnErr result (self.new ≡ self.old) }
     {
@@ -64,8 +64,10 @@ impl Queues {
         flags: u32,
     ) -> Result<Outcome, Memory>
         requires { object_of_key (queues_of self.old) key ≡ None }
-        ensures outcome { IfOk result (λ outcome. outcome_of (decision who.entry.now.creds (get_found (queues_of self.old) who.entry.now key flags (getting_queue limits.now) None)) ≡ Some outcome) }
-        ensures queues { OnOk result (queues_of self.new ≡ left_by (queues_of self.old) (decision who.entry.now.creds (get_found (queues_of self.old) who.entry.now key flags (getting_queue limits.now) None))) }
+        ensures outcome { IfOk result (λ outcome.
+            outcome_of (getting_found limits.now (queues_of self.old) who.entry.now key flags None) ≡ Some outcome) }
+        ensures queues { OnOk result (queues_of self.new ≡ left_by (queues_of self.old)
+            (getting_found limits.now (queues_of self.old) who.entry.now key flags None)) }
         ensures room { (j : ℕ) → room self.new j ≡ room self.old j }
         ensures err { OnErr result (self.new ≡ self.old) }
     {
@@ -81,16 +83,10 @@ impl Queues {
     }
 
     /// Receives a message (msgrcv of msgop(2)). None where the call waits. It takes no memory.
-    pub fn msgrcv(
-        &mut self,
-        who: &Caller,
-        id: u32,
-        size: u64,
-        msgtyp: i64,
-        flags: u32,
-    ) -> Option<Outcome>
-        ensures outcome { result ≡ outcome_of (decision who.entry.now.creds (receive_message (queues_of self.old) who.entry.now id size msgtyp flags)) }
-        ensures queues { queues_of self.new ≡ left_by (queues_of self.old) (decision who.entry.now.creds (receive_message (queues_of self.old) who.entry.now id size msgtyp flags)) }
+    pub fn msgrcv(&mut self, who: &Caller, id: u32, asked: Receive) -> Option<Outcome>
+        ensures outcome { result ≡ outcome_of (receiving (queues_of self.old) who.entry.now id asked) }
+        ensures queues { queues_of self.new
+            ≡ left_by (queues_of self.old) (receiving (queues_of self.old) who.entry.now id asked) }
         ensures room { (j : ℕ) → room self.new j ≡ room self.old j }
     {
         let Some(queue) = self.get(id) else {
@@ -99,7 +95,7 @@ impl Queues {
         if let Verdict::Denied(rule) = decide(who.creds(), &queue.perm, TO_READ) {
             return Some(Err(rule));
         }
-        self.take_chosen(who, id, size, msgtyp, flags)
+        self.take_chosen(who, id, asked)
     }
 
     /// Whether a message with a text of `len` bytes may be sent (msgsnd of msgop(2)), or by which rule it is refused.
@@ -113,7 +109,8 @@ impl Queues {
         len: usize,
         flags: u32,
     ) -> Option<Result<(), Rule>>
-        ensures { (text : List ℕ) → length text ≡ len → result ≡ without_answer (sending limits.now (queues_of self.now) who.entry.now id flags (record { mtype = mtype; text = text })) }
+        ensures { (text : List ℕ) → length text ≡ len → result ≡ without_answer
+            (sending limits.now (queues_of self.now) who.entry.now id flags (record { mtype = mtype; text = text })) }
     {
         if mtype < 1 {
             return Some(Err(Rule::BadType));
@@ -136,8 +133,8 @@ impl Queues {
         }
     }
 
-    /// Sends a message, which was decided (msgsnd of msgop(2)). Memory comes where a growth was refused, and then nothing
-    /// has changed.
+    /// Sends a message, which was decided (msgsnd of msgop(2)). Memory comes where a growth was refused, and then
+    /// nothing has changed.
     pub fn msgsnd(
         &mut self,
         who: &Caller,
@@ -146,30 +143,30 @@ impl Queues {
         text: Items<u8>,
     ) -> Result<(), Memory>
         requires { MaySend (queues_of self.old) who.now id (record { mtype = mtype; text = text }) }
-        ensures queues { OnOk result ((limits : LimitsOf) (flags : ℕ) → without_answer (sending limits (queues_of self.old) who.entry.now id flags (record { mtype = mtype; text = text })) ≡ Some (Ok tt)
-            → queues_of self.new ≡ left_by (queues_of self.old) (sending limits (queues_of self.old) who.entry.now id flags (record { mtype = mtype; text = text }))) }
+        ensures queues { OnOk result (IsSent (queues_of self.old) who.entry.now id
+            (record { mtype = mtype; text = text }) (queues_of self.new)) }
         ensures room { (j : ℕ) → room self.new j ≡ room self.old j }
         ensures err { OnErr result (self.new ≡ self.old) }
     {
-        self.send(id, who.client(), mtype, text, who.now())
+        self.send(id, who, mtype, text)
     }
 
     /// Sends a message, which was decided, in a place that was reserved (msgsnd of msgop(2)). It takes no memory.
     pub fn send_reserved(&mut self, who: &Caller, id: u32, mtype: i64, text: Items<u8>)
         requires granted { MaySend (queues_of self.old) who.now id (record { mtype = mtype; text = text }) }
         requires reserved { 0 < room self.old id }
-        ensures queues { (limits : LimitsOf) (flags : ℕ) → without_answer (sending limits (queues_of self.old) who.entry.now id flags (record { mtype = mtype; text = text })) ≡ Some (Ok tt)
-            → queues_of self.new ≡ left_by (queues_of self.old) (sending limits (queues_of self.old) who.entry.now id flags (record { mtype = mtype; text = text })) }
+        ensures queues { IsSent (queues_of self.old) who.entry.now id
+            (record { mtype = mtype; text = text }) (queues_of self.new) }
         ensures room { (j : ℕ) → room self.new j + one_if (j == id) ≡ room self.old j }
     {
-        self.put(id, who.client(), mtype, text, who.now());
+        self.put(id, who, mtype, text);
     }
 }
 
 /// msgget with a key that a queue has.
 fn found_queue(who: &Caller, id: u32, perm: &Perm, flags: u32) -> Outcome
     ensures outcome { (t : Table) (key : ℕ) (limits : LimitsOf) (queue : Entry Contents) → queue.perm ≡ perm.now
-        → outcome_of (decision who.entry.now.creds (get_found t who.entry.now key flags (getting_queue limits) (Some (id, queue)))) ≡ Some result }
+        → outcome_of (getting_found limits t who.entry.now key flags (Some (id, queue))) ≡ Some result }
 {
     may_open(who, perm, flags)?;
     Ok(Answer::Id(id))

@@ -16,19 +16,16 @@ ghost use Rattle.std.specs.Prelude.{
   take,
   unwrap_or,
 };
-ghost use Rattle.ipc_call.specs.Flags.{has_flag, msg_except};
 ghost use Rattle.ipc_model.specs.Controls.{status_of_queue};
 ghost use Rattle.ipc_model.specs.Decision.{left_by, outcome_of};
-ghost use Rattle.ipc_model.specs.Messages.{chosen, take_chosen, with_message};
-ghost use Rattle.ipc_model.specs.Plan.{decision};
-ghost use Rattle.ipc_model.specs.State.{Queues as Table};
-ghost use Rattle.ipc_objects.specs.Objects.{contents_of, with_contents};
+ghost use Rattle.ipc_model.specs.Messages.{with_message};
 ghost use Rattle.ipc_objects.specs.Seen.{seen};
 ghost use Rattle.msg_queue.specs.Messages.{is_full};
+ghost use Rattle.queue_calls.specs.Calls.{taking};
 ghost use Rattle.queue_calls.specs.Held.{queue_of};
 
 use ipc_call::{
-    Answer, Items, Memory, Outcome, QueueStatus, Rule, Status, cuts_text, may_wait,
+    Answer, Items, Memory, Outcome, QueueStatus, Receive, Rule, Status, cuts_text, may_wait,
     takes_other_types,
 };
 use ipc_objects::Object;
@@ -114,47 +111,42 @@ impl Queue {
         self.messages.free_one();
     }
 
-    /// Adds a message at the end, in a place that was reserved, from this client at a time in seconds (msgsnd
-    /// of msgop(2)). It takes no memory.
-    pub(super) fn send(&mut self, client: u32, mtype: i64, text: Items<u8>, now: u64)
-        requires client { client < 64 }
+    /// Adds a message of the caller at the end, in a place that was reserved (msgsnd of msgop(2)). It takes no memory.
+    pub(super) fn send(&mut self, who: &Caller, mtype: i64, text: Items<u8>)
         requires reserved { 0 < self.old.reserved }
         requires room { is_full self.old.queue.messages self.old.queue.qbytes (length text) ≡ false }
-        ensures queue { self.new.queue ≡ with_message client now (record { mtype = mtype; text = text }) self.old.queue }
+        ensures queue { self.new.queue
+            ≡ with_message who.entry.now (record { mtype = mtype; text = text }) self.old.queue }
         ensures reserved { self.new.reserved + 1 ≡ self.old.reserved }
     {
         self.messages.put(mtype, text);
-        self.last_sender = client + 1;
-        self.send_time = now;
+        self.last_sender = who.pid();
+        self.send_time = who.now();
     }
 
     /// Receives the message that a receiver takes (msgrcv of msgop(2)): how the call ends, None where no message fits
-    /// and it waits. `flags` are those of the call. It takes no memory.
-    pub(super) fn take_chosen(
-        &mut self,
-        who: &Caller,
-        size: u64,
-        msgtyp: i64,
-        flags: u32,
-    ) -> Option<Outcome>
-        ensures outcome { (t : Table) (id : ℕ) → result ≡ outcome_of (decision who.entry.now.creds (take_chosen t who.entry.now id size flags self.old.queue (chosen self.old.queue.messages msgtyp (has_flag flags msg_except)))) }
-        ensures left { (t : Table) (id : ℕ) → contents_of t id ≡ Some self.old.queue
-            → left_by t (decision who.entry.now.creds (take_chosen t who.entry.now id size flags self.old.queue (chosen self.old.queue.messages msgtyp (has_flag flags msg_except)))) ≡ with_contents t id self.new.queue }
+    /// and it waits. It takes no memory.
+    pub(super) fn take_chosen(&mut self, who: &Caller, asked: Receive) -> Option<Outcome>
+        ensures outcome { result ≡ outcome_of (taking who.entry.now asked self.old.queue) }
+        ensures queue { self.new.queue ≡ left_by self.old.queue (taking who.entry.now asked self.old.queue) }
         ensures reserved { self.new.reserved ≡ self.old.reserved }
     {
-        let Some((place, len)) = self.messages.choose(msgtyp, takes_other_types(flags)) else {
-            return if may_wait(flags) {
+        let Some((place, len)) = self
+            .messages
+            .choose(asked.msgtyp, takes_other_types(asked.flags))
+        else {
+            return if may_wait(asked.flags) {
                 None
             } else {
                 Some(Err(Rule::NoMessage))
             };
         };
-        if len as u64 > size && !cuts_text(flags) {
+        if len as u64 > asked.size && !cuts_text(asked.flags) {
             return Some(Err(Rule::MessageTooLong));
         }
         let (mtype, mut text) = self.messages.take(place);
-        text.truncate(size as usize);
-        self.last_receiver = who.client() + 1;
+        text.truncate(asked.size as usize);
+        self.last_receiver = who.pid();
         self.receive_time = who.now();
         Some(Ok(Answer::Message { mtype, text }))
     }

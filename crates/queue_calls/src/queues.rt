@@ -19,20 +19,20 @@ ghost use Rattle.std.specs.Prelude.{
   option_copied,
   option_map,
 };
-ghost use Rattle.ipc_ids.specs.Table.{empty_table, find_object, ids_of, next_id as id_of_next, with_object, without_object};
-ghost use Rattle.ipc_call.specs.Flags.{has_flag, msg_except};
+ghost use Rattle.ipc_ids.specs.Table.{empty_table, find_object, ids_of, next_id as id_of_next};
+ghost use Rattle.ipc_ids.specs.Table.{with_object, without_object};
 ghost use Rattle.ipc_model.specs.Controls.{perm_in, with_settings};
 ghost use Rattle.ipc_model.specs.Gets.{object_of_key};
 ghost use Rattle.ipc_model.specs.Decision.{left_by, outcome_of};
-ghost use Rattle.ipc_model.specs.Plan.{decision};
-ghost use Rattle.ipc_model.specs.Messages.{chosen, queue_at, take_chosen, with_message};
+ghost use Rattle.ipc_model.specs.Messages.{queue_at, with_message};
 ghost use Rattle.ipc_objects.specs.Objects.{changed, has_key, with_contents};
 ghost use Rattle.ipc_objects.specs.Seen.{seen};
 ghost use Rattle.msg_queue.specs.Messages.{is_full};
+ghost use Rattle.queue_calls.specs.Calls.{taking_in};
 ghost use Rattle.queue_calls.specs.Held.{one_if, queue_of, queues_of, room};
 
 use crate::queue::Queue;
-use ipc_call::{Items, Memory, Outcome, Settings};
+use ipc_call::{Items, Memory, Outcome, Receive, Settings};
 use ipc_objects::{Object, Objects};
 use ipc_perm::Perm;
 use object_calls::{Caller, owner_of};
@@ -80,14 +80,16 @@ impl Queues {
 
     /// The queue of a key, with its identifier. None for key 0, IPC_PRIVATE.
     pub(super) fn seek(&self, key: u32) -> Option<(u32, &Object<Queue>)>
-        ensures { option_map (λ found. (found.0, seen queue_of found.1.now)) result ≡ object_of_key (queues_of self.now) key }
+        ensures { option_map (λ found. (found.0, seen queue_of found.1.now)) result
+            ≡ object_of_key (queues_of self.now) key }
     {
         self.objects.seek(key)
     }
 
     /// The queue of an identifier.
     pub fn get(&self, id: u32) -> Option<&Object<Queue>>
-        ensures { option_map (λ object. seen queue_of object) (option_copied result) ≡ queue_at (queues_of self.now) id }
+        ensures { option_map (λ object. seen queue_of object) (option_copied result)
+            ≡ queue_at (queues_of self.now) id }
     {
         self.objects.get(id)
     }
@@ -120,7 +122,8 @@ impl Queues {
         requires free { find_object (has_key queue.perm.key) (queues_of self.old) ≡ None }
         requires unreserved { queue.contents.reserved ≡ 0 }
         ensures id { IfOk result (λ id. id_of_next (queues_of self.old) ≡ Some id) }
-        ensures ok { IfOk result (λ id. queues_of self.new ≡ with_object (queues_of self.old) id (seen queue_of queue)) }
+        ensures ok { IfOk result (λ id.
+            queues_of self.new ≡ with_object (queues_of self.old) id (seen queue_of queue)) }
         ensures room { (j : ℕ) → room self.new j ≡ room self.old j }
         ensures err { OnErr result (self.new ≡ self.old) }
     {
@@ -167,20 +170,21 @@ impl Queues {
         queue.release();
     }
 
-    /// Adds a message at the end of the queue of an identifier, which there is, from this client at a time in seconds
-    /// (msgsnd of msgop(2)). Memory comes where a growth was refused, and then nothing has changed.
+    /// Adds a message of the caller at the end of the queue of an identifier, which there is (msgsnd of msgop(2)). Memory
+    /// comes where a growth was refused, and then nothing has changed.
     pub(super) fn send(
         &mut self,
         id: u32,
-        client: u32,
+        who: &Caller,
         mtype: i64,
         text: Items<u8>,
-        now: u64,
     ) -> Result<(), Memory>
-        requires client { client < 64 }
         requires there { IsSome (queue_at (queues_of self.old) id) }
-        requires room { IfSome (queue_at (queues_of self.old) id) (λ queue. is_full queue.contents.messages queue.contents.qbytes (length text) ≡ false) }
-        ensures queues { OnOk result (IfSome (queue_at (queues_of self.old) id) (λ queue. queues_of self.new ≡ with_contents (queues_of self.old) id (with_message client now (record { mtype = mtype; text = text }) queue.contents))) }
+        requires room { IfSome (queue_at (queues_of self.old) id)
+            (λ queue. is_full queue.contents.messages queue.contents.qbytes (length text) ≡ false) }
+        ensures queues { OnOk result (IfSome (queue_at (queues_of self.old) id) (λ queue. queues_of self.new
+            ≡ with_contents (queues_of self.old) id
+            (with_message who.entry.now (record { mtype = mtype; text = text }) queue.contents))) }
         ensures room { (j : ℕ) → room self.new j ≡ room self.old j }
         ensures err { OnErr result (self.new ≡ self.old) }
     {
@@ -188,44 +192,41 @@ impl Queues {
             unreachable!()
         };
         queue.reserve()?;
-        queue.send(client, mtype, text, now);
+        queue.send(who, mtype, text);
         Ok(())
     }
 
-    /// Adds a message at the end of the queue of an identifier, in a place that was reserved, from this client at a
-    /// time in seconds (msgsnd of msgop(2)). It takes no memory.
-    pub(super) fn put(&mut self, id: u32, client: u32, mtype: i64, text: Items<u8>, now: u64)
-        requires client { client < 64 }
+    /// Adds a message of the caller at the end of the queue of an identifier, in a place that was reserved (msgsnd of
+    /// msgop(2)). It takes no memory.
+    pub(super) fn put(&mut self, id: u32, who: &Caller, mtype: i64, text: Items<u8>)
         requires reserved { 0 < room self.old id }
-        requires room { IfSome (queue_at (queues_of self.old) id) (λ queue. is_full queue.contents.messages queue.contents.qbytes (length text) ≡ false) }
-        ensures queues { IfSome (queue_at (queues_of self.old) id) (λ queue. queues_of self.new ≡ with_contents (queues_of self.old) id (with_message client now (record { mtype = mtype; text = text }) queue.contents)) }
+        requires room { IfSome (queue_at (queues_of self.old) id)
+            (λ queue. is_full queue.contents.messages queue.contents.qbytes (length text) ≡ false) }
+        ensures queues { IfSome (queue_at (queues_of self.old) id) (λ queue. queues_of self.new
+            ≡ with_contents (queues_of self.old) id
+            (with_message who.entry.now (record { mtype = mtype; text = text }) queue.contents)) }
         ensures room { (j : ℕ) → room self.new j + one_if (j == id) ≡ room self.old j }
     {
         let Some(queue) = self.objects.contents_mut(id) else {
             unreachable!()
         };
-        queue.send(client, mtype, text, now);
+        queue.send(who, mtype, text);
     }
 
     /// Receives the message that a receiver takes of the queue of an identifier, which there is (msgrcv of msgop(2)):
     /// how the call ends, None where it waits. It takes no memory.
-    pub(super) fn take_chosen(
-        &mut self,
-        who: &Caller,
-        id: u32,
-        size: u64,
-        msgtyp: i64,
-        flags: u32,
-    ) -> Option<Outcome>
+    pub(super) fn take_chosen(&mut self, who: &Caller, id: u32, asked: Receive) -> Option<Outcome>
         requires { IsSome (queue_at (queues_of self.old) id) }
-        ensures outcome { IfSome (queue_at (queues_of self.old) id) (λ queue. result ≡ outcome_of (decision who.entry.now.creds (take_chosen (queues_of self.old) who.entry.now id size flags queue.contents (chosen queue.contents.messages msgtyp (has_flag flags msg_except))))) }
-        ensures queues { IfSome (queue_at (queues_of self.old) id) (λ queue. queues_of self.new ≡ left_by (queues_of self.old) (decision who.entry.now.creds (take_chosen (queues_of self.old) who.entry.now id size flags queue.contents (chosen queue.contents.messages msgtyp (has_flag flags msg_except))))) }
+        ensures outcome { IfSome (queue_at (queues_of self.old) id) (λ queue.
+            result ≡ outcome_of (taking_in (queues_of self.old) id who.entry.now asked queue.contents)) }
+        ensures queues { IfSome (queue_at (queues_of self.old) id) (λ queue. queues_of self.new
+            ≡ left_by (queues_of self.old) (taking_in (queues_of self.old) id who.entry.now asked queue.contents)) }
         ensures room { (j : ℕ) → room self.new j ≡ room self.old j }
     {
         let Some(queue) = self.objects.contents_mut(id) else {
             unreachable!()
         };
-        queue.take_chosen(who, size, msgtyp, flags)
+        queue.take_chosen(who, asked)
     }
 
     /// Takes out the queue of an identifier, which there is and has no place reserved, and frees its key. It takes

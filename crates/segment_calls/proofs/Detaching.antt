@@ -8,8 +8,9 @@ use Rattle.client_map.proofs.Orders.{key_total}
 use Rattle.shm_seg.specs.declared.attachments.Attachment.{Attachment}
 use Rattle.shm_seg.specs.Attachments.{Attached, attachment_at, first_number, without_attachment}
 use Rattle.shm_seg.proofs.Changes.{attached_again, detached_apart, detached_here, detached_none, first_is_least, first_none}
-use Rattle.ipc_model.specs.State.{Caller, Shared}
-use Rattle.ipc_model.specs.Segments.{after_detaches, detached, detached_from, without_number}
+use Rattle.ipc_objects.specs.declared.object.Object.{Object}
+use Rattle.ipc_model.specs.State.{Caller, Segment, Shared}
+use Rattle.ipc_model.specs.Segments.{after_detaches, detached, detached_from, left_segment, segment_at, without_number}
 
 module _ (who : Caller) where
   -- nothing is attached under the number
@@ -20,13 +21,19 @@ module _ (who : Caller) where
   pub detached-none : (s : Shared) (number : ℕ) → IsFree s number → detached s who number ≡ s
   detached-none s number free = ap (λ (o : Option Attachment). without_number s who number o) free
 
+  -- what becomes of the segment changes nothing that is attached
+  left-attached : (s : Shared) (id : ℕ) (o : Option (Object Segment)) → (left_segment s who id o).attached ≡ s.attached
+  left-attached s id None = refl
+  left-attached s id (Some segment) = refl
+
   -- what is attached after a detach
   attached-left : (s : Shared) (number : ℕ) → (detached s who number).attached ≡ without_attachment s.attached who.client number
   attached-left s number = by (attachment_at s.attached who.client number) refl
     where
       by : (o : Option Attachment) → attachment_at s.attached who.client number ≡ o → (without_number s who number o).attached ≡ without_attachment s.attached who.client number
       by None is = sym (detached_none s.attached who.client number is)
-      by (Some a) is = refl
+      by (Some a) is =
+          left-attached (record s { attached = without_attachment s.attached who.client number }) a.segment (segment_at s a.segment)
 
   free-here : (s : Shared) (number : ℕ) → IsFree (detached s who number) number
   free-here s number =

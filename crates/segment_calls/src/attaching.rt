@@ -2,10 +2,10 @@
 
 ghost use Rattle.std.specs.Prelude.{◌≡◌, ◌<◌, Some, None, IfOk, OnOk, OnErr, IfSome, IsSome};
 ghost use Rattle.ipc_model.specs.Decision.{left_by, outcome_of};
-ghost use Rattle.ipc_model.specs.Plan.{decision};
-ghost use Rattle.ipc_model.specs.Segments.{after_detaches, attach as attaching, detach as detaching, detached, detached_by, left_shared};
+ghost use Rattle.ipc_model.specs.Segments.{after_detaches, attachment_to, detached, detached_by, left_segment};
 ghost use Rattle.ipc_model.specs.Segments.{segment_at, wanted_to_attach, with_attached};
 ghost use Rattle.ipc_objects.specs.Objects.{with_contents};
+ghost use Rattle.segment_calls.specs.Calls.{attaching, detaching};
 ghost use Rattle.shm_seg.specs.Attachments.{attachment_at};
 
 use crate::segments::Segments;
@@ -19,8 +19,9 @@ impl Segments {
     /// flags for reading alone (shmat of shmop(2)). Memory comes where a growth was refused, and then nothing has
     /// changed.
     pub fn shmat(&mut self, who: &Caller, id: u32, flags: u32) -> Result<Outcome, Memory>
-        ensures outcome { IfOk result (λ outcome. outcome_of (decision who.entry.now.creds (attaching self.old who.entry.now id flags)) ≡ Some outcome) }
-        ensures shared { OnOk result (self.new ≡ left_by self.old (decision who.entry.now.creds (attaching self.old who.entry.now id flags))) }
+        ensures outcome { IfOk result (λ outcome.
+            outcome_of (attaching self.old who.entry.now id flags) ≡ Some outcome) }
+        ensures shared { OnOk result (self.new ≡ left_by self.old (attaching self.old who.entry.now id flags)) }
         ensures err { OnErr result (self.new ≡ self.old) }
     {
         let Some(segment) = self.get(id) else {
@@ -41,7 +42,8 @@ impl Segments {
         requires there { IsSome (segment_at self.old id) }
         requires number { number < 4096 }
         requires free { attachment_at self.old.attached who.now.client number ≡ None }
-        ensures ok { OnOk result (IfSome (segment_at self.old id) (λ segment. self.new ≡ with_attached self.old who.entry.now id flags segment.contents number)) }
+        ensures ok { OnOk result (IfSome (segment_at self.old id) (λ segment.
+            self.new ≡ with_attached self.old who.entry.now number (attachment_to id flags) segment.contents)) }
         ensures err { OnErr result (self.new ≡ self.old) }
     {
         let attachment = Attachment {
@@ -52,7 +54,7 @@ impl Segments {
         let Some(segment) = self.segments.contents_mut(id) else {
             unreachable!()
         };
-        segment.last = who.client() + 1;
+        segment.last = who.pid();
         segment.attach_time = who.now();
         Ok(())
     }
@@ -60,8 +62,8 @@ impl Segments {
     /// Detaches what the caller has attached under a number (shmdt of shmop(2)). A segment that is marked for removal
     /// goes with its last attachment (IPC_RMID of shmctl(2)). It takes no memory.
     pub fn shmdt(&mut self, who: &Caller, att: u32) -> Outcome
-        ensures outcome { outcome_of (decision who.entry.now.creds (detaching self.old who.entry.now att)) ≡ Some result }
-        ensures shared { self.new ≡ left_by self.old (decision who.entry.now.creds (detaching self.old who.entry.now att)) }
+        ensures outcome { outcome_of (detaching self.old who.entry.now att) ≡ Some result }
+        ensures shared { self.new ≡ left_by self.old (detaching self.old who.entry.now att) }
     {
         if self.attached.get(who.client(), att).is_none() {
             return Err(Rule::NotAttached);
@@ -91,7 +93,7 @@ impl Segments {
 
     /// What the detach of one of its attachments leaves of the segment of an identifier, where there is one.
     fn leave(&mut self, who: &Caller, id: u32)
-        ensures { self.new ≡ left_shared self.old.segments self.old.attached who.entry.now id }
+        ensures { self.new ≡ left_segment self.old who.entry.now id (segment_at self.old id) }
     {
         let Some(segment) = self.get(id) else {
             return;
@@ -106,12 +108,14 @@ impl Segments {
     /// Sets who detached the segment of an identifier last, which there is, and when.
     fn note_detach(&mut self, who: &Caller, id: u32)
         requires { IsSome (segment_at self.old id) }
-        ensures { IfSome (segment_at self.old id) (λ segment. self.new ≡ record self.old { segments = with_contents self.old.segments id (detached_by who.entry.now segment.contents) }) }
+        ensures { IfSome (segment_at self.old id) (λ segment. self.new ≡ record self.old {
+          segments = with_contents self.old.segments id (detached_by who.entry.now segment.contents);
+        }) }
     {
         let Some(segment) = self.segments.contents_mut(id) else {
             unreachable!()
         };
-        segment.last = who.client() + 1;
+        segment.last = who.pid();
         segment.detach_time = who.now();
     }
 }

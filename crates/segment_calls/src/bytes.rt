@@ -2,8 +2,8 @@
 
 ghost use Rattle.std.specs.Prelude.{◌≡◌, Some, IfOk, option_map};
 ghost use Rattle.ipc_model.specs.Decision.{left_by, outcome_of};
-ghost use Rattle.ipc_model.specs.Plan.{decision};
-ghost use Rattle.ipc_model.specs.Segments.{behind as behind_number, read_bytes, write_bytes};
+ghost use Rattle.ipc_model.specs.Segments.{behind as behind_number};
+ghost use Rattle.segment_calls.specs.Calls.{reading, writing};
 
 use crate::segment::Segment;
 use crate::segments::Segments;
@@ -17,8 +17,9 @@ impl Segments {
     /// allocation of the bytes fails. That a call reads, in the place of mapped memory, is the project's own. As there,
     /// the right was asked at shmat, and isn't asked again (shmop(2)).
     pub fn shmread(&self, who: &Caller, att: u32, offset: u64, len: u64) -> Result<Outcome, Memory>
-        ensures outcome { IfOk result (λ outcome. outcome_of (decision who.entry.now.creds (read_bytes self.now who.entry.now att offset len)) ≡ Some outcome) }
-        ensures same { left_by self.now (decision who.entry.now.creds (read_bytes self.now who.entry.now att offset len)) ≡ self.now }
+        ensures outcome { IfOk result (λ outcome.
+            outcome_of (reading self.now who.entry.now att offset len) ≡ Some outcome) }
+        ensures same { left_by self.now (reading self.now who.entry.now att offset len) ≡ self.now }
     {
         let Some((_, segment)) = self.behind(who, att) else {
             return Ok(Err(Rule::NotAttached));
@@ -34,8 +35,8 @@ impl Segments {
     /// takes no memory. That a call writes, in the place of mapped memory, is the project's own. As there, the right
     /// was asked at shmat, and isn't asked again (shmop(2)).
     pub fn shmwrite(&mut self, who: &Caller, att: u32, offset: u64, bytes: &[u8]) -> Outcome
-        ensures outcome { outcome_of (decision who.entry.now.creds (write_bytes self.old who.entry.now att offset bytes.now)) ≡ Some result }
-        ensures shared { self.new ≡ left_by self.old (decision who.entry.now.creds (write_bytes self.old who.entry.now att offset bytes.now)) }
+        ensures outcome { outcome_of (writing self.old who.entry.now att offset bytes.now) ≡ Some result }
+        ensures shared { self.new ≡ left_by self.old (writing self.old who.entry.now att offset bytes.now) }
     {
         let Some((attachment, _)) = self.behind(who, att) else {
             return Err(Rule::NotAttached);
@@ -52,7 +53,8 @@ impl Segments {
 
     /// What the caller has attached under a number, with its segment.
     fn behind(&self, who: &Caller, att: u32) -> Option<(Attachment, &Object<Segment>)>
-        ensures { option_map (λ there. (there.0, there.1.now)) result ≡ behind_number self.now who.entry.now.client att }
+        ensures { option_map (λ there. (there.0, there.1.now)) result
+            ≡ behind_number self.now who.entry.now.client att }
     {
         let attachment = self.attached.get(who.client(), att)?;
         let segment = self.get(attachment.segment)?;

@@ -4,10 +4,10 @@ ghost use Rattle.std.specs.Prelude.{◌≡◌, ℕ, Some, None, IfOk, OnOk, OnEr
 ghost use Rattle.ipc_call.specs.declared.limits.Limits.{Limits as LimitsOf};
 ghost use Rattle.ipc_model.specs.State.{Segment as Contents};
 ghost use Rattle.ipc_model.specs.Decision.{left_by, outcome_of};
-ghost use Rattle.ipc_model.specs.Gets.{get_found, get_segment, getting_segment, object_of_key};
-ghost use Rattle.ipc_model.specs.Plan.{decision};
+ghost use Rattle.ipc_model.specs.Gets.{object_of_key};
 ghost use Rattle.ipc_ids.specs.Table.{Table};
 ghost use Rattle.ipc_objects.specs.declared.object.Object.{Object as Entry};
+ghost use Rattle.segment_calls.specs.Calls.{getting, getting_found};
 
 use crate::segment::Segment;
 use crate::segments::Segments;
@@ -26,8 +26,10 @@ impl Segments {
         size: u64,
         flags: u32,
     ) -> Result<Outcome, Memory>
-        ensures outcome { IfOk result (λ outcome. outcome_of (decision who.entry.now.creds (get_segment limits.now self.old who.entry.now key size flags)) ≡ Some outcome) }
-        ensures shared { OnOk result (self.new ≡ left_by self.old (decision who.entry.now.creds (get_segment limits.now self.old who.entry.now key size flags))) }
+        ensures outcome { IfOk result (λ outcome.
+            outcome_of (getting limits.now self.old who.entry.now key size flags) ≡ Some outcome) }
+        ensures shared { OnOk result
+            (self.new ≡ left_by self.old (getting limits.now self.old who.entry.now key size flags)) }
         ensures err { OnErr result (self.new ≡ self.old) }
     {
         match self.segments.seek(key) {
@@ -46,8 +48,10 @@ impl Segments {
         flags: u32,
     ) -> Result<Outcome, Memory>
         requires { object_of_key self.old.segments key ≡ None }
-        ensures outcome { IfOk result (λ outcome. outcome_of (decision who.entry.now.creds (get_found self.old.segments who.entry.now key flags (getting_segment limits.now who.entry.now.client size) None)) ≡ Some outcome) }
-        ensures segments { OnOk result (self.new.segments ≡ left_by self.old.segments (decision who.entry.now.creds (get_found self.old.segments who.entry.now key flags (getting_segment limits.now who.entry.now.client size) None))) }
+        ensures outcome { IfOk result (λ outcome.
+            outcome_of (getting_found limits.now self.old.segments who.entry.now key size flags None) ≡ Some outcome) }
+        ensures segments { OnOk result (self.new.segments ≡ left_by self.old.segments
+            (getting_found limits.now self.old.segments who.entry.now key size flags None)) }
         ensures attached { self.new.attached ≡ self.old.attached }
         ensures err { OnErr result (self.new ≡ self.old) }
     {
@@ -60,7 +64,7 @@ impl Segments {
         if self.segments.next_id().is_none() {
             return Ok(Err(Rule::NoSlot));
         }
-        let segment = Segment::new(self.alloc, who.client(), size)?;
+        let segment = Segment::new(self.alloc, who, size)?;
         let id = self.segments.insert(new_object(who, key, flags, segment))?;
         Ok(Ok(Answer::Id(id)))
     }
@@ -68,7 +72,8 @@ impl Segments {
 
 /// shmget with a key that a segment has.
 fn found_segment(who: &Caller, id: u32, segment: &Object<Segment>, size: u64, flags: u32) -> Outcome
-    ensures { (t : Table (Entry Contents)) (limits : LimitsOf) (key : ℕ) → outcome_of (decision who.entry.now.creds (get_found t who.entry.now key flags (getting_segment limits who.entry.now.client size) (Some (id, segment.now)))) ≡ Some result }
+    ensures { (t : Table (Entry Contents)) (limits : LimitsOf) (key : ℕ)
+        → outcome_of (getting_found limits t who.entry.now key size flags (Some (id, segment.now))) ≡ Some result }
 {
     may_open(who, &segment.perm, flags)?;
     if size > segment.contents.memory.len() {

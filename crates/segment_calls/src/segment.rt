@@ -1,11 +1,12 @@
 //! What a segment holds.
 
-ghost use Rattle.std.specs.Prelude.{◌≡◌, ◌<◌, IfOk};
+ghost use Rattle.std.specs.Prelude.{◌≡◌, IfOk};
 ghost use Rattle.ipc_model.specs.Controls.{status_of_segment};
 ghost use Rattle.ipc_model.specs.Gets.{new_segment};
 
 use ipc_call::{Memory, SegmentStatus, Status};
 use ipc_objects::Object;
+use object_calls::Caller;
 use std::alloc::Global;
 use std::marker::Model;
 
@@ -40,15 +41,13 @@ impl Model for Segment {
 }
 
 impl Segment {
-    /// A segment of `size` bytes that are 0, which the client of this number creates. The error comes only where an
-    /// allocation fails.
-    pub fn new(alloc: Global, client: u32, size: u64) -> Result<Segment, Memory>
-        requires { client < 64 }
-        ensures { IfOk result (λ segment. segment ≡ new_segment client size) }
+    /// A segment of `size` bytes that are 0, which the caller creates. The error comes only where an allocation fails.
+    pub fn new(alloc: Global, who: &Caller, size: u64) -> Result<Segment, Memory>
+        ensures { IfOk result (λ segment. segment ≡ new_segment who.entry.now.client size) }
     {
         Ok(Segment {
             memory: shm_seg::Segment::new(alloc, size)?,
-            creator: client + 1,
+            creator: who.pid(),
             last: 0,
             attach_time: 0,
             detach_time: 0,

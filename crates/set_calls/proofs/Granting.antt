@@ -11,9 +11,7 @@ use Rattle.ipc_call.specs.declared.rules.Rule.{Rule}
 use Rattle.ipc_call.specs.declared.rules.Rule.TheVariants.{BadId, NoOperations, SemOutOfSet, TooManyOperations}
 use Rattle.ipc_call.specs.declared.replies.Answer.{Answer}
 use Rattle.ipc_call.specs.declared.replies.Answer.TheVariants.{Done}
-use Rattle.ipc_perm.specs.declared.access.Verdict.{Verdict}
-use Rattle.ipc_perm.specs.declared.access.Verdict.TheVariants.{Allowed, Denied}
-use Rattle.ipc_perm.specs.Access.{Permission, denial, denied_rule}
+use Rattle.ipc_perm.specs.Access.{Permission, denial}
 use Rattle.ipc_ids.specs.Table.{Table}
 use Rattle.ipc_objects.specs.declared.object.Object.{Object}
 use Rattle.ipc_objects.specs.Objects.{contents_of}
@@ -111,10 +109,6 @@ module _ (sems : Sems) (who : Caller) (id : ℕ) (ops : List SemOper) where
 -- what is said of a set that is there
 pub told-there : {X : Type 0} (o : Option X) (x : X) (P : X → Type 0) → o ≡ Some x → IfSome o P → P x
 told-there o x P there is = subst (λ p. IfSome p P) there is
-
-pub not-denied : (v : Verdict) → ((rule : Rule) → v ≡ Denied rule → ⊥) → None ≡ denied_rule v
-not-denied (Allowed _) ne = refl
-not-denied (Denied rule) ne = absurd (ne rule refl)
 
 -- the contents that are lent are those of the set
 pub contents-are : (t : Table (Object SemSet)) (now : Table (Object SemSet)) (id : ℕ) (set : Object SemSet) (old : SemSet) → t ≡ now → finite.get now.objects id ≡ Some set → Some old ≡ contents_of t id → old ≡ set.contents

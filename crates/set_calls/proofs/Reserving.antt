@@ -3,7 +3,7 @@ use Rattle.std.proofs.Common.{◌≡◌, ℕ, ◌<◌, ◌≤◌, Bool, true, fa
 use Rattle.std.specs.Prelude.{◌&&◌, ◌||◌, nat_lt, unwrap_or, if◌then◌else◌, Option}
 use Rattle.std.specs.FinMap as finite
 use Rattle.std.specs.List.{AllByRecursion, list_any}
-use Rattle.std.proofs.lemmas.Bool.{cases_Bool, cases_eq, false≢true}
+use Rattle.std.proofs.lemmas.Bool.{cases_Bool, false≢true}
 use Rattle.ipc_call.specs.declared.calls.SemOper.{SemOper}
 use Rattle.sem_set.specs.declared.sets.Semaphore.{Semaphore}
 use Rattle.sem_set.specs.Trials.{are_in, undoes}

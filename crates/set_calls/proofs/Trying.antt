@@ -1,5 +1,5 @@
 -- The trial of a semop: its plan has it as checks in order.
-use Rattle.std.proofs.Common.{◌≡◌, ℕ, ℤ, pos, Bool, true, false, cond, List, [], ◌∷◌, ◌++◌, ◌+◌, ◌+ℤ◌, ◌-ℤ◌, refl, sym, ap, ◌∙◌, Option, Some, None}
+use Rattle.std.proofs.Common.{◌≡◌, ℕ, ℤ, Bool, true, false, cond, List, [], ◌∷◌, ◌++◌, ◌+◌, ◌+ℤ◌, ◌-ℤ◌, refl, sym, ap, ◌∙◌, Option, Some, None}
 use Rattle.std.specs.Prelude.{◌&&◌, int_lt, not, option_map, unwrap_or, if◌then◌else◌}
 use Rattle.ipc_call.specs.Flags.{has_flag, ipc_nowait}
 use Rattle.ipc_call.specs.declared.calls.SemOper.{SemOper}

@@ -7,7 +7,7 @@ use Rattle.sem_set.specs.declared.trials.Trial.{Trial}
 use Rattle.sem_set.specs.declared.trials.Trial.TheVariants.{Go, Wait, Refuse}
 use Rattle.sem_set.specs.Trials.{is_semadj, undoes}
 use Rattle.sem_undo.specs.Entries.{Entries, adj_of, with_adj}
-use Rattle.ipc_model.specs.Decision.{Decision, without_answer}
+use Rattle.ipc_model.specs.Decision.{Decision, left_by, without_answer}
 use Rattle.ipc_model.specs.Plan.{decision}
 use Rattle.ipc_model.specs.Semaphores.{operate}
 use Rattle.ipc_model.specs.State.{Caller, Sems}
@@ -19,6 +19,11 @@ operating limits sems who id ops = decision who.creds (operate limits sems who i
 -- semop is granted under some limits
 abbrev pub MayOperate : Sems → Caller → ℕ → List SemOper → Type 0
 MayOperate sems who id ops = (limits : Limits) × (without_answer (operating limits sems who id ops) ≡ Some (Ok tt))
+
+-- the operations are done: where semop was granted, the sets are what the grant leaves
+abbrev pub IsOperated : Sems → Caller → ℕ → List SemOper → Sems → Type 0
+IsOperated sems who id ops new = (limits : Limits) → without_answer (operating limits sems who id ops) ≡ Some (Ok tt)
+    → new ≡ left_by sems (operating limits sems who id ops)
 
 -- how the call ends by its trial, its answer left out
 abbrev pub told_by : Trial → Option (Result ⊤ Rule)

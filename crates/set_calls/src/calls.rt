@@ -24,14 +24,15 @@ ghost use Rattle.std.specs.Prelude.{
 ghost use Rattle.std.specs.List.{list_all};
 ghost use Rattle.ipc_model.specs.State.{SemSet as Contents, pid_of};
 ghost use Rattle.ipc_model.specs.Decision.{left_by, outcome_of};
-ghost use Rattle.ipc_model.specs.Gets.{get_found, get_set, getting_set, object_of_key};
-ghost use Rattle.ipc_model.specs.Plan.{decision};
-ghost use Rattle.ipc_model.specs.Semaphores.{get_all, get_pid, get_value, look, set_all, set_at, set_value, with_values};
+ghost use Rattle.ipc_model.specs.Gets.{object_of_key};
+ghost use Rattle.ipc_model.specs.Semaphores.{set_at, with_values};
 ghost use Rattle.ipc_ids.specs.Table.{Table};
 ghost use Rattle.ipc_objects.specs.declared.object.Object.{Object as Entry};
 ghost use Rattle.sem_set.specs.declared.sets.Semaphore.{Semaphore};
 ghost use Rattle.sem_set.specs.Sets.{is_value as is_value_in, set_to};
 ghost use Rattle.ipc_call.specs.declared.replies.Answer.TheVariants.{Value};
+ghost use Rattle.set_calls.specs.Calls.{getting, getting_found, looking, setting, setting_all};
+ghost use Rattle.set_calls.specs.Calls.{telling_all, telling_pid, telling_value};
 ghost use Rattle.set_calls.specs.Held.{row_at, sems_of};
 
 use crate::set::Set;
@@ -53,8 +54,10 @@ impl Sets {
         nsems: u32,
         flags: u32,
     ) -> Result<Outcome, Memory>
-        ensures outcome { IfOk result (λ outcome. outcome_of (decision who.entry.now.creds (get_set limits.now (sems_of self.old) who.entry.now key nsems flags)) ≡ Some outcome) }
-        ensures sems { OnOk result (sems_of self.new ≡ left_by (sems_of self.old) (decision who.entry.now.creds (get_set limits.now (sems_of self.old) who.entry.now key nsems flags))) }
+        ensures outcome { IfOk result (λ outcome.
+            outcome_of (getting limits.now (sems_of self.old) who.entry.now key nsems flags) ≡ Some outcome) }
+        ensures sems { OnOk result (sems_of self.new
+            ≡ left_by (sems_of self.old) (getting limits.now (sems_of self.old) who.entry.now key nsems flags)) }
         ensures undone { self.new.undone ≡ self.old.undone }
         ensures err { OnErr result (self.new ≡ self.old) }
     {
@@ -76,8 +79,10 @@ impl Sets {
         flags: u32,
     ) -> Result<Outcome, Memory>
         requires { object_of_key self.old.sets key ≡ None }
-        ensures outcome { IfOk result (λ outcome. outcome_of (decision who.entry.now.creds (get_found self.old.sets who.entry.now key flags (getting_set nsems) None)) ≡ Some outcome) }
-        ensures sets { OnOk result (self.new.sets ≡ left_by self.old.sets (decision who.entry.now.creds (get_found self.old.sets who.entry.now key flags (getting_set nsems) None))) }
+        ensures outcome { IfOk result (λ outcome.
+            outcome_of (getting_found self.old.sets who.entry.now key nsems flags None) ≡ Some outcome) }
+        ensures sets { OnOk result (self.new.sets
+            ≡ left_by self.old.sets (getting_found self.old.sets who.entry.now key nsems flags None)) }
         ensures undone { self.new.undone ≡ self.old.undone }
         ensures err { OnErr result (self.new ≡ self.old) }
     {
@@ -97,8 +102,9 @@ impl Sets {
 
     /// The value of a semaphore (GETVAL of semctl(2)).
     pub fn getval(&self, who: &Caller, id: u32, num: u32) -> Outcome
-        ensures outcome { outcome_of (decision who.entry.now.creds (get_value (sems_of self.now) id num)) ≡ Some result }
-        ensures same { left_by (sems_of self.now) (decision who.entry.now.creds (get_value (sems_of self.now) id num)) ≡ sems_of self.now }
+        ensures outcome { outcome_of (telling_value (sems_of self.now) who.entry.now id num) ≡ Some result }
+        ensures same { left_by (sems_of self.now) (telling_value (sems_of self.now) who.entry.now id num)
+            ≡ sems_of self.now }
     {
         let semaphores = self.with_semaphore(who, id, num)?;
         Ok(Answer::Value(u32::from(semaphores.get_val(num as usize))))
@@ -106,8 +112,9 @@ impl Sets {
 
     /// The process that set a semaphore last, 0 where none has (GETPID of semctl(2)).
     pub fn getpid(&self, who: &Caller, id: u32, num: u32) -> Outcome
-        ensures outcome { outcome_of (decision who.entry.now.creds (get_pid (sems_of self.now) id num)) ≡ Some result }
-        ensures same { left_by (sems_of self.now) (decision who.entry.now.creds (get_pid (sems_of self.now) id num)) ≡ sems_of self.now }
+        ensures outcome { outcome_of (telling_pid (sems_of self.now) who.entry.now id num) ≡ Some result }
+        ensures same { left_by (sems_of self.now) (telling_pid (sems_of self.now) who.entry.now id num)
+            ≡ sems_of self.now }
     {
         let semaphores = self.with_semaphore(who, id, num)?;
         Ok(Answer::Value(semaphores.get_pid(num as usize)))
@@ -117,8 +124,9 @@ impl Sets {
     pub fn with_semaphore(&self, who: &Caller, id: u32, num: u32) -> Result<&SemSet, Rule>
         ensures number { IfOk result (λ semaphores. num < length semaphores.now) }
         ensures outcome { (tell : List Semaphore → ℕ) → MatchResult result
-            (λ semaphores. outcome_of (decision who.entry.now.creds (look (sems_of self.now) id num tell)) ≡ Some (Ok (Value (tell semaphores.now))))
-            (λ rule. outcome_of (decision who.entry.now.creds (look (sems_of self.now) id num tell)) ≡ Some (Err rule)) }
+            (λ semaphores. outcome_of (looking (sems_of self.now) who.entry.now id num tell)
+            ≡ Some (Ok (Value (tell semaphores.now))))
+            (λ rule. outcome_of (looking (sems_of self.now) who.entry.now id num tell) ≡ Some (Err rule)) }
     {
         let Some(set) = self.get(id) else {
             return Err(Rule::BadId);
@@ -135,8 +143,9 @@ impl Sets {
 
     /// The values of all semaphores of a set (GETALL of semctl(2)). Memory comes where a growth was refused.
     pub fn getall(&self, who: &Caller, id: u32) -> Result<Outcome, Memory>
-        ensures outcome { IfOk result (λ outcome. outcome_of (decision who.entry.now.creds (get_all (sems_of self.now) id)) ≡ Some outcome) }
-        ensures same { left_by (sems_of self.now) (decision who.entry.now.creds (get_all (sems_of self.now) id)) ≡ sems_of self.now }
+        ensures outcome { IfOk result (λ outcome.
+            outcome_of (telling_all (sems_of self.now) who.entry.now id) ≡ Some outcome) }
+        ensures same { left_by (sems_of self.now) (telling_all (sems_of self.now) who.entry.now id) ≡ sems_of self.now }
     {
         let Some(set) = self.get(id) else {
             return Ok(Err(Rule::BadId));
@@ -150,8 +159,9 @@ impl Sets {
 
     /// Sets a semaphore, and what exit undoes of it goes, of every client (SETVAL of semctl(2)). It takes no memory.
     pub fn setval(&mut self, who: &Caller, id: u32, num: u32, value: i32) -> Outcome
-        ensures outcome { outcome_of (decision who.entry.now.creds (set_value (sems_of self.old) who.entry.now id num value)) ≡ Some result }
-        ensures sems { sems_of self.new ≡ left_by (sems_of self.old) (decision who.entry.now.creds (set_value (sems_of self.old) who.entry.now id num value)) }
+        ensures outcome { outcome_of (setting (sems_of self.old) who.entry.now id num value) ≡ Some result }
+        ensures sems { sems_of self.new
+            ≡ left_by (sems_of self.old) (setting (sems_of self.old) who.entry.now id num value) }
         ensures rows { (client set : ℕ) → row_at self.new client set ≡ row_at self.old client set }
     {
         if !is_value(value) {
@@ -175,14 +185,15 @@ impl Sets {
         requires there { IsSome (set_at (sems_of self.old) id) }
         requires number { IfSome (set_at (sems_of self.old) id) (λ set. num < length set.contents.semaphores) }
         requires value { is_value_in value ≡ true }
-        ensures sems { IfSome (set_at (sems_of self.old) id) (λ set. sems_of self.new ≡ with_values (sems_of self.old) who.entry.now.now id (slice_set set.contents.semaphores num (set_to (pid_of who.entry.now.client) value)) (λ n. n == num)) }
+        ensures sems { IfSome (set_at (sems_of self.old) id) (λ set. sems_of self.new
+            ≡ with_values (sems_of self.old) who.entry.now.now id
+            (slice_set set.contents.semaphores num (set_to (pid_of who.entry.now.client) value)) (λ n. n == num)) }
         ensures rows { (client set : ℕ) → row_at self.new client set ≡ row_at self.old client set }
     {
         let Some(set) = self.sets.contents_mut(id) else {
             unreachable!()
         };
-        set.semaphores
-            .set_val(num as usize, value, who.client() + 1);
+        set.semaphores.set_val(num as usize, value, who.pid());
         self.sets.set_time(id, who.now());
         self.undo.clear(id, num);
     }
@@ -190,8 +201,9 @@ impl Sets {
     /// Sets all semaphores of a set, and what exit undoes of them goes, of every client (SETALL of semctl(2)). It takes
     /// no memory.
     pub fn setall(&mut self, who: &Caller, id: u32, values: &[i32]) -> Outcome
-        ensures outcome { outcome_of (decision who.entry.now.creds (set_all (sems_of self.old) who.entry.now id values.now)) ≡ Some result }
-        ensures sems { sems_of self.new ≡ left_by (sems_of self.old) (decision who.entry.now.creds (set_all (sems_of self.old) who.entry.now id values.now)) }
+        ensures outcome { outcome_of (setting_all (sems_of self.old) who.entry.now id values.now) ≡ Some result }
+        ensures sems { sems_of self.new
+            ≡ left_by (sems_of self.old) (setting_all (sems_of self.old) who.entry.now id values.now) }
         ensures rows { (client set : ℕ) → row_at self.new client set ≡ row_at self.old client set }
     {
         if !are_values(values) {
@@ -213,15 +225,17 @@ impl Sets {
     /// SETALL, which was decided.
     fn put_all(&mut self, who: &Caller, id: u32, values: &[i32])
         requires there { IsSome (set_at (sems_of self.old) id) }
-        requires count { IfSome (set_at (sems_of self.old) id) (λ set. length values.now ≡ length set.contents.semaphores) }
+        requires count { IfSome (set_at (sems_of self.old) id)
+            (λ set. length values.now ≡ length set.contents.semaphores) }
         requires values { list_all is_value_in values.now ≡ true }
-        ensures sems { sems_of self.new ≡ with_values (sems_of self.old) who.entry.now.now id (map (set_to (pid_of who.entry.now.client)) values.now) (λ _. true) }
+        ensures sems { sems_of self.new ≡ with_values (sems_of self.old) who.entry.now.now id
+            (map (set_to (pid_of who.entry.now.client)) values.now) (λ _. true) }
         ensures rows { (client set : ℕ) → row_at self.new client set ≡ row_at self.old client set }
     {
         let Some(set) = self.sets.contents_mut(id) else {
             unreachable!()
         };
-        set.semaphores.set_all(values, who.client() + 1);
+        set.semaphores.set_all(values, who.pid());
         self.sets.set_time(id, who.now());
         self.undo.clear_set(id);
     }
@@ -236,7 +250,8 @@ fn are_values(values: &[i32]) -> bool
 
 /// semget with a key that a set has.
 fn found_set(who: &Caller, id: u32, set: &Object<Set>, nsems: u32, flags: u32) -> Outcome
-    ensures { (t : Table (Entry Contents)) (key : ℕ) → outcome_of (decision who.entry.now.creds (get_found t who.entry.now key flags (getting_set nsems) (Some (id, set.now)))) ≡ Some result }
+    ensures { (t : Table (Entry Contents)) (key : ℕ)
+        → outcome_of (getting_found t who.entry.now key nsems flags (Some (id, set.now))) ≡ Some result }
 {
     may_open(who, &set.perm, flags)?;
     if nsems as usize > set.contents.semaphores.len() {

@@ -15,7 +15,8 @@ impl Sets {
     /// semadj added, and is brought into 0 to SEMVMX. Its rows go. It takes no memory.
     pub fn exit(&mut self, who: &Caller)
         ensures sems { sems_of self.new ≡ after_exit (sems_of self.old) who.entry.now }
-        ensures rows { (client set : ℕ) → (client ≡ who.entry.now.client → ⊥) → row_at self.new client set ≡ row_at self.old client set }
+        ensures rows { (client set : ℕ) → (client ≡ who.entry.now.client → ⊥)
+            → row_at self.new client set ≡ row_at self.old client set }
     {
         while let Some((id, adjs)) = self.undo.take_all(who.client()) {
             self.undo_row(who, id, adjs.as_slice());
@@ -33,7 +34,7 @@ impl Sets {
         let Some(set) = self.sets.contents_mut(id) else {
             return;
         };
-        if set.semaphores.undo(adjs, who.client() + 1) {
+        if set.semaphores.undo(adjs, who.pid()) {
             set.op_time = who.now();
         }
     }

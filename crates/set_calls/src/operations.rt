@@ -24,7 +24,7 @@ ghost use Rattle.ipc_model.specs.Semaphores.{lowered, set_at, stopping as stoppi
 ghost use Rattle.sem_set.specs.Trials.{are_in as are_numbers_of, is_semadj, trial_on, undoes as undoes_at};
 ghost use Rattle.sem_undo.specs.Entries.{adj_of, row_len};
 ghost use Rattle.set_calls.specs.Held.{HasRow, row_at, sems_of};
-ghost use Rattle.set_calls.specs.Operations.{MayOperate, StayInRange, lowered_by, operating, told_by};
+ghost use Rattle.set_calls.specs.Operations.{IsOperated, MayOperate, StayInRange, lowered_by, operating, told_by};
 
 use crate::set::Set;
 use crate::sets::Sets;
@@ -44,8 +44,10 @@ impl Sets {
         id: u32,
         ops: &[SemOper],
     ) -> Result<Option<Outcome>, Memory>
-        ensures outcome { IfOk result (λ outcome. outcome ≡ outcome_of (operating limits.now (sems_of self.old) who.entry.now id ops.now)) }
-        ensures sems { OnOk result (sems_of self.new ≡ left_by (sems_of self.old) (operating limits.now (sems_of self.old) who.entry.now id ops.now)) }
+        ensures outcome { IfOk result (λ outcome.
+            outcome ≡ outcome_of (operating limits.now (sems_of self.old) who.entry.now id ops.now)) }
+        ensures sems { OnOk result (sems_of self.new
+            ≡ left_by (sems_of self.old) (operating limits.now (sems_of self.old) who.entry.now id ops.now)) }
         ensures rows { (c s n : ℕ) → n < row_at self.old c s → n < row_at self.new c s }
         ensures err { OnErr result (self.new ≡ self.old) }
     {
@@ -60,8 +62,8 @@ impl Sets {
         }
     }
 
-    /// The operations of a semop that waits, tried anew (semop(2)): how the call ends, None where it waits on. Its row was
-    /// reserved, and it takes no memory.
+    /// The operations of a semop that waits, tried anew (semop(2)): how the call ends, None where it waits on. Its row
+    /// was reserved, and it takes no memory.
     pub fn semop_reserved(
         &mut self,
         limits: &Limits,
@@ -71,7 +73,8 @@ impl Sets {
     ) -> Option<Outcome>
         requires { HasRow self.old who.now.client id ops.now }
         ensures outcome { result ≡ outcome_of (operating limits.now (sems_of self.old) who.entry.now id ops.now) }
-        ensures sems { sems_of self.new ≡ left_by (sems_of self.old) (operating limits.now (sems_of self.old) who.entry.now id ops.now) }
+        ensures sems { sems_of self.new
+            ≡ left_by (sems_of self.old) (operating limits.now (sems_of self.old) who.entry.now id ops.now) }
         ensures rows { (c s : ℕ) → row_at self.new c s ≡ row_at self.old c s }
     {
         match self.decide_semop(limits, who, id, ops) {
@@ -99,12 +102,13 @@ impl Sets {
         }
     }
 
-    /// Makes the row of semadj that the operations of a client on the set of an identifier need, where exit undoes one of
-    /// them. Memory comes where a growth was refused, and then nothing has changed. Reserving is the project's own.
+    /// Makes the row of semadj that the operations of a client on the set of an identifier need, where exit undoes one
+    /// of them. Memory comes where a growth was refused, and then nothing has changed. Reserving is the project's own.
     pub fn reserve(&mut self, client: u32, id: u32, ops: &[SemOper]) -> Result<(), Memory>
         requires few { client < 64 }
         requires there { IsSome (set_at (sems_of self.old) id) }
-        requires numbers { IfSome (set_at (sems_of self.old) id) (λ set. are_numbers_of set.contents.semaphores ops.now ≡ true) }
+        requires numbers { IfSome (set_at (sems_of self.old) id)
+            (λ set. are_numbers_of set.contents.semaphores ops.now ≡ true) }
         ensures sems { OnOk result (sems_of self.new ≡ sems_of self.old) }
         ensures row { OnOk result (HasRow self.new client id ops.now) }
         ensures rows { OnOk result ((c s n : ℕ) → n < row_at self.old c s → n < row_at self.new c s) }
@@ -149,11 +153,14 @@ impl Sets {
         end_by(self.try_on(who.client(), id, ops))
     }
 
-    /// Tries the operations of a client on the set of an identifier, which there is and has the semaphores that they name.
+    /// Tries the operations of a client on the set of an identifier, which there is and has the semaphores that they
+    /// name.
     fn try_on(&mut self, client: u32, id: u32, ops: &[SemOper]) -> Trial
         requires there { IsSome (set_at (sems_of self.old) id) }
-        requires numbers { IfSome (set_at (sems_of self.old) id) (λ set. are_numbers_of set.contents.semaphores ops.now ≡ true) }
-        ensures told { IfSome (set_at (sems_of self.old) id) (λ set. result ≡ trial_on set.contents.semaphores (adj_of self.old.undone.entries client id) ops.now) }
+        requires numbers { IfSome (set_at (sems_of self.old) id)
+            (λ set. are_numbers_of set.contents.semaphores ops.now ≡ true) }
+        ensures told { IfSome (set_at (sems_of self.old) id)
+            (λ set. result ≡ trial_on set.contents.semaphores (adj_of self.old.undone.entries client id) ops.now) }
         ensures same { self.new ≡ self.old }
     {
         let Some(set) = self.sets.contents_mut(id) else {
@@ -166,15 +173,14 @@ impl Sets {
     fn operate(&mut self, who: &Caller, id: u32, ops: &[SemOper])
         requires granted { MayOperate (sems_of self.old) who.now id ops.now }
         requires row { HasRow self.old who.now.client id ops.now }
-        ensures sems { (limits : LimitsOf) → without_answer (operating limits (sems_of self.old) who.entry.now id ops.now) ≡ Some (Ok tt)
-            → sems_of self.new ≡ left_by (sems_of self.old) (operating limits (sems_of self.old) who.entry.now id ops.now) }
+        ensures sems { IsOperated (sems_of self.old) who.entry.now id ops.now (sems_of self.new) }
         ensures rows { (c s : ℕ) → row_at self.new c s ≡ row_at self.old c s }
     {
         let client = who.client();
         let Some(set) = self.sets.contents_mut(id) else {
             unreachable!()
         };
-        set.semaphores.commit(ops, client + 1);
+        set.semaphores.commit(ops, who.pid());
         set.op_time = who.now();
         lower_all(&mut self.undo, client, id, ops);
     }

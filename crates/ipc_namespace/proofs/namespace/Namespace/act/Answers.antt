@@ -1,4 +1,4 @@
-use Rattle.std.proofs.Common.{◌≡◌, ℕ, ◌+◌, ◌++◌, false, List, [], append-nil, arith, length, vec_len, refl, sym, ap, ◌∙◌, subst, Option}
+use Rattle.std.proofs.Common.{◌≡◌, ℕ, ◌+◌, ◌++◌, false, List, append-nil, arith, length, vec_len, refl, sym, ap, ◌∙◌, subst, Option}
 use Rattle.std.specs.Prelude.{IfSome}
 use Rattle.ipc_call.specs.declared.calls.Call.{Call}
 use Rattle.ipc_call.specs.declared.replies.Ended.{Ended}

@@ -6,8 +6,7 @@ use Rattle.ipc_model.specs.Controls.{perm_in}
 use Rattle.ipc_model.specs.Decide.{needs}
 use Rattle.ipc_model.specs.Semaphores.{wanted_by}
 use Rattle.ipc_model.specs.Cancelled.{first_denial}
-use Rattle.ipc_namespace.specs.Namespace.{needs_for}
-use Rattle.ipc_namespace.proofs.Endings.{operator-needs, receiver-needs, sender-needs}
+use Rattle.ipc_model.proofs.Needs.{needs_for, operator-needs, receiver-needs, sender-needs}
 use Rattle.ipc_namespace.proofs.namespace.Namespace.denial.Goals as goal
 
 -- what a call needs, as the code reads it

@@ -5,7 +5,7 @@ use Rattle.ipc_call.specs.declared.replies.Waiting.{Waiting}
 use Rattle.ipc_call.specs.declared.calls.Kind.{Kind}
 use Rattle.ipc_call.specs.declared.rules.Rule.{Rule}
 use Rattle.ipc_call.specs.declared.rules.Rule.TheVariants.{Removed}
-use Rattle.ipc_model.specs.Decide.{stands, needs}
+use Rattle.ipc_model.specs.Decide.{needs}
 use Rattle.ipc_model.specs.Cancelled.{first_denial, waits_on}
 use Rattle.ipc_model.specs.State.{State, creds_at}
 use Rattle.ipc_parked.specs.declared.parked.Arrival.{Arrival}
@@ -13,7 +13,7 @@ use Rattle.ipc_parked.specs.Parked.{entry_of, on_object, waiting}
 use Rattle.ipc_parked.proofs.Picking.{clients_found, find_filter, may_ask, may_ask_on_object, picks_find, picks_waiting}
 use Rattle.ipc_namespace.specs.declared.cancelling.Cancelling.{Cancelling}
 use Rattle.ipc_namespace.specs.declared.cancelling.Cancelling.TheVariants as cancellings
-use Rattle.ipc_namespace.specs.Namespace.{cancelled_as}
+use Rattle.ipc_namespace.specs.Namespace.{cancelled_as, stands}
 use Rattle.ipc_namespace.proofs.Endings.{without-until}
 use Rattle.ipc_namespace.proofs.Parked.{each-parked}
 use Rattle.ipc_namespace.proofs.namespace.Namespace.earliest_cancelled.Goals as goal

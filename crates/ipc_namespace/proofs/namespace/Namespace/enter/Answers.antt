@@ -6,9 +6,8 @@ use Rattle.ipc_model.specs.State.{State, is_waiting}
 use Rattle.ipc_model.specs.Decision.{outcome_of}
 use Rattle.ipc_model.specs.Decide.{decide_call}
 use Rattle.ipc_model.specs.Step.{after, expire, expired, moved_by, settled}
-use Rattle.ipc_model.specs.Touched.{AreQuietBut}
 use Rattle.ipc_parked.specs.Touched.{is_touched}
-use Rattle.ipc_namespace.specs.Namespace.{is_grant}
+use Rattle.ipc_namespace.specs.Namespace.{is_grant, AreQuietBut}
 use Rattle.ipc_namespace.proofs.Parked.{list_any-filter}
 use Rattle.ipc_namespace.proofs.Quiet.{quiet-moved}
 use Rattle.ipc_namespace.proofs.Settling.{entered-granted, entered-still, quiet-expire}

@@ -4,11 +4,10 @@ use Rattle.std.specs.List.{find}
 use Rattle.std.proofs.lemmas.Bool.{false≢true}
 use Rattle.ipc_call.specs.declared.replies.Waiting.{Waiting}
 use Rattle.ipc_call.specs.declared.rules.Rule.{Rule}
-use Rattle.ipc_model.specs.Decide.{stands}
 use Rattle.ipc_model.specs.State.{State, is_waiting, waiting_of}
 use Rattle.ipc_parked.specs.Parked.{AreApart}
 use Rattle.ipc_parked.proofs.Listed.{any_waiting, waiting_at}
-use Rattle.ipc_namespace.specs.Namespace.{AreParked, cancelled_as}
+use Rattle.ipc_namespace.specs.Namespace.{AreParked, cancelled_as, stands}
 use Rattle.ipc_namespace.proofs.Endings.{without-until}
 use Rattle.ipc_namespace.proofs.Parked.{apart-parked, parked_found}
 use Rattle.ipc_namespace.proofs.Own.{first-own, found-passes, found-waits, none-first}

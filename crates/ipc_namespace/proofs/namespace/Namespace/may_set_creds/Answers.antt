@@ -1,4 +1,4 @@
-use Rattle.std.proofs.Common.{◌≡◌, ℕ, Bool, true, false, List, [], length, refl, sym, ap, ◌∙◌, arith, Option, Some, None, Ok, Err}
+use Rattle.std.proofs.Common.{◌≡◌, ℕ, Bool, true, List, [], length, refl, sym, ap, ◌∙◌, arith, Option, Some, None, Ok, Err}
 use Rattle.std.specs.Prelude.{⊤, nat_le, is_some, unwrap_or, Result}
 use Rattle.std.specs.Option.{option_or}
 use Rattle.std.specs.Result.{result_err}

@@ -1,7 +1,6 @@
-use Rattle.std.proofs.Common.{◌≡◌, ◌∙◌, w64}
-use Rattle.std.proofs.lemmas.Int.{to_z-of_z}
+use Rattle.std.proofs.Common.{◌≡◌, refl, ◌∙◌}
 use Rattle.queue_calls.specs.Held.{queues_of}
-use Rattle.ipc_model.specs.State.{State, caller}
+use Rattle.ipc_model.specs.State.{caller}
 use Rattle.ipc_namespace.specs.contracts.namespace.Namespace.{the_view}
 use Rattle.ipc_namespace.proofs.Calling.{receive-left, receive-outcome}
 use Rattle.ipc_namespace.proofs.namespace.Namespace.msgrcv.Goals as goal
@@ -14,9 +13,9 @@ pub returns-clause-outcome : goal.returns-clause-outcome
 returns-clause-outcome c =
     let b = (goal.at.returns-clause-outcome c).After-msgrcv in
     c.msgrcv.ensures.outcome
-    ∙ receive-outcome (the_view b.self.inside) c.args.self.now c.args.client c.caller_of-who.result c.self.view_is (called b) c.args.id c.args.size c.args.flags _ c.args.msgtyp (to_z-of_z w64 c.args.msgtyp c.ranges.msgtyp)
+    ∙ receive-outcome (the_view b.self.inside) c.args.self.now c.args.client c.caller_of-who.result c.self.view_is (called b) c.args.id c.args.asked.size c.args.asked.flags _ c.args.asked.msgtyp refl
 
 pub returns-clause-state : goal.returns-clause-state
 returns-clause-state c =
     let b = (goal.at.returns-clause-state c).After-msgrcv in
-    receive-left (the_view b.self.inside) c.args.self.now c.args.client c.caller_of-who.result c.self.view_is (called b) c.args.id c.args.size c.args.flags _ c.args.msgtyp (to_z-of_z w64 c.args.msgtyp c.ranges.msgtyp) (queues_of c.msgrcv.new.self) c.msgrcv.ensures.queues
+    receive-left (the_view b.self.inside) c.args.self.now c.args.client c.caller_of-who.result c.self.view_is (called b) c.args.id c.args.asked.size c.args.asked.flags _ c.args.asked.msgtyp refl (queues_of c.msgrcv.new.self) c.msgrcv.ensures.queues

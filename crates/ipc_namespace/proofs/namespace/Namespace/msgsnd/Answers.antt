@@ -9,7 +9,7 @@ use Rattle.ipc_call.specs.declared.rules.Rule.{Rule}
 use Rattle.queue_calls.specs.Held.{queues_of}
 use Rattle.queue_calls.specs.Calls.{sending}
 use Rattle.ipc_model.specs.Decision.{Decision, left_by, outcome_of, without_answer}
-use Rattle.ipc_model.specs.State.{Queues, State, caller}
+use Rattle.ipc_model.specs.State.{Queues, caller}
 use Rattle.ipc_model.specs.Decide.{decide_alive as decide}
 use Rattle.ipc_namespace.specs.contracts.namespace.Namespace.{the_view}
 use Rattle.ipc_namespace.proofs.Calling.{answered-none, answered-refused, left-refused, left-waits, send-left, send-outcome, sent-done}

@@ -40,14 +40,14 @@ unfolding part_plan
 returns-in-ShmGet-clause-outcome c =
     let b = (goal.at.returns-in-ShmGet-clause-outcome c).After-caller_of-who in
     let n = c.in-ShmGet in
-    told b (ShmGet n.key n.size n.flags) n.is (λ t w. get_segment t.limits t.shared w n.key n.size n.flags) (λ t. refl) c.shmget.result c.shmget.ensures.outcome
+    told b (ShmGet n.key n.size n.flags) n.is (λ t w. get_segment t.limits t.shared w (record { key = n.key; flags = n.flags }) n.size) (λ t. refl) c.shmget.result c.shmget.ensures.outcome
 
 pub returns-in-ShmGet-clause-state : goal.returns-in-ShmGet-clause-state
 unfolding part_plan
 returns-in-ShmGet-clause-state c =
     let b = (goal.at.returns-in-ShmGet-clause-state c).After-caller_of-who in
     let n = c.in-ShmGet in
-    on_ok_weaker c.shmget.result (λ so. left b (ShmGet n.key n.size n.flags) n.is (λ t w. get_segment t.limits t.shared w n.key n.size n.flags) (λ t. refl) c.shmget.new.self so) c.shmget.ensures.shared
+    on_ok_weaker c.shmget.result (λ so. left b (ShmGet n.key n.size n.flags) n.is (λ t w. get_segment t.limits t.shared w (record { key = n.key; flags = n.flags }) n.size) (λ t. refl) c.shmget.new.self so) c.shmget.ensures.shared
 
 pub returns-in-ShmAt-clause-outcome : goal.returns-in-ShmAt-clause-outcome
 unfolding part_plan

@@ -46,14 +46,14 @@ unfolding part_plan
 returns-in-SemGet-clause-outcome c =
     let b = (goal.at.returns-in-SemGet-clause-outcome c).After-caller_of-who in
     let n = c.in-SemGet in
-    told b (SemGet n.key n.nsems n.flags) n.is (λ t w. get_set t.limits t.sems w n.key n.nsems n.flags) (λ t. refl) c.semget.result c.semget.ensures.outcome
+    told b (SemGet n.key n.nsems n.flags) n.is (λ t w. get_set t.limits t.sems w (record { key = n.key; flags = n.flags }) n.nsems) (λ t. refl) c.semget.result c.semget.ensures.outcome
 
 pub returns-in-SemGet-clause-state : goal.returns-in-SemGet-clause-state
 unfolding part_plan
 returns-in-SemGet-clause-state c =
     let b = (goal.at.returns-in-SemGet-clause-state c).After-caller_of-who in
     let n = c.in-SemGet in
-    on_ok_weaker c.semget.result (λ so. left b (SemGet n.key n.nsems n.flags) n.is (λ t w. get_set t.limits t.sems w n.key n.nsems n.flags) (λ t. refl) (sems_of c.semget.new.self) so) c.semget.ensures.sems
+    on_ok_weaker c.semget.result (λ so. left b (SemGet n.key n.nsems n.flags) n.is (λ t w. get_set t.limits t.sems w (record { key = n.key; flags = n.flags }) n.nsems) (λ t. refl) (sems_of c.semget.new.self) so) c.semget.ensures.sems
 
 pub returns-in-GetVal-clause-outcome : goal.returns-in-GetVal-clause-outcome
 unfolding part_plan

@@ -10,8 +10,9 @@ use Rattle.ipc_model.specs.State.{Caller, Sems, State, caller}
 use Rattle.ipc_model.specs.Decision.{left_by, outcome_of}
 use Rattle.ipc_model.specs.Semaphores.{operate}
 use Rattle.ipc_model.specs.Decide.{decide_alive as decide, part_plan}
+use Rattle.queue_calls.proofs.Holding.{IfOk-map}
 use Rattle.ipc_namespace.specs.contracts.namespace.Namespace.{the_view}
-use Rattle.ipc_namespace.proofs.Calling.{IfOk-map, put_sems, sets-left, sets-outcome}
+use Rattle.ipc_namespace.proofs.Calling.{put_sems, sets-left, sets-outcome}
 use Rattle.ipc_namespace.proofs.Held.{held-longer}
 use Rattle.ipc_namespace.proofs.namespace.Namespace.semop.Goals as goal
 use Rattle.ipc_namespace.proofs.namespace.Namespace.semop.Goals.{After-semop}

@@ -1,7 +1,7 @@
 use Rattle.std.proofs.Common.{◌≡◌, ◌+◌, ◌≤◌, ◌++◌, length, vec_len, vec_capacity}
 use Rattle.ipc_model.specs.Step.{settled}
-use Rattle.ipc_model.specs.Touched.{AreQuietBut}
 use Rattle.ipc_parked.specs.Touched.{is_touched}
+use Rattle.ipc_namespace.specs.Namespace.{AreQuietBut}
 use Rattle.ipc_namespace.proofs.namespace.Namespace.settle.Given as goal
 
 -- what is left to end completes what has ended, and waits on what was touched

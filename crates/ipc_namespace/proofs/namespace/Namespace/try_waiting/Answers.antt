@@ -15,12 +15,12 @@ use Rattle.ipc_model.specs.State.{Caller, Queues, Sems, State, caller, has_ended
 use Rattle.ipc_model.specs.Plan.{Plan, decision}
 use Rattle.ipc_model.specs.Semaphores.{operate}
 use Rattle.ipc_model.specs.Decision.{Outcome, left_by, outcome_of, proceeds}
-use Rattle.ipc_model.specs.Decide.{stands, decide_alive as decide, part_plan}
+use Rattle.ipc_model.specs.Decide.{decide_alive as decide, part_plan}
 use Rattle.ipc_model.specs.Step.{end_waiting, is_ready, without}
 use Rattle.ipc_parked.specs.Parked.{waiting}
 use Rattle.ipc_parked.proofs.Listed.{any_waiting, waiting_at}
 use Rattle.ipc_namespace.specs.contracts.namespace.Namespace.{the_view}
-use Rattle.ipc_namespace.specs.Namespace.{HasRowFor, sent_to}
+use Rattle.ipc_namespace.specs.Namespace.{HasRowFor, sent_to, stands}
 use Rattle.ipc_namespace.proofs.Calling.{alive-decides, answered-some, ends-so, left-waits, outcome-some, put_in, put_sems, sets-left, sets-outcome, receive-left, receive-outcome, receive-proceeds, send-answered, send-proceeds}
 use Rattle.ipc_namespace.proofs.Held.{IsHeld, held-found, held-same}
 use Rattle.ipc_namespace.proofs.Parked.{parked_found}

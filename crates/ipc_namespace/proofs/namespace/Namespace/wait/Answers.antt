@@ -1,12 +1,13 @@
 use Rattle.std.proofs.Common.{◌≡◌, ℕ, true, false, refl, sym, ap, ◌∙◌, None, Ok, Err}
 use Rattle.std.proofs.lemmas.Bool.{true≢false}
 use Rattle.std.proofs.lemmas.Option.{none-some}
+use Rattle.ipc_namespace.specs.Namespace.{stands}
 use Rattle.ipc_call.specs.declared.calls.Call.{Call}
 use Rattle.ipc_call.specs.declared.calls.Call.TheVariants.{MsgSnd, MsgRcv, SemOp, SemTimedOp}
 use Rattle.ipc_model.specs.State.{State, creds_at}
 use Rattle.ipc_model.specs.Plan.{decision}
 use Rattle.ipc_model.specs.Decision.{Decision, Grant, Refuse, Wait, outcome_of, proceeds}
-use Rattle.ipc_model.specs.Decide.{can_wait, decide_alive as decide, part_plan, plan_alive, stands, waits_as}
+use Rattle.ipc_model.specs.Decide.{can_wait, decide_alive as decide, part_plan, plan_alive, waits_as}
 use Rattle.ipc_model.proofs.Calls.{only_parkable_alive}
 use Rattle.ipc_namespace.proofs.namespace.Namespace.wait.Goals as goal
 

@@ -3,7 +3,7 @@ use Rattle.ipc_call.specs.declared.replies.JournalRow.TheVariants.{Called}
 use Rattle.ipc_model.specs.State.{State, is_waiting}
 use Rattle.ipc_model.specs.Step.{Event, Stepped, step}
 use Rattle.ipc_history.specs.History.{History, IsLegalAt, answered_row, next_step, rows_by, run, told_ended, told_own, with_event, IsLegal}
-use Rattle.ipc_model.specs.Waits.{AreNotReady}
+use Rattle.ipc_history.specs.Waits.{AreNotReady}
 use Rattle.ipc_space.specs.Spaces.{IsOfHistory, history_in, other_replies}
 use Rattle.ipc_space.proofs.Histories.{IsOfHistory-push, clients-reached, length-events_in, rows_by-entered}
 use Rattle.ipc_space.proofs.Once.{waits_once}

@@ -1,4 +1,4 @@
-use Rattle.std.proofs.Common.{◌≡◌, length, ap, ◌∙◌}
+use Rattle.std.proofs.Common.{length, ap, ◌∙◌}
 use Rattle.ipc_history.specs.History.{History}
 use Rattle.ipc_space.proofs.Histories.{clients-reached}
 use Rattle.ipc_space.proofs.spaces.Space.clients.Goals as goal

@@ -3,8 +3,7 @@ use Rattle.ipc_objects.specs.declared.object.Object.{Object}
 use Rattle.ipc_objects.specs.Seen.{seen}
 use Rattle.ipc_model.specs.State.{Queue}
 use Rattle.ipc_model.specs.Decision.{outcome_of}
-use Rattle.ipc_model.specs.Gets.{get_found, getting_queue}
-use Rattle.ipc_model.specs.Plan.{decision}
+use Rattle.queue_calls.specs.Calls.{getting_found}
 use Rattle.queue_calls.specs.Held.{queue_of, queues_of}
 use Rattle.queue_calls.proofs.queues.Queues.msgget.Goals as goal
 
@@ -13,5 +12,5 @@ returns-in-Some-clause-outcome c =
     let who = c.args.who.now in
     let t = queues_of c.args.self.now in
     let limits = c.args.limits.now in
-    ap (λ (o : Option (ℕ × Object Queue)). outcome_of (decision who.creds (get_found t who c.args.key c.args.flags (getting_queue limits) o))) (sym c.in-Some.ensures)
+    ap (λ (o : Option (ℕ × Object Queue)). outcome_of (getting_found limits t who c.args.key c.args.flags o)) (sym c.in-Some.ensures)
     ∙ c.found_queue.ensures.outcome t c.args.key limits (seen queue_of c.in-Some.queue.now) refl

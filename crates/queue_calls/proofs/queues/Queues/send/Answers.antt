@@ -36,11 +36,11 @@ returns-clause-queues c =
     let old = c.in-Some.queue.now in
     let now = c.args.self.now in
     told-of c.self.inside.objects now c.self.view_is c.args.id old c.in-Some.ensures.value
-    (λ (q : Queue). queues_of (with_contents c.self.inside.objects c.args.id c.send.new.self) ≡ with_contents (queues_of now) c.args.id (with_message c.args.client c.args.now (record { mtype = c.args.mtype; text = c.args.text }) q))
+    (λ (q : Queue). queues_of (with_contents c.self.inside.objects c.args.id c.send.new.self) ≡ with_contents (queues_of now) c.args.id (with_message c.args.who.now (record { mtype = c.args.mtype; text = c.args.text }) q))
     (changed-queues c.self.inside.objects now c.self.view_is c.args.id old c.in-Some.ensures.value c.send.new.self
     ∙ ap (λ (q : Queue). with_contents (queues_of now) c.args.id q) c.send.ensures.queue
-    ∙ ap (λ (h : Held). with_contents (queues_of now) c.args.id (with_message c.args.client c.args.now (record { mtype = to_z w64 (of_z w64 c.args.mtype); text = c.args.text }) h.queue)) c.in_ok-reserve.ensures.ok
-    ∙ ap (λ z. with_contents (queues_of now) c.args.id (with_message c.args.client c.args.now (record { mtype = z; text = c.args.text }) old.queue)) (to_z-of_z w64 c.args.mtype c.ranges.mtype))
+    ∙ ap (λ (h : Held). with_contents (queues_of now) c.args.id (with_message c.args.who.now (record { mtype = to_z w64 (of_z w64 c.args.mtype); text = c.args.text }) h.queue)) c.in_ok-reserve.ensures.ok
+    ∙ ap (λ z. with_contents (queues_of now) c.args.id (with_message c.args.who.now (record { mtype = z; text = c.args.text }) old.queue)) (to_z-of_z w64 c.args.mtype c.ranges.mtype))
 
 pub returns-clause-room : goal.returns-clause-room
 returns-clause-room c =

@@ -45,7 +45,7 @@ returns-clause-sems c limits is =
     let g = granted sems who id ops limits is in
     let are = ap (λ (s : SemSet). s.semaphores) (c.set.view_is ∙ contents-are c.self.inside.sets sems.sets id g.set c.in-Some.set.now (ap (λ (h : Held). h.sets) c.self.view_is) g.there c.in-Some.ensures.value) in
     let done : c.commit.new.self ≡ committed ops (pid_of who.client) g.set.contents.semaphores =
-    c.commit.ensures ∙ ap (λ (k : ℕ). committed ops (pid_of k) c.set.inside.semaphores) c.client-client.ensures.client ∙ ap (λ (ss : List Semaphore). committed ops (pid_of who.client) ss) are in
+    c.commit.ensures ∙ ap (λ (p : ℕ). committed ops p c.set.inside.semaphores) c.pid.ensures ∙ ap (λ (ss : List Semaphore). committed ops (pid_of who.client) ss) are in
     let less : c.lower_all.new.undo.entries ≡ lowered sems.undo who.client id ops =
     ap (λ (u : Undone). u.entries) c.lower_all.ensures ∙ ap (λ (k : ℕ). lowered c.self.inside.undo.entries k id ops) c.client-client.ensures.client ∙ ap (λ (h : Held). lowered h.undone.entries who.client id ops) c.self.view_is in
     let all : sems_of (record { sets = with_contents c.self.inside.sets id (record { semaphores = c.commit.new.self; op_time = c.now-set-inside.result }); undone = c.lower_all.new.undo })

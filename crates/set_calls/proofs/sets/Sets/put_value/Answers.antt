@@ -1,4 +1,4 @@
-use Rattle.std.proofs.Common.{◌≡◌, ◌∙◌, ◌+◌, ap, List, Some, w32}
+use Rattle.std.proofs.Common.{◌≡◌, ◌∙◌, ap, List, Some, w32}
 use Rattle.std.specs.Prelude.{◌==◌, slice_set}
 use Rattle.std.proofs.lemmas.Int.{to_z-of_z}
 use Rattle.sem_set.specs.declared.sets.Semaphore.{Semaphore}
@@ -21,4 +21,4 @@ returns-clause-sems c =
     told-of c.self.inside.sets c.self.inside.undo now c.self.view_is c.args.id old there
     (λ (ss : List Semaphore). sems_of (record { sets = c.set_time.new.self; undone = c.clear.new.self }) ≡ with_values (sems_of now) who.now c.args.id (slice_set ss c.args.num (set_to (pid_of who.client) c.args.value)) (λ n. n == c.args.num))
     (valued c.self.inside.sets c.self.inside.undo now c.self.view_is c.args.id old there c.set_time.new.self c.clear.new.self (λ n. n == c.args.num) _ who.now _ _ c.now.ensures
-    (c.set_val.ensures ∙ (λ i. slice_set old.semaphores c.args.num (set_to (c.client.ensures.client i + 1) (to_z-of_z w32 c.args.value c.ranges.value i)))) c.set_time.ensures c.clear.ensures)
+    (c.set_val.ensures ∙ (λ i. slice_set old.semaphores c.args.num (set_to (c.pid.ensures i) (to_z-of_z w32 c.args.value c.ranges.value i)))) c.set_time.ensures c.clear.ensures)

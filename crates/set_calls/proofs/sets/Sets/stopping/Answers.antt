@@ -1,12 +1,11 @@
-use Rattle.std.proofs.Common.{◌≡◌, ℕ, ◌∙◌, refl, sym, ap, ⊎_elim, true, arith, rules, Bor, List, length, nat_lt, Option, Some, None}
+use Rattle.std.proofs.Common.{◌≡◌, ℕ, ◌∙◌, refl, sym, ap, ⊎_elim, arith, rules, Bor, List, length, nat_lt, Option, Some, None}
 use Rattle.std.specs.Prelude.{get_or, is_some, option_copied, slice_get, IfSome}
 use Rattle.std.proofs.lemmas.Option.{slice_get_past, slice_get_read}
 use Rattle.ipc_call.specs.declared.calls.SemOper.{SemOper}
 use Rattle.ipc_call.specs.declared.rules.Rule.{Rule}
 use Rattle.ipc_objects.specs.declared.object.Object.{Object}
-use Rattle.sem_set.specs.declared.trials.Trial.{Trial}
 use Rattle.sem_set.specs.declared.trials.Trial.TheVariants as trials
-use Rattle.sem_set.specs.Trials.{are_in, trial_on}
+use Rattle.sem_set.specs.Trials.{trial_on}
 use Rattle.sem_undo.specs.Entries.{adj_of}
 use Rattle.ipc_model.specs.Semaphores.{set_at, stopping}
 use Rattle.ipc_model.specs.State.{SemSet}
