@@ -347,11 +347,14 @@ def main(names):
     for crate, its in edits.items():
         groups(TOP / "crates" / crate, its)  # an edit that doesn't apply stops the run before it begins
     tried = sorted(edits, key=lambda it: size(it) + sum(map(size, crates.below(it))) / 20, reverse=True)
+    results, failed = [], []
     with concurrent.futures.ThreadPoolExecutor(len(os.sched_getaffinity(0))) as pool:
         begun = ([] if names else [pool.submit(plans)]) + [pool.submit(try_bodies, crates, it, edits[it]) for it in tried]
-    results = [line for it in begun for line in it.result()[0]]
-    failed = [line for it in begun for line in it.result()[1]] + [it.failure for it in results if it.failure]
-    print("".join(f"{it}\n" for it in results if not it.failure) + "".join(f"FAILED {line}\n" for line in failed), end="")
+        for ended in concurrent.futures.as_completed(begun):
+            more, lacking = ended.result()
+            lacking = lacking + [it.failure for it in more if it.failure]
+            print("".join(f"{it}\n" for it in more if not it.failure) + "".join(f"FAILED {line}\n" for line in lacking), end="", flush=True)
+            results, failed = results + more, failed + lacking
     print(f"{sum(1 for it in results if not it.failure)} passed, {len(failed)} failed")
     return 1 if failed or not results else 0
 
