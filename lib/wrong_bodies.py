@@ -279,6 +279,25 @@ def by_crate(texts):
     return found
 
 
+def leave_out_lemmas(copy, crate, users):
+    """Leaves out of a copy the lemma files that none of these crates names, nor a file of its own: a lemma for other crates speaks of
+    the plans as they are, and that it fails says nothing of the code."""
+    def cited(folder):
+        texts = (path.read_text(encoding="utf-8") for part in PARTS for path in (folder / part).rglob("*") if path.is_file() and path.parent != copy / "proofs")
+        return {name for text in texts for name in re.findall(rf"(?:Rattle\.{crate}|crate)(?:\.|::)proofs(?:\.|::)(\w+)", text)}
+
+    files = {path.stem: path for path in (copy / "proofs").glob("*.antt") if path.stem != "Lib"}
+    wanted, more = set(), {name for folder in [copy, *(TOP / "crates" / it for it in users)] for name in cited(folder)} & files.keys()
+    while more:
+        wanted |= more
+        texts = (files[name].read_text(encoding="utf-8") for name in more)
+        more = {name for text in texts for name in re.findall(rf"Rattle\.{crate}\.proofs\.(\w+)", text)} & files.keys() - wanted
+    root = copy / "proofs/Lib.antt"
+    for name in files.keys() - wanted:
+        files[name].unlink()
+        root.write_text(re.sub(rf"(?m)^(pub )?mod {name}\n", "", root.read_text(encoding="utf-8")), encoding="utf-8")
+
+
 def build_between(crates, changed, targets, room):
     """Builds the changed crates, and those on them that the targets stand on. None where each is proved, or else what the prover said."""
     needed = set().union(*(crates.below(it) for it in targets))
@@ -286,6 +305,8 @@ def build_between(crates, changed, targets, room):
         if crate in needed and (crate in changed or crates.below(crate) & crates.replaced.keys()):
             copy, library = copied(crate, changed.get(crate, {}), room / crate), room / "libraries" / f"{crate}.rlib"
             library.parent.mkdir(exist_ok=True)
+            if crate in changed:
+                leave_out_lemmas(copy, crate, {*needed, *targets} - {crate})
             said = crates.run("build", crate, copy, ["--statements", "-o", library])
             if not library.is_dir():
                 return said
