@@ -59,7 +59,7 @@ impl From<Rule> for io::Error {
 }
 
 impl Rule {
-    // Why it refuses, as the documents have it.
+    // Why it refuses, in a few words; the table of refusals in docs/PROFILE.md has the whole.
     fn sentence(self) -> &'static str {
         match self {
             Rule::NotOwner => "the caller is neither owner nor creator, and lacks CAP_SYS_ADMIN",
