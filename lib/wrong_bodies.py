@@ -40,7 +40,7 @@ OF_STEP = re.compile(r"\d+ declarations? that depends? on `([^`]+)`, which was r
 # A line that tells of an item whether it is proved.
 ITEM = re.compile(r"(fn|impl|trait|struct|enum) \S+: ")
 # A function whose plan no edit weakens.
-UNTOUCHED = ("set_calls", "Sets::getpid")
+UNTOUCHED = ("sem_calls", "Sets::getpid")
 
 
 class Edit:

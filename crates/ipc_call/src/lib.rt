@@ -28,7 +28,7 @@ pub use limits::{Limit, Limits};
 pub use listings::{Listed, Row};
 pub use perms::{Mode, Perm};
 pub use replies::{
-    Answer, Ended, JournalRow, Memory, Outcome, QueueStatus, Reply, SegmentStatus, SetStatus,
+    Answer, Completion, JournalRow, Memory, Outcome, QueueStatus, Reply, SegmentStatus, SetStatus,
     Status, Waiting,
 };
 pub use rules::{Rule, errno};

@@ -134,7 +134,7 @@ pub struct Waiting {
 
 /// A waiting call that has ended, with its client.
 #[derive(Debug, Drop, PartialEq)]
-pub struct Ended {
+pub struct Completion {
     /// The client that waited, counted from 0.
     pub client: u32,
     /// How its call ended.

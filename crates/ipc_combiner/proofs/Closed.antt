@@ -111,15 +111,15 @@ kept h closed (Idle c) t = resting h closed (work_of (Idle c)) t c.joined.client
 kept h closed (InFlight c) t = flying h closed (work_of (InFlight c)) t c.joined.client (number_is (InFlight c))
 
 module _ (h : List Entry) (cs : List Client) (closed : List Words) (are : closed ≡ words_onto cs []) (true_of : AreTrue own replies h closed) where
-  told_by : (c : Client) → IsAmong (words_of c) closed → IsTold h cs c
-  told_by c on = let t = true_of (words_of c) on in record {
+  replies_by : (c : Client) → IsAmong (words_of c) closed → IsTold h cs c
+  replies_by c on = let t = true_of (words_of c) on in record {
     saw = t.saw;
     kept = kept h closed c t;
     met = λ r is. let m = t.met r is in begun_by m.0 r cs (⊎_elim (λ (none : IsAmong m.0 []). absurd none) (λ (k : IsFrom m.0 cs). k) (from_one m.0 cs [] (subst (IsAmong m.0) are m.1))) m.2 m.3;
   }
 
   pub each_told : All (λ c. IsTold h cs c) cs
-  each_told = λ k d lt. told_by _ (subst (IsAmong _) (sym are) (are_among cs [] k d lt))
+  each_told = λ k d lt. replies_by _ (subst (IsAmong _) (sym are) (are_among cs [] k d lt))
 
 -- the opening stays
 saw_opening : (o h : History) (seen : List Entry) → GoesOn (entries_of o) seen → GoesOn seen (entries_of h) → (h.limits ≡ o.limits) × (h.clients ≡ o.clients)

@@ -5,16 +5,16 @@ use Rattle.std.proofs.lemmas.List.Elements.{All-head, All-tail}
 use mathlib.Core.Logic.{dite}
 use native.Mathlib.Decide.{ℕ_discrete}
 use Rattle.ipc_call.specs.declared.calls.Call.{Call}
-use Rattle.ipc_call.specs.declared.replies.Ended.{Ended}
+use Rattle.ipc_call.specs.declared.replies.Completion.{Completion}
 use Rattle.ipc_call.specs.declared.replies.Reply.{Reply}
 use Rattle.ipc_model.specs.State.{is_waiting}
-use Rattle.ipc_space.specs.declared.spaces.Effects.{Effects}
+use Rattle.ipc_space.specs.declared.space.Effects.{Effects}
 use Rattle.ipc_model.specs.Step.{Event}
 use Rattle.ipc_model.specs.Decision.{Outcome}
 use Rattle.ipc_history.specs.History.{History, IsLegal, next_step, with_event}
 use Rattle.ipc_history.specs.History as model
 use Rattle.ipc_space.specs.Spaces.{own_reply, other_replies}
-use Rattle.ipc_space.specs.Telling.{told_to, told_of, replies_in}
+use Rattle.ipc_space.specs.Telling.{addressed, replies_of, replies_in}
 use Rattle.ipc_space.proofs.Balance.{told_once, told_known, replies_push, is_free}
 use Rattle.pub_rule.specs.Lists.{IsOn}
 use Rattle.pub_rule.specs.Work.{GoesOn}
@@ -46,23 +46,23 @@ no_head x l e = let size = ap length e in absurd (omega (arith, size))
 alone : (l rest : List Reply) (y : Reply) → l ≡ y ∷ rest → length l ≤ 1 → rest ≡ []
 alone l rest y is few = let size = ap length is in none_left rest (omega (arith, size, few))
 
-replies_of : (h : History) (r : ℕ) → replies (entries_of h) r ≡ model.replies h r
-replies_of h r = ap (λ (z : History). model.replies z r) (history-entries h)
+replies-entries : (h : History) (r : ℕ) → replies (entries_of h) r ≡ model.replies h r
+replies-entries h r = ap (λ (z : History). model.replies z r) (history-entries h)
 
 -- a client each of whose calls has its reply has none that waits
 pub calls_freely : (h : History) (r : ℕ) → IsLegal h → length (own (entries_of h) r) ≡ length (replies (entries_of h) r) → is_waiting (model.run h) r ≡ false
-calls_freely h r legal same = is_free h r legal (sym (ap length (ap (λ (z : History). model.own z r) (history-entries h))) ∙ same ∙ ap length (replies_of h r))
+calls_freely h r legal same = is_free h r legal (sym (ap length (ap (λ (z : History). model.own z r) (history-entries h))) ∙ same ∙ ap length (replies-entries h r))
 
 -- what the last event brought a client
-brings : (n : ℕ) (v : Knowledge) (state : Shared) (rest : List (ℕ × Reply)) (h : IsHanding n v state rest) (r : ℕ) → replies v.work.seen r ≡ replies v.work.before r ++ replies_in (told_of h.before h.event) r
+brings : (n : ℕ) (v : Knowledge) (state : Shared) (rest : List (ℕ × Reply)) (h : IsHanding n v state rest) (r : ℕ) → replies v.work.seen r ≡ replies v.work.before r ++ replies_in (replies_of h.before h.event) r
 brings n v state rest h r =
-    ap (λ (es : List Entry). replies es r) h.is ∙ replies_of (with_event h.before h.event) r ∙ replies_push h.before h.event r
-    ∙ ap (λ (l : List Reply). l ++ replies_in (told_of h.before h.event) r) (sym (replies_of h.before r) ∙ ap (λ (es : List Entry). replies es r) (sym h.was))
+    ap (λ (es : List Entry). replies es r) h.is ∙ replies-entries (with_event h.before h.event) r ∙ replies_push h.before h.event r
+    ∙ ap (λ (l : List Reply). l ++ replies_in (replies_of h.before h.event) r) (sym (replies-entries h.before r) ∙ ap (λ (es : List Entry). replies es r) (sym h.was))
 
 -- what is still to be handed out
 module _ (n : ℕ) (v : Knowledge) (state : Shared) (o : ℕ) (y : Reply) (rest : List (ℕ × Reply)) (h : IsHanding n v state ((o, y) ∷ rest)) where
   abbrev told : List (ℕ × Reply)
-  told = told_of h.before h.event
+  told = replies_of h.before h.event
 
   few : (r : ℕ) → length (replies_in told r) ≤ 1
   few r = told_once h.before h.event r h.is_legal
@@ -109,7 +109,7 @@ all_handed n v state h = (
   h.seen,
   (λ r lt. ⊎_elim
       (λ (l : IsOn r v.work.paid × (replies_in [] r ≡ [])). inr l.0)
-      (λ (k : (¬ IsOn r v.work.paid) × (replies_in [] r ≡ replies_in (told_of h.before h.event) r)). inl (brings n v state [] h r ∙ ap (λ (l : List Reply). replies v.work.before r ++ l) (sym k.1) ∙ append-nil (replies v.work.before r)))
+      (λ (k : (¬ IsOn r v.work.paid) × (replies_in [] r ≡ replies_in (replies_of h.before h.event) r)). inl (brings n v state [] h r ∙ ap (λ (l : List Reply). replies v.work.before r ++ l) (sym k.1) ∙ append-nil (replies v.work.before r)))
       (h.each r lt)),
   subst legal (sym h.is) (is_legal (with_event h.before h.event) h.is_legal),
 )
@@ -154,18 +154,18 @@ module _ (n client now : ℕ) (call : Call) (v : Knowledge) (old : Shared) (take
     enters : EntersCall entries_in legal client_of call_of n client v new replies
     enters = ((now, call), called event, taken.1, refl, refl, longer, legal_now, taken.3)
 
-    more : (r : ℕ) → replies (entries_in new) r ≡ replies v.work.seen r ++ replies_in (told_of was event) r
-    more r = replies_of (box_value new.space) r ∙ ap (λ (z : History). model.replies z r) ent.0 ∙ replies_push was event r
-        ∙ ap (λ (l : List Reply). l ++ replies_in (told_of was event) r) (sym (replies_of was r) ∙ ap (λ (es : List Entry). replies es r) taken.2)
+    more : (r : ℕ) → replies (entries_in new) r ≡ replies v.work.seen r ++ replies_in (replies_of was event) r
+    more r = replies-entries (box_value new.space) r ∙ ap (λ (z : History). model.replies z r) ent.0 ∙ replies_push was event r
+        ∙ ap (λ (l : List Reply). l ++ replies_in (replies_of was event) r) (sym (replies-entries was r) ∙ ap (λ (es : List Entry). replies es r) taken.2)
 
     goes_on : GoesOn v.work.seen (entries_in new)
     goes_on = (called event ∷ [], longer)
 
     module _ (reply : Reply) (is : mine ≡ Some reply) where
-      told_is_all : told_of was event ≡ (client, reply) ∷ others
+      told_is_all : replies_of was event ≡ (client, reply) ∷ others
       told_is_all = ent.2 ∙ ap (λ o. told_list client o others) is
 
-      told_mine : replies_in (told_of was event) client ≡ reply ∷ replies_in others client
+      told_mine : replies_in (replies_of was event) client ≡ reply ∷ replies_in others client
       told_mine = ap (λ l. replies_in l client) told_is_all ∙ here client reply others
 
       pub may_answer : MayAnswer entries_in legal client_of call_of n client v new replies (answers.Reply reply)
@@ -190,7 +190,7 @@ module _ (n client now : ℕ) (call : Call) (v : Knowledge) (old : Shared) (take
       replied_far w e = subst (λ (z : Knowledge). IsAsFar v z) (sym (e ∙ (λ i. with_work (replying (taken.1 i) client (entries_in new) v.work) v))) (refl, refl, refl, refl, goes_on)
 
     module _ (is : mine ≡ None) where
-      tells_others : told_of was event ≡ others
+      tells_others : replies_of was event ≡ others
       tells_others = ent.2 ∙ ap (λ o. told_list client o others) is
 
       same_replies : replies (entries_in new) client ≡ replies v.work.seen client
@@ -237,7 +237,7 @@ module _ (o : ℕ) (v u w : Knowledge) (e : w ≡ with_work (paying o u.work) u)
   kept_paying kept = subst (λ (z : Knowledge). HasKept v z) (sym e) kept
 
 -- what a call of the namespace tells, by what its effects say
-told_as : (client place : ℕ) (mine : Option Outcome) (ended : List Ended) → map told_to (model.told_own client place mine ++ model.told_ended place 1 ended) ≡ told_list client (own_reply place mine) (other_replies place ended)
+told_as : (client place : ℕ) (mine : Option Outcome) (ended : List Completion) → map addressed (model.reply_to_own client place mine ++ model.replies_to_ended place 1 ended) ≡ told_list client (own_reply place mine) (other_replies place ended)
 told_as client place None ended = refl
 told_as client place (Some o) ended = refl
 

@@ -4,7 +4,7 @@ use Rattle.std.specs.Prelude.{filter, ◌==◌}
 use Rattle.ipc_call.specs.declared.calls.Call.{Call}
 use Rattle.ipc_call.specs.declared.replies.Reply.{Reply}
 use Rattle.ipc_call.specs.declared.replies.Reply.TheVariants.{Entered, Memory}
-use Rattle.ipc_history.specs.History.{Told, answers, reply_of}
+use Rattle.ipc_history.specs.History.{ReplyTo, answers, reply_of}
 use Rattle.pub_rule.specs.declared.work.Work.{Work}
 use Rattle.pub_rule.specs.declared.work.Stage.TheVariants.{Asking}
 use Rattle.pub_rule.specs.Work.{GoesOn}
@@ -26,7 +26,7 @@ abbrev AllEntered : List Reply → Type 0
 AllEntered [] = Unit {0}
 AllEntered (x ∷ xs) = IsEntered x × AllEntered xs
 
-all-map : (ts : List Told) → AllEntered (map reply_of ts)
+all-map : (ts : List ReplyTo) → AllEntered (map reply_of ts)
 all-map [] = tt
 all-map (t ∷ ts) = (tt, all-map ts)
 
@@ -35,7 +35,7 @@ all-last [] x h = h.0
 all-last (y ∷ got) x h = all-last got x h.1
 
 entered : (es : List Entry) (client : ℕ) (got : List Reply) (x : Reply) → replies es client ≡ got ++ x ∷ [] → IsEntered x
-entered es client got x is = all-last got x (subst AllEntered is (all-map (filter (λ (t : Told). t.client == client) (answers (history_in es)))))
+entered es client got x is = all-last got x (subst AllEntered is (all-map (filter (λ (t : ReplyTo). t.client == client) (answers (history_in es)))))
 
 done_of : (client : ℕ) (v w : Work Entry (ℕ × Call) Reply) (x : Reply) (c : ℕ × Call) (h : List Entry) → v.stage ≡ Asking client c → GoesOn v.seen h → legal h
     → own h client ≡ v.entered ++ c ∷ [] → replies h client ≡ v.got ++ x ∷ [] → w ≡ answered client c x h v → HasDone client v w x

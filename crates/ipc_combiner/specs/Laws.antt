@@ -9,7 +9,7 @@ use Rattle.ipc_model.specs.State.{State, opening}
 use Rattle.ipc_model.specs.Step.{Event, step}
 use Rattle.ipc_history.specs.History.{AreLegalFrom, History, IsLegal, IsLegalAt, with_event}
 use Rattle.ipc_history.specs.History as model
-use Rattle.ipc_space.specs.Telling.{told_of, replies_in}
+use Rattle.ipc_space.specs.Telling.{replies_of, replies_in}
 use Rattle.ipc_space.proofs.Balance.{own_push, replies_push, told_once, no_more_replies}
 use Rattle.pub_rule.specs.Work.{GoesOn}
 use Rattle.ipc_combiner.specs.declared.entries.Entry.{Entry}
@@ -70,7 +70,7 @@ own_called : (h : List Entry) (e : Event) (r : ℕ) → legal h
 own_called h e r was = ap (λ (z : History). model.own z r) (push_call h e was) ∙ own_push (history_in h) e r
 
 pub replies_called : (h : List Entry) (e : Event) (r : ℕ) → legal h
-    → replies (h ++ called e ∷ []) r ≡ replies h r ++ replies_in (told_of (history_in h) e) r
+    → replies (h ++ called e ∷ []) r ≡ replies h r ++ replies_in (replies_of (history_in h) e) r
 replies_called h e r was = ap (λ (z : History). model.replies z r) (push_call h e was) ∙ replies_push (history_in h) e r
 
 -- the laws
@@ -109,11 +109,11 @@ more_now h e r was is =
     let few = told_once (history_in h) e r (subst IsLegal (push_call h e was) is.1) in
     let now = replies_called h e r was in
     ⊎_elim
-    (λ (none : replies_in (told_of (history_in h) e) r ≡ []).
+    (λ (none : replies_in (replies_of (history_in h) e) r ≡ []).
     inl (now ∙ ap (λ l. replies h r ++ l) none ∙ append-nil (replies h r)))
-    (λ (one : (x : Reply) × (replies_in (told_of (history_in h) e) r ≡ x ∷ [])).
+    (λ (one : (x : Reply) × (replies_in (replies_of (history_in h) e) r ≡ x ∷ [])).
     inr (one.0, now ∙ ap (λ l. replies h r ++ l) one.1))
-    (one_of (replies_in (told_of (history_in h) e) r) few)
+    (one_of (replies_in (replies_of (history_in h) e) r) few)
 
 pub one_more : (h : List Entry) (e : Entry) (r : ℕ) → legal h → legal (h ++ e ∷ [])
     → OneMore (replies (h ++ e ∷ []) r) (replies h r)

@@ -4,7 +4,7 @@ use Rattle.ipc_call.specs.declared.calls.Call.{Call}
 use Rattle.ipc_call.specs.declared.replies.Reply.{Reply}
 use Rattle.ipc_model.specs.Step.{Event}
 use Rattle.ipc_history.specs.History.{History, IsLegal, with_event}
-use Rattle.ipc_space.specs.Telling.{told_of, replies_in}
+use Rattle.ipc_space.specs.Telling.{replies_of, replies_in}
 use Rattle.pub_rule.specs.declared.walk.View.{View}
 use Rattle.pub_rule.specs.declared.work.Work.{Work}
 use Rattle.pub_rule.specs.Lists.{IsOn}
@@ -31,7 +31,7 @@ told_list client (Some reply) others = (client, reply) ∷ others
 abbrev pub HasEntered : ℕ → ℕ → Call → History → History → Option Reply → List (ℕ × Reply) → Type 0
 HasEntered client now call h k mine others =
     let e : Event = record { client = client; now = now; call = call } in
-    (k ≡ with_event h e) × IsLegal k × (told_of h e ≡ told_list client mine others) × (replies_in others client ≡ [])
+    (k ≡ with_event h e) × IsLegal k × (replies_of h e ≡ told_list client mine others) × (replies_in others client ≡ [])
 
 -- it has answered the own call of the last event, and has still to hand out the rest of what the event tells: each
 -- client was handed its reply, or all that it is told is among the rest
@@ -45,7 +45,7 @@ pub record IsHanding (n : ℕ) (v : Knowledge) (state : Shared) (rest : List (�
   pub is_legal : IsLegal (with_event before event)
   pub known : All (λ t. t.0 < n) rest
   pub each : (r : ℕ) → r < n → (IsOn r v.work.paid × (replies_in rest r ≡ []))
-      ⊎ ((¬ IsOn r v.work.paid) × (replies_in rest r ≡ replies_in (told_of before event) r))
+      ⊎ ((¬ IsOn r v.work.paid) × (replies_in rest r ≡ replies_in (replies_of before event) r))
 
 -- the last event told a client this alone, and that wasn't handed it yet
 abbrev pub OwesReply : Knowledge → Shared → ℕ → Reply → Type 0

@@ -8,7 +8,7 @@ use Rattle.pub_rule.specs.declared.work.Stage.TheVariants.{Free, Asking}
 use Rattle.pub_rule.specs.Work.{GoesOn}
 use Rattle.pub_list.specs.declared.fresh.Fresh.{Fresh}
 use Rattle.pub_list.specs.declared.joined.Joined.{Joined}
-use Rattle.pub_list.specs.declared.lists.List.{List as Listing}
+use Rattle.pub_list.specs.declared.list.List.{List as Listing}
 use Rattle.pub_list.specs.Clients.{first_seen, work, BelongsTo, IsFreshOf}
 use Rattle.pub_list.specs.Opening.{opening_of}
 use Rattle.ipc_history.specs.History.{History}

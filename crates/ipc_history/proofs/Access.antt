@@ -21,14 +21,14 @@ use Rattle.ipc_history.specs.History.{History, next_step, run}
 use Rattle.ipc_history.specs.Access.{AreMet, IsDenied, caller_of, checks_of, needs_of, does_pass}
 
 abbrev is_serve : {X : Type 0} → Decision X → Bool
-is_serve (decisions.Refuse rule) = false
-is_serve decisions.Wait = false
-is_serve (decisions.Grant answer new) = true
+is_serve (decisions.Refused rule) = false
+is_serve decisions.Waits = false
+is_serve (decisions.Granted answer new) = true
 
 abbrev pub refusal : {X : Type 0} → Decision X → Option Rule
-refusal (decisions.Refuse rule) = Some rule
-refusal decisions.Wait = None
-refusal (decisions.Grant answer new) = None
+refusal (decisions.Refused rule) = Some rule
+refusal decisions.Waits = None
+refusal (decisions.Granted answer new) = None
 
 -- a rule that is no denial isn't the denial
 pub other-rule : (r rule : Rule) → IsPlain r → is_denial rule ≡ true → Some r ≡ Some rule → ⊥
@@ -65,11 +65,11 @@ module _ (c : Credentials) where
   later check checks rule passes d =
       record { before = check ∷ d.before; need = d.need; after = d.after; split = ap (λ cs. check ∷ cs) d.split; passed = (passes, d.passed); fails = d.fails }
 
-waits-served : (X : Type 0) (b : Bool) (rule : Rule) → is_serve {X = X} (if b then decisions.Refuse rule else decisions.Wait) ≡ true → ⊥
+waits-served : (X : Type 0) (b : Bool) (rule : Rule) → is_serve {X = X} (if b then decisions.Refused rule else decisions.Waits) ≡ true → ⊥
 waits-served X true rule is = true≢false (sym is)
 waits-served X false rule is = true≢false (sym is)
 
-waits-refused : (X : Type 0) (b : Bool) (r rule : Rule) → IsPlain r → is_denial rule ≡ true → refusal {X = X} (if b then decisions.Refuse r else decisions.Wait) ≡ Some rule → ⊥
+waits-refused : (X : Type 0) (b : Bool) (r rule : Rule) → IsPlain r → is_denial rule ≡ true → refusal {X = X} (if b then decisions.Refused r else decisions.Waits) ≡ Some rule → ⊥
 waits-refused X true r rule plain denies is = other-rule r rule plain denies is
 waits-refused X false r rule plain denies is = none-some rule is
 
@@ -107,12 +107,12 @@ module _ {X : Type 0} (c : Credentials) where
   needed (Some rule) d is = absurd (true≢false (sym is))
 
   by-passed : (check : Check) (d : Decision X) → does_pass c check ≡ true → by_check c check d ≡ d
-  by-passed (Passes passes rule plain) d is = ap (λ b. if b then d else decisions.Refuse rule) is
+  by-passed (Passes passes rule plain) d is = ap (λ b. if b then d else decisions.Refused rule) is
   by-passed (Needs need) d is = needed (denial c need) d is
   by-passed (Proceeds proceeds flags rule plain) d is = ap (λ b. if b then d else or_wait flags rule) is
 
   decides : (plan : Plan X) (before after : List Check) (need : Need) (rule : Rule) → checks_in plan ≡ before ++ Needs need ∷ after → AllByRecursion (λ check. does_pass c check ≡ true) before → denial c need ≡ Some rule
-      → decision c plan ≡ decisions.Refuse rule
+      → decision c plan ≡ decisions.Refused rule
   decides (check ⨾ rest) [] after need rule split passed fails = ap (λ k. by_check c k (decision c rest)) (ap (head_or check) split) ∙ ap (λ o. unless o (decision c rest)) fails
   decides (check ⨾ rest) (b ∷ before) after need rule split passed fails =
       ap (λ k. by_check c k (decision c rest)) (ap (head_or check) split) ∙ by-passed b (decision c rest) passed.0 ∙ decides rest before after need rule (ap tail_of split) passed.1 fails
@@ -120,29 +120,29 @@ module _ {X : Type 0} (c : Credentials) where
   decides (Grant answer new) before after need rule split passed fails = absurd (ended before after (Needs need) split)
 
 pub served : (d : Decision State) (answer : Answer) → outcome_of d ≡ Some (Ok answer) → is_serve d ≡ true
-served (decisions.Refuse rule) answer is = absurd (true≢false (ap is_ok_own (sym is)))
-served decisions.Wait answer is = absurd (none-some (Ok answer) is)
-served (decisions.Grant other new) answer is = refl
+served (decisions.Refused rule) answer is = absurd (true≢false (ap is_ok_own (sym is)))
+served decisions.Waits answer is = absurd (none-some (Ok answer) is)
+served (decisions.Granted other new) answer is = refl
 
 pub refused : (d : Decision State) (rule : Rule) → outcome_of d ≡ Some (Err rule) → refusal d ≡ Some rule
-refused (decisions.Refuse other) rule is = ap rule_of_own is
-refused decisions.Wait rule is = absurd (none-some (Err rule) is)
-refused (decisions.Grant answer new) rule is = absurd (true≢false (ap is_ok_own is))
+refused (decisions.Refused other) rule is = ap rule_of_own is
+refused decisions.Waits rule is = absurd (none-some (Err rule) is)
+refused (decisions.Granted answer new) rule is = absurd (true≢false (ap is_ok_own is))
 
 -- of a call that may be late
 late-served : (late : Bool) (d : Decision State) (answer : Answer) → outcome_of (unless_late late d) ≡ Some (Ok answer) → is_serve d ≡ true
-late-served true (decisions.Refuse rule) answer is = absurd (true≢false (ap is_ok_own (sym is)))
-late-served true decisions.Wait answer is = absurd (true≢false (ap is_ok_own (sym is)))
-late-served true (decisions.Grant other new) answer is = refl
+late-served true (decisions.Refused rule) answer is = absurd (true≢false (ap is_ok_own (sym is)))
+late-served true decisions.Waits answer is = absurd (true≢false (ap is_ok_own (sym is)))
+late-served true (decisions.Granted other new) answer is = refl
 late-served false d answer is = served d answer is
 
 late-denied : (late : Bool) (d : Decision State) (rule : Rule) → is_denial rule ≡ true → outcome_of (unless_late late d) ≡ Some (Err rule) → refusal d ≡ Some rule
-late-denied true (decisions.Refuse other) rule denies is = ap rule_of_own is
-late-denied true decisions.Wait rule denies is = absurd (other-rule TimedOut rule tt denies (ap rule_of_own is))
-late-denied true (decisions.Grant answer new) rule denies is = absurd (true≢false (ap is_ok_own is))
+late-denied true (decisions.Refused other) rule denies is = ap rule_of_own is
+late-denied true decisions.Waits rule denies is = absurd (other-rule TimedOut rule tt denies (ap rule_of_own is))
+late-denied true (decisions.Granted answer new) rule denies is = absurd (true≢false (ap is_ok_own is))
 late-denied false d rule denies is = refused d rule is
 
-late-refuses : (late : Bool) (rule : Rule) → outcome_of {X = State} (unless_late late (decisions.Refuse rule)) ≡ Some (Err rule)
+late-refuses : (late : Bool) (rule : Rule) → outcome_of {X = State} (unless_late late (decisions.Refused rule)) ≡ Some (Err rule)
 late-refuses true rule = refl
 late-refuses false rule = refl
 

@@ -14,7 +14,7 @@ use Rattle.ipc_ids.specs.Table.{IsSound, Table, WasUsed, next_id, with_object}
 use Rattle.ipc_ids.proofs.Sound.{IsFresh, IsSound-empty, WasUsed-there, fresh-unused, get-insert-same, next_id-fresh}
 use Rattle.ipc_objects.specs.declared.object.Object.{Object}
 use Rattle.ipc_model.specs.State.{Caller, Queues, Segment, SemSet, Sems, Shared, State, caller, creds_at, opening}
-use Rattle.ipc_model.specs.Decision.{Decision, Grant, Outcome, outcome_of}
+use Rattle.ipc_model.specs.Decision.{Decision, Granted, Outcome, outcome_of}
 use Rattle.ipc_model.specs.Plan.{found}
 use Rattle.ipc_model.specs.Plan as plans
 use Rattle.ipc_model.specs.Gets.{Getting, get, get_found, get_queue, get_segment, get_set, getting_queue, getting_segment, getting_set, new_object, object_of_key, Get}
@@ -97,10 +97,10 @@ all-where P false xs named = tt
 module _ {X : Type 0} (table : State → Table X) (grows : (s t : State) → Follows s t → Grows (table s) (table t)) where
   named-in : (s : State) (d : Decision State) (client : ℕ) (call : Call) → IfGranted (λ answer new. IsNew (table s) answer (table new)) d → Keeps s d → IsSound (table s)
       → AllByRecursion (λ id. (WasUsed (table s) id → ⊥) × WasUsed (table (settled (cancelled_by (state_by s client call d) call d).state).state) id) (id_in (outcome_of d))
-  named-in s (Grant (Id id) new) client call names keeps sound =
+  named-in s (Granted (Id id) new) client call names keeps sound =
       let cancelled = (cancel new call).state in
       let granted = (grows s new keeps.1).sound sound in
-      let left = grows new cancelled (Follows-cancelled_by new call (Grant (Id id) new)) in
+      let left = grows new cancelled (Follows-cancelled_by new call (Granted (Id id) new)) in
       let later = grows cancelled (settled cancelled).state (Follows-settled cancelled) in
       ((fresh-unused (table s) id names.0, later.used (left.sound granted) id (left.used granted id names.1)), tt)
   named-in s d client call names keeps sound = tt

@@ -94,12 +94,12 @@ never-denied c p rule none denies is = let d = denied c p rule denies is in need
 pub record Rights : Type 0 where
   pub limits : Limits
   pub clients : List Credentials
-  pub ended : List ℕ
+  pub exited : List ℕ
   pub queues : ℕ → Option Perm
   pub sets : ℕ → Option Perm
 
 abbrev pub rights_of : State → Rights
-rights_of s = record { limits = s.limits; clients = s.clients; ended = s.ended; queues = λ id. perm_in s.queues id; sets = λ id. perm_in s.sems.sets id }
+rights_of s = record { limits = s.limits; clients = s.clients; exited = s.exited; queues = λ id. perm_in s.queues id; sets = λ id. perm_in s.sems.sets id }
 
 abbrev creds_in : Rights → ℕ → Credentials
 creds_in r client = slice_index_or r.clients client nobody
@@ -135,8 +135,8 @@ AsksFor want (Some perm) rest = (later : Plan State) × (rest ≡ Needs (Permiss
 
 record Shape (s : State) (client : ℕ) (call : Call) : Type 0 where
   pub rest : Plan State
-  pub plain : are_plain (before s.limits s.ended client call) ≡ true
-  pub is : plan s client call ≡ in_order (before s.limits s.ended client call) rest
+  pub plain : are_plain (before s.limits s.exited client call) ≡ true
+  pub is : plan s client call ≡ in_order (before s.limits s.exited client call) rest
   pub asks : AsksFor (want_of call) (perm_for (rights_of s) call) rest
 
 module _ (s : State) (who : Caller) (id : ℕ) where
@@ -182,13 +182,13 @@ asks-needs want (Some perm) rest asks = ap (λ p. needs_in p) asks.1 ∙ ap (λ 
 needs-by : (s : State) (client : ℕ) (call : Call) → can_wait call ≡ true → needs s client call ≡ needs_for (want_of call) (perm_for (rights_of s) call)
 needs-by s client call can =
     let of = shape s client call can in
-    ap (λ p. needs_in p) of.is ∙ needs-plain of.rest (before s.limits s.ended client call) of.plain ∙ asks-needs (want_of call) (perm_for (rights_of s) call) of.rest of.asks
+    ap (λ p. needs_in p) of.is ∙ needs-plain of.rest (before s.limits s.exited client call) of.plain ∙ asks-needs (want_of call) (perm_for (rights_of s) call) of.rest of.asks
 
 -- the right is lacking: every check before it passes, and it is denied by the rule
 pub record Lacks (r : Rights) (client : ℕ) (call : Call) (rule : Rule) : Type 0 where
   pub perm : Perm
   pub there : perm_for r call ≡ Some perm
-  pub passed : AllByRecursion (λ check. does_pass (creds_in r client) check ≡ true) (before r.limits r.ended client call)
+  pub passed : AllByRecursion (λ check. does_pass (creds_in r client) check ≡ true) (before r.limits r.exited client call)
   pub fails : denial (creds_in r client) (Permission perm (want_of call)) ≡ Some rule
 
 module _ (s : State) (client : ℕ) (call : Call) (rule : Rule) (can : can_wait call ≡ true) where
@@ -196,7 +196,7 @@ module _ (s : State) (client : ℕ) (call : Call) (rule : Rule) (can : can_wait 
   lacks-denied : Lacks (rights_of s) client call rule → IsDenied (creds_at s client) (checks_in (plan s client call)) rule
   lacks-denied lacks =
       let of = shape s client call can in
-      let first = before s.limits s.ended client call in
+      let first = before s.limits s.exited client call in
       let asks : AsksFor (want_of call) (Some lacks.perm) of.rest = subst (λ o. AsksFor (want_of call) o of.rest) lacks.there of.asks in
       record {
         before = first;
@@ -219,8 +219,8 @@ module _ (s : State) (client : ℕ) (call : Call) (rule : Rule) (can : can_wait 
       of : Shape s client call
       of = shape s client call can
 
-      parts : AllByRecursion (λ check. does_pass (creds_at s client) check ≡ true) (before s.limits s.ended client call) × (refusal (decision (creds_at s client) of.rest) ≡ Some rule)
-      parts = passed-denied of.rest (creds_at s client) rule denies (before s.limits s.ended client call) of.plain (ap (λ p. refusal (decision (creds_at s client) p)) (sym of.is) ∙ is)
+      parts : AllByRecursion (λ check. does_pass (creds_at s client) check ≡ true) (before s.limits s.exited client call) × (refusal (decision (creds_at s client) of.rest) ≡ Some rule)
+      parts = passed-denied of.rest (creds_at s client) rule denies (before s.limits s.exited client call) of.plain (ap (λ p. refusal (decision (creds_at s client) p)) (sym of.is) ∙ is)
 
       by : (o : Option Perm) → perm_for (rights_of s) call ≡ o → AsksFor (want_of call) o of.rest → Lacks (rights_of s) client call rule
       by None there asks = absurd (other-rule BadId rule tt denies (ap (λ p. refusal (decision (creds_at s client) p)) (sym asks) ∙ parts.1))
@@ -232,7 +232,7 @@ module _ (s : State) (client : ℕ) (call : Call) (rule : Rule) (can : can_wait 
       }
 
   -- a call that waited, and whose need fails where the limits are the same and nobody has ended since
-  pub waited-denied : (old : State) → old.limits ≡ s.limits → old.ended ≡ s.ended → proceeds (decide old client call) ≡ false → first_denial (creds_at s client) (needs s client call) ≡ Some rule
+  pub waited-denied : (old : State) → old.limits ≡ s.limits → old.exited ≡ s.exited → proceeds (decide old client call) ≡ false → first_denial (creds_at s client) (needs s client call) ≡ Some rule
       → Lacks (rights_of s) client call rule
   waited-denied old limits ended waits first =
       by (perm_for (rights_of s) call) refl (ap (λ ns. first_denial (creds_at s client) ns) (sym (needs-by s client call can)) ∙ first)
@@ -240,9 +240,9 @@ module _ (s : State) (client : ℕ) (call : Call) (rule : Rule) (can : can_wait 
       of : Shape old client call
       of = shape old client call can
 
-      passes : AllByRecursion (λ check. does_pass (creds_at s client) check ≡ true) (before s.limits s.ended client call)
+      passes : AllByRecursion (λ check. does_pass (creds_at s client) check ≡ true) (before s.limits s.exited client call)
       passes = subst (λ cs. AllByRecursion (λ check. does_pass (creds_at s client) check ≡ true) cs) (λ i. before (limits i) (ended i) client call)
-          (passed-waits of.rest (creds_at old client) (creds_at s client) (before old.limits old.ended client call) of.plain (ap (λ p. proceeds (decision (creds_at old client) p)) (sym of.is) ∙ waits))
+          (passed-waits of.rest (creds_at old client) (creds_at s client) (before old.limits old.exited client call) of.plain (ap (λ p. proceeds (decision (creds_at old client) p)) (sym of.is) ∙ waits))
 
       fails-first : (o : Option Rule) → or_later o None ≡ Some rule → o ≡ Some rule
       fails-first None is = is
@@ -323,7 +323,7 @@ rights-kept s client call can = Ends-decision (creds_at s client) (KeepsRights s
 
 -- IPC_SET changes no limit, and it ends no client
 abbrev KeepsLimits : State → Answer → State → Type 0
-KeepsLimits s answer new = (new.limits ≡ s.limits) × (new.ended ≡ s.ended)
+KeepsLimits s answer new = (new.limits ≡ s.limits) × (new.exited ≡ s.exited)
 
 limits-set : (s : State) (kind : Kind) (id : ℕ) (new : Settings) → KeepsLimits s Done (with_set s kind id new)
 limits-set s kinds.Queue id new = (refl, refl)
@@ -346,7 +346,7 @@ module _ (s new : State) (client : ℕ) (answer : Answer) (w : Waiting) (can : c
   told-first true o is = is
   told-first false o is = absurd (none-some rule is)
 
-  pub cancelled-lacks : (call : Call) → decide_call s client call ≡ decisions.Grant answer new → cancelled new call w ≡ Some rule → Lacks (rights_of new) w.client w.call rule
+  pub cancelled-lacks : (call : Call) → decide_call s client call ≡ decisions.Granted answer new → cancelled new call w ≡ Some rule → Lacks (rights_of new) w.client w.call rule
   cancelled-lacks (IpcSet kind id uid gid mode qbytes) granted is =
       let call = IpcSet kind id uid gid mode qbytes in
       let kept : KeepsLimits s answer new = subst (IfGranted (KeepsLimits s)) granted (late-granted (KeepsLimits s) (is_late s call) (decide s client call)

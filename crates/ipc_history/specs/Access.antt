@@ -1,7 +1,7 @@
 -- Who is granted, and who is denied: the caller of an event, and those whose wait it ends.
 use Rattle.std.specs.Prelude.{◌≡◌, Bool, true, List, ◌∷◌, ◌++◌, Some, None, is_none, Ok, Err}
 use Rattle.std.specs.List.{AllByRecursion}
-use Rattle.ipc_call.specs.declared.replies.Ended.{Ended}
+use Rattle.ipc_call.specs.declared.replies.Completion.{Completion}
 use Rattle.ipc_call.specs.declared.replies.Waiting.{Waiting}
 use Rattle.ipc_call.specs.declared.rules.Rule.{Rule}
 use Rattle.ipc_creds.specs.Credentials.{Credentials}
@@ -51,7 +51,7 @@ IsByRights s w (Err rule) =
 
 -- a client whose wait ended between two states had a call that waited in the first, which ended by its rights in the
 -- second
-pub record EndedByRights (before after : State) (told : Ended) : Type 0 where
+pub record EndedByRights (before after : State) (completion : Completion) : Type 0 where
   pub call : Waiting
-  pub waited : waiting_of before told.client ≡ Some call
-  pub by_rights : IsByRights after call told.outcome
+  pub waited : waiting_of before completion.client ≡ Some call
+  pub by_rights : IsByRights after call completion.outcome

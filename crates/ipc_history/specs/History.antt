@@ -2,7 +2,7 @@
 use Rattle.std.specs.Prelude.{◌≡◌, ℕ, ◌+◌, ◌<◌, ◌==◌, false, List, [], ◌∷◌, ◌++◌, length, map, filter, Option, Some, None, Ok, Err}
 use Rattle.ipc_call.specs.declared.calls.Call.{Call}
 use Rattle.ipc_call.specs.declared.limits.Limits.{Limits}
-use Rattle.ipc_call.specs.declared.replies.Ended.{Ended}
+use Rattle.ipc_call.specs.declared.replies.Completion.{Completion}
 use Rattle.ipc_call.specs.declared.replies.JournalRow.{JournalRow}
 use Rattle.ipc_call.specs.declared.replies.JournalRow.TheVariants as rows
 use Rattle.ipc_call.specs.declared.replies.Reply.{Reply}
@@ -41,43 +41,43 @@ abbrev pub IsLegal : History → Type 0
 IsLegal h = AreLegalFrom (opening h.limits h.clients) h.events
 
 -- one reply: to whom, by the event at which place, in which turn, and how the call ended
-pub record Told : Type 0 where
+pub record ReplyTo : Type 0 where
   pub client : ℕ
   pub place : ℕ
   pub turn : ℕ
   pub outcome : Outcome
 
-abbrev pub told_own : ℕ → ℕ → Option Outcome → List Told
-told_own client place None = []
-told_own client place (Some outcome) = record { client = client; place = place; turn = 0; outcome = outcome } ∷ []
+abbrev pub reply_to_own : ℕ → ℕ → Option Outcome → List ReplyTo
+reply_to_own client place None = []
+reply_to_own client place (Some outcome) = record { client = client; place = place; turn = 0; outcome = outcome } ∷ []
 
-abbrev pub told_ended : ℕ → ℕ → List Ended → List Told
-told_ended place turn [] = []
-told_ended place turn (e ∷ es) =
-    record { client = e.client; place = place; turn = turn; outcome = e.outcome } ∷ told_ended place (turn + 1) es
+abbrev pub replies_to_ended : ℕ → ℕ → List Completion → List ReplyTo
+replies_to_ended place turn [] = []
+replies_to_ended place turn (e ∷ es) =
+    record { client = e.client; place = place; turn = turn; outcome = e.outcome } ∷ replies_to_ended place (turn + 1) es
 
 -- the replies of one event: the caller's has turn 0, the others count from 1
-abbrev pub told_by : ℕ → ℕ → Stepped → List Told
-told_by client place stepped = told_own client place stepped.own ++ told_ended place 1 stepped.ended
+abbrev pub replies_by : ℕ → ℕ → Stepped → List ReplyTo
+replies_by client place stepped = reply_to_own client place stepped.own ++ replies_to_ended place 1 stepped.ended
 
-abbrev pub answers_from : ℕ → State → List Event → List Told
+abbrev pub answers_from : ℕ → State → List Event → List ReplyTo
 answers_from place s [] = []
-answers_from place s (e ∷ es) = told_by e.client place (step s e) ++ answers_from (place + 1) (step s e).state es
+answers_from place s (e ∷ es) = replies_by e.client place (step s e) ++ answers_from (place + 1) (step s e).state es
 
 -- all replies of a history
-abbrev pub answers : History → List Told
+abbrev pub answers : History → List ReplyTo
 answers h = answers_from 1 (opening h.limits h.clients) h.events
 
 abbrev pub rule_in : Outcome → Option Rule
 rule_in (Ok answer) = None
 rule_in (Err rule) = Some rule
 
-abbrev pub answered_row : Told → JournalRow
-answered_row told = rows.Answered told.client told.place told.turn (rule_in told.outcome)
+abbrev pub answered_row : ReplyTo → JournalRow
+answered_row reply = rows.Answered reply.client reply.place reply.turn (rule_in reply.outcome)
 
 -- the journal's rows of one event: the call, then its replies by turn
 abbrev pub rows_by : ℕ → Event → Stepped → List JournalRow
-rows_by place e stepped = rows.Called e.client e.now e.call ∷ map answered_row (told_by e.client place stepped)
+rows_by place e stepped = rows.Called e.client e.now e.call ∷ map answered_row (replies_by e.client place stepped)
 
 abbrev pub rows_from : ℕ → State → List Event → List JournalRow
 rows_from place s [] = []
@@ -91,12 +91,12 @@ rows_of h = rows_from 1 (opening h.limits h.clients) h.events
 abbrev pub own : History → ℕ → List (ℕ × Call)
 own h client = map (λ e. (e.now, e.call)) (filter (λ e. e.client == client) h.events)
 
-abbrev pub reply_of : Told → Reply
-reply_of told = Entered told.place told.turn told.outcome
+abbrev pub reply_of : ReplyTo → Reply
+reply_of reply = Entered reply.place reply.turn reply.outcome
 
 -- the replies that a client received, in order
 abbrev pub replies : History → ℕ → List Reply
-replies h client = map reply_of (filter (λ told. told.client == client) (answers h))
+replies h client = map reply_of (filter (λ reply. reply.client == client) (answers h))
 
 abbrev pub with_event : History → Event → History
 with_event h e = record h { events = h.events ++ e ∷ [] }

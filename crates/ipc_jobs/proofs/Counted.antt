@@ -10,7 +10,7 @@ use Rattle.ipc_call.specs.declared.replies.Reply.TheVariants.{Entered}
 use Rattle.ipc_model.specs.Decision.{Outcome}
 use Rattle.ipc_model.specs.State.{State, opening}
 use Rattle.ipc_model.specs.Step.{Event, step}
-use Rattle.ipc_history.specs.History.{History, Told, answered_row, answers, answers_from, own, replies, reply_of, rows_from, rows_of, rule_in, told_by}
+use Rattle.ipc_history.specs.History.{History, ReplyTo, answered_row, answers, answers_from, own, replies, reply_of, rows_from, rows_of, rule_in, replies_by}
 use Rattle.ipc_jobs.specs.Courses.{is_refusal}
 use Rattle.ipc_jobs.specs.Rows.{is_call_of, is_refusal_of}
 
@@ -18,15 +18,15 @@ use Rattle.ipc_jobs.specs.Rows.{is_call_of, is_refusal_of}
 pub count-cons : {X : Type 0} (p : X → Bool) (x : X) (xs : List X) → count_by p (x ∷ xs) ≡ cond (p x) 1 0 + count_by p xs
 count-cons p x xs = sum_by-cons (λ y. cond (p y) 1 0) x xs
 
-no_calls : (k : ℕ) (ts : List Told) → count_by (is_call_of k) (map answered_row ts) ≡ 0
+no_calls : (k : ℕ) (ts : List ReplyTo) → count_by (is_call_of k) (map answered_row ts) ≡ 0
 no_calls k [] = refl
 no_calls k (t ∷ ts) = let rest = no_calls k ts in omega (arith, rest)
 
 calls_from : (k place : ℕ) (s : State) (es : List Event) → count_by (is_call_of k) (rows_from place s es) ≡ count_by (λ e. e.client == k) es
 calls_from k place s [] = refl
 calls_from k place s (e ∷ es) =
-    let told = map answered_row (told_by e.client place (step s e)) in
-    let none = no_calls k (told_by e.client place (step s e)) in
+    let told = map answered_row (replies_by e.client place (step s e)) in
+    let none = no_calls k (replies_by e.client place (step s e)) in
     let rest = calls_from k (place + 1) (step s e).state es in
     let later = rows_from (place + 1) (step s e).state es in
     let both = sum_by-append (λ (row : JournalRow). cond (is_call_of k row) 1 0) told later in
@@ -43,7 +43,7 @@ refusals_from : (k place : ℕ) (s : State) (es : List Event)
     → count_by (is_refusal_of k) (rows_from place s es) ≡ count_by (is_refusal_of k) (map answered_row (answers_from place s es))
 refusals_from k place s [] = refl
 refusals_from k place s (e ∷ es) =
-    let told = told_by e.client place (step s e) in
+    let told = replies_by e.client place (step s e) in
     let later = answers_from (place + 1) (step s e).state es in
     let test = λ (row : JournalRow). cond (is_refusal_of k row) 1 0 in
     let rest = refusals_from k (place + 1) (step s e).state es in
@@ -56,7 +56,7 @@ refuses : (o : Outcome) (place turn : ℕ) → is_refusal (Entered place turn o)
 refuses (Ok answer) place turn = refl
 refuses (Err rule) place turn = refl
 
-one_more : (b : Bool) (t : Told) (ts : List Told) (n : ℕ) → n ≡ count_by is_refusal (map reply_of ts)
+one_more : (b : Bool) (t : ReplyTo) (ts : List ReplyTo) (n : ℕ) → n ≡ count_by is_refusal (map reply_of ts)
     → cond (b && is_some (rule_in t.outcome)) 1 0 + n ≡ count_by is_refusal (map reply_of (cond b (t ∷ ts) ts))
 one_more true t ts n is =
     let here = ap {B = ℕ} (λ (x : Bool). cond x 1 0) (refuses t.outcome t.place t.turn) in
@@ -64,7 +64,7 @@ one_more true t ts n is =
     omega (arith, is, here, all)
 one_more false t ts n is = omega (arith, is)
 
-of_client : (k : ℕ) (ts : List Told) → count_by (is_refusal_of k) (map answered_row ts) ≡ count_by is_refusal (map reply_of (filter (λ t. t.client == k) ts))
+of_client : (k : ℕ) (ts : List ReplyTo) → count_by (is_refusal_of k) (map answered_row ts) ≡ count_by is_refusal (map reply_of (filter (λ t. t.client == k) ts))
 of_client k [] = refl
 of_client k (t ∷ ts) = count-cons (is_refusal_of k) (answered_row t) (map answered_row ts) ∙ one_more (t.client == k) t (filter (λ t. t.client == k) ts) (count_by (is_refusal_of k) (map answered_row ts)) (of_client k ts)
 

@@ -15,7 +15,7 @@ use Rattle.ipc_perm.specs.Access.{BecomeGroup, BecomeUser, SameUser, SetGroups}
 use Rattle.ipc_objects.specs.declared.object.Object.{Object}
 use Rattle.sem_set.specs.Sets.{pid_of as last_of, value_of}
 use Rattle.sem_undo.specs.Entries.{adj_of}
-use Rattle.ipc_model.specs.State.{Queues, SemSet, Sems, Shared, State, caller, creds_at, has_ended}
+use Rattle.ipc_model.specs.State.{Queues, SemSet, Sems, Shared, State, caller, creds_at, has_exited}
 use Rattle.ipc_model.specs.Plan.{Needs, Passes, Plan}
 use Rattle.ipc_model.specs.Gets.{getting_queue, Get}
 use Rattle.ipc_model.specs.Semaphores.{after_exit, set_at, stopping, stopping_on}
@@ -82,10 +82,10 @@ module _ (client : ℕ) (s : State) where
   own-waiting id num which = sets.own-look client c s.sems id num _ _ (λ o there isnt. count-same client c s id (hidden-at (hides_closed client c) s.sems.sets id (Some o) there ∙ isnt) which)
 
   abbrev gone : State → State
-  gone x = record x { ended = x.ended ++ client ∷ []; sems = after_exit x.sems (caller s client); shared = after_detaches x.shared (caller s client) }
+  gone x = record x { exited = x.exited ++ client ∷ []; sems = after_exit x.sems (caller s client); shared = after_detaches x.shared (caller s client) }
 
   own-exit : R (gone s) (gone b)
-  own-exit = (λ i. record (dim-twice client c s i) { ended = s.ended ++ client ∷ []; sems = on_sems.0 i; shared = on_shared.0 i }, by)
+  own-exit = (λ i. record (dim-twice client c s i) { exited = s.exited ++ client ∷ []; sems = on_sems.0 i; shared = on_shared.0 i }, by)
     where
       on_sems : sets.IsAlike client c s.sems (after_exit s.sems (caller s client)) (after_exit b.sems (caller s client))
       on_sems = sets.own-exit client c s.sems (caller s client)
@@ -144,7 +144,7 @@ module _ (client : ℕ) (s : State) where
   own-alive Exit = both-grant R c Done _ _ own-exit
 
   own-plan : (call : Call) → Both c R (plan s client call) (plan b client call)
-  own-plan call = both-check R c (Passes (not (has_ended s client)) Ended tt) (own-alive call)
+  own-plan call = both-check R c (Passes (not (has_exited s client)) Ended tt) (own-alive call)
 
 -- with the client's credentials by another name
 pub own-alike : (client : ℕ) (c : Credentials) (s : State) (call : Call) → creds_at s client ≡ c → Both c (IsAlike client c s) (plan s client call) (plan (blur_by client c s) client call)

@@ -5,7 +5,7 @@ use Rattle.ipc_call.specs.declared.rules.Rule.{Rule}
 use Rattle.ipc_call.specs.declared.replies.Answer.{Answer}
 use Rattle.ipc_creds.specs.Credentials.{Credentials}
 use Rattle.ipc_perm.specs.Access.{Need, denial}
-use Rattle.ipc_model.specs.Decision.{Decision, Refuse, Wait, Grant, outcome_of, proceeds}
+use Rattle.ipc_model.specs.Decision.{Decision, Refused, Waits, Granted, outcome_of, proceeds}
 use Rattle.std.proofs.lemmas.Option.{none-some}
 use Rattle.ipc_model.specs.Decide.{unless_late}
 use Rattle.ipc_model.specs.Plan as plans
@@ -15,9 +15,9 @@ use Rattle.ipc_model.proofs.Alike.{proceeds-on}
 
 -- the same refusal, or both wait, or both are granted with the same answer, and what they change is related
 abbrev pub Pair : {X Y : Type 0} → (X → Y → Type 0) → Decision X → Decision Y → Type 0
-Pair R (Refuse rule) (Refuse other) = rule ≡ other
-Pair R Wait Wait = Unit {0}
-Pair R (Grant answer new) (Grant other later) = (answer ≡ other) × R new later
+Pair R (Refused rule) (Refused other) = rule ≡ other
+Pair R Waits Waits = Unit {0}
+Pair R (Granted answer new) (Granted other later) = (answer ≡ other) × R new later
 Pair R d e = ⊥
 
 -- of two plans, for a caller
@@ -29,11 +29,11 @@ pub record Grants {X : Type 0} (c : Credentials) (P : X → Type 0) (p : Plan X)
   pub granted : IfGranted (λ answer x. P x) (decision c p)
 
 module _ {X Y : Type 0} (R : X → Y → Type 0) where
-  pair-if : (b : Bool) (d : Decision X) (e : Decision Y) (rule : Rule) → (b ≡ true → Pair R d e) → Pair R (cond b d (Refuse rule)) (cond b e (Refuse rule))
+  pair-if : (b : Bool) (d : Decision X) (e : Decision Y) (rule : Rule) → (b ≡ true → Pair R d e) → Pair R (cond b d (Refused rule)) (cond b e (Refused rule))
   pair-if true d e rule both = both refl
   pair-if false d e rule both = refl
 
-  pair-or_wait : (b : Bool) (rule : Rule) → Pair R (cond b (Refuse rule) Wait) (cond b (Refuse rule) Wait)
+  pair-or_wait : (b : Bool) (rule : Rule) → Pair R (cond b (Refused rule) Waits) (cond b (Refused rule) Waits)
   pair-or_wait true rule = refl
   pair-or_wait false rule = tt
 
@@ -81,15 +81,15 @@ module _ {X Y : Type 0} (R : X → Y → Type 0) where
     both-found (Some z) rule plain both = both z refl
 
   pub pair-map : {U V : Type 0} (S : U → V → Type 0) (f : X → U) (g : Y → V) → ((x : X) (y : Y) → R x y → S (f x) (g y)) → (d : Decision X) (e : Decision Y) → Pair R d e → Pair S (on_whole f d) (on_whole g e)
-  pair-map S f g then_so (Refuse rule) (Refuse other) both = both
-  pair-map S f g then_so (Refuse rule) Wait both = absurd both
-  pair-map S f g then_so (Refuse rule) (Grant answer new) both = absurd both
-  pair-map S f g then_so Wait (Refuse rule) both = absurd both
-  pair-map S f g then_so Wait Wait both = tt
-  pair-map S f g then_so Wait (Grant answer new) both = absurd both
-  pair-map S f g then_so (Grant answer new) (Refuse rule) both = absurd both
-  pair-map S f g then_so (Grant answer new) Wait both = absurd both
-  pair-map S f g then_so (Grant answer new) (Grant other later) both = (both.0, then_so new later both.1)
+  pair-map S f g then_so (Refused rule) (Refused other) both = both
+  pair-map S f g then_so (Refused rule) Waits both = absurd both
+  pair-map S f g then_so (Refused rule) (Granted answer new) both = absurd both
+  pair-map S f g then_so Waits (Refused rule) both = absurd both
+  pair-map S f g then_so Waits Waits both = tt
+  pair-map S f g then_so Waits (Granted answer new) both = absurd both
+  pair-map S f g then_so (Granted answer new) (Refused rule) both = absurd both
+  pair-map S f g then_so (Granted answer new) Waits both = absurd both
+  pair-map S f g then_so (Granted answer new) (Granted other later) both = (both.0, then_so new later both.1)
 
   -- of plans of parts, on their wholes
   pub both-on : {U V : Type 0} (S : U → V → Type 0) (f : X → U) (g : Y → V) → ((x : X) (y : Y) → R x y → S (f x) (g y)) → (c : Credentials) {p : Plan X} {q : Plan Y} → Both c R p q → Both c S (on_part f p) (on_part g q)
@@ -100,9 +100,9 @@ module _ {X Y : Type 0} (R : X → Y → Type 0) where
       }
 
 on-same : {X : Type 0} (d : Decision X) → on_whole (λ x. x) d ≡ d
-on-same (Refuse rule) = refl
-on-same Wait = refl
-on-same (Grant answer new) = refl
+on-same (Refused rule) = refl
+on-same Waits = refl
+on-same (Granted answer new) = refl
 
 -- related by less
 pub pair-less : {X Y : Type 0} (R S : X → Y → Type 0) → ((x : X) (y : Y) → R x y → S x y) → (d : Decision X) (e : Decision Y) → Pair R d e → Pair S d e
@@ -113,47 +113,47 @@ both-less R S then_so c {p} {q} both = record { pair = pair-less R S then_so (de
 
 -- both proceed or both wait, and come out the same
 pub outcome-pair : {X Y : Type 0} (R : X → Y → Type 0) (d : Decision X) (e : Decision Y) → Pair R d e → outcome_of d ≡ outcome_of e
-outcome-pair R (Refuse rule) (Refuse other) both = λ i. outcome_of {X = Unit {0}} (Refuse (both i))
-outcome-pair R (Refuse rule) Wait both = absurd both
-outcome-pair R (Refuse rule) (Grant answer new) both = absurd both
-outcome-pair R Wait (Refuse rule) both = absurd both
-outcome-pair R Wait Wait both = refl
-outcome-pair R Wait (Grant answer new) both = absurd both
-outcome-pair R (Grant answer new) (Refuse rule) both = absurd both
-outcome-pair R (Grant answer new) Wait both = absurd both
-outcome-pair R (Grant answer new) (Grant other later) both = λ i. outcome_of {X = Unit {0}} (Grant (both.0 i) tt)
+outcome-pair R (Refused rule) (Refused other) both = λ i. outcome_of {X = Unit {0}} (Refused (both i))
+outcome-pair R (Refused rule) Waits both = absurd both
+outcome-pair R (Refused rule) (Granted answer new) both = absurd both
+outcome-pair R Waits (Refused rule) both = absurd both
+outcome-pair R Waits Waits both = refl
+outcome-pair R Waits (Granted answer new) both = absurd both
+outcome-pair R (Granted answer new) (Refused rule) both = absurd both
+outcome-pair R (Granted answer new) Waits both = absurd both
+outcome-pair R (Granted answer new) (Granted other later) both = λ i. outcome_of {X = Unit {0}} (Granted (both.0 i) tt)
 
 pub proceeds-pair : {X Y : Type 0} (R : X → Y → Type 0) (d : Decision X) (e : Decision Y) → Pair R d e → proceeds d ≡ proceeds e
-proceeds-pair R (Refuse rule) (Refuse other) both = refl
-proceeds-pair R (Refuse rule) Wait both = absurd both
-proceeds-pair R (Refuse rule) (Grant answer new) both = refl
-proceeds-pair R Wait (Refuse rule) both = absurd both
-proceeds-pair R Wait Wait both = refl
-proceeds-pair R Wait (Grant answer new) both = absurd both
-proceeds-pair R (Grant answer new) (Refuse rule) both = refl
-proceeds-pair R (Grant answer new) Wait both = absurd both
-proceeds-pair R (Grant answer new) (Grant other later) both = refl
+proceeds-pair R (Refused rule) (Refused other) both = refl
+proceeds-pair R (Refused rule) Waits both = absurd both
+proceeds-pair R (Refused rule) (Granted answer new) both = refl
+proceeds-pair R Waits (Refused rule) both = absurd both
+proceeds-pair R Waits Waits both = refl
+proceeds-pair R Waits (Granted answer new) both = absurd both
+proceeds-pair R (Granted answer new) (Refused rule) both = refl
+proceeds-pair R (Granted answer new) Waits both = absurd both
+proceeds-pair R (Granted answer new) (Granted other later) both = refl
 
 -- where both are late or neither is
 pub late-pair : {X Y : Type 0} (R : X → Y → Type 0) (late : Bool) (d : Decision X) (e : Decision Y) → Pair R d e → Pair R (unless_late late d) (unless_late late e)
 late-pair R false d e both = both
-late-pair R true (Refuse rule) (Refuse other) both = both
-late-pair R true (Refuse rule) Wait both = absurd both
-late-pair R true (Refuse rule) (Grant answer new) both = absurd both
-late-pair R true Wait (Refuse rule) both = absurd both
-late-pair R true Wait Wait both = refl
-late-pair R true Wait (Grant answer new) both = absurd both
-late-pair R true (Grant answer new) (Refuse rule) both = absurd both
-late-pair R true (Grant answer new) Wait both = absurd both
-late-pair R true (Grant answer new) (Grant other later) both = both
+late-pair R true (Refused rule) (Refused other) both = both
+late-pair R true (Refused rule) Waits both = absurd both
+late-pair R true (Refused rule) (Granted answer new) both = absurd both
+late-pair R true Waits (Refused rule) both = absurd both
+late-pair R true Waits Waits both = refl
+late-pair R true Waits (Granted answer new) both = absurd both
+late-pair R true (Granted answer new) (Refused rule) both = absurd both
+late-pair R true (Granted answer new) Waits both = absurd both
+late-pair R true (Granted answer new) (Granted other later) both = both
 
 -- what is granted by a plan: the checks before it passed
 module _ {X : Type 0} (P : Answer → X → Type 0) where
-  granted-if : (b : Bool) (d : Decision X) (rule : Rule) → (b ≡ true → IfGranted P d) → IfGranted P (cond b d (Refuse rule))
+  granted-if : (b : Bool) (d : Decision X) (rule : Rule) → (b ≡ true → IfGranted P d) → IfGranted P (cond b d (Refused rule))
   granted-if true d rule is = is refl
   granted-if false d rule is = tt
 
-  granted-or_wait : (b : Bool) (rule : Rule) → IfGranted P (cond b (Refuse rule) Wait)
+  granted-or_wait : (b : Bool) (rule : Rule) → IfGranted P (cond b (Refused rule) Waits)
   granted-or_wait true rule = tt
   granted-or_wait false rule = tt
 
@@ -166,9 +166,9 @@ module _ {X : Type 0} (P : Answer → X → Type 0) where
   granted-unless (Some rule) d is = tt
 
 granted-whole : {X Y : Type 0} (P : Y → Type 0) (f : X → Y) (d : Decision X) → IfGranted (λ answer x. P (f x)) d → IfGranted (λ answer y. P y) (on_whole f d)
-granted-whole P f (Refuse rule) is = tt
-granted-whole P f Wait is = tt
-granted-whole P f (Grant answer new) is = is
+granted-whole P f (Refused rule) is = tt
+granted-whole P f Waits is = tt
+granted-whole P f (Granted answer new) is = is
 
 module _ {X : Type 0} (P : X → Type 0) (c : Credentials) where
   pub grants-refuse : (rule : Rule) (plain : IsPlain rule) → Grants c P (plans.Refuse rule plain)
@@ -204,9 +204,9 @@ module _ {X : Type 0} (P : X → Type 0) (c : Credentials) where
   grants-on f {p} is = record { granted = subst (IfGranted (λ answer x. P x)) (sym (decision-on c f p)) (granted-whole P f (decision c p) is.granted) }
 
 granted-less : {X : Type 0} (P Q : X → Type 0) → ((x : X) → P x → Q x) → (d : Decision X) → IfGranted (λ answer x. P x) d → IfGranted (λ answer x. Q x) d
-granted-less P Q then_so (Refuse rule) is = tt
-granted-less P Q then_so Wait is = tt
-granted-less P Q then_so (Grant answer new) is = then_so new is
+granted-less P Q then_so (Refused rule) is = tt
+granted-less P Q then_so Waits is = tt
+granted-less P Q then_so (Granted answer new) is = then_so new is
 
 pub grants-less : {X : Type 0} (P Q : X → Type 0) → ((x : X) → P x → Q x) → (c : Credentials) {p : Plan X} → Grants c P p → Grants c Q p
 grants-less P Q then_so c {p} is = record { granted = granted-less P Q then_so (decision c p) is.granted }
@@ -216,7 +216,7 @@ pub record Goes {X : Type 0} (c : Credentials) (p : Plan X) : Type 0 where
   pub goes : proceeds (decision c p) ≡ true
 
 module _ (c : Credentials) where
-  goes-if : {X : Type 0} (b : Bool) (rule : Rule) (d : Decision X) → (b ≡ true → proceeds d ≡ true) → proceeds (cond b d (Refuse rule)) ≡ true
+  goes-if : {X : Type 0} (b : Bool) (rule : Rule) (d : Decision X) → (b ≡ true → proceeds d ≡ true) → proceeds (cond b d (Refused rule)) ≡ true
   goes-if true rule d goes = goes refl
   goes-if false rule d goes = refl
 

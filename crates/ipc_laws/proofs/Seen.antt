@@ -15,7 +15,7 @@ use Rattle.ipc_creds.specs.Credentials.{Credentials}
 use Rattle.ipc_perm.specs.Access.{Permission, class_of, rule_of, to_alter, to_read}
 use Rattle.shm_seg.specs.declared.attachments.Attachment.{Attachment}
 use Rattle.shm_seg.specs.Attachments.{attachment_at}
-use Rattle.ipc_model.specs.State.{Queues, Sems, Shared, State, caller, creds_at, has_ended}
+use Rattle.ipc_model.specs.State.{Queues, Sems, Shared, State, caller, creds_at, has_exited}
 use Rattle.ipc_model.specs.Decision.{proceeds}
 use Rattle.ipc_model.specs.Plan.{Needs, Passes, Plan, decision}
 use Rattle.ipc_model.proofs.Plans.{IfGranted}
@@ -59,7 +59,7 @@ module _ (client : ℕ) (c : Credentials) (s : State) where
     visible-alive call can seen = absurd (true≢false (sym can))
 
     pub visible-alike : (call : Call) → can_wait call ≡ true → is_hidden_at client c s (waits_at call) ≡ false → Both d (IsExact client c s) (plan s who call) (plan b who call)
-    visible-alike call can seen = both-check (IsExact client c s) d (Passes (not (has_ended s who)) Ended tt) (visible-alive call can seen)
+    visible-alike call can seen = both-check (IsExact client c s) d (Passes (not (has_exited s who)) Ended tt) (visible-alive call can seen)
 
     -- a call on hidden contents
     stays-queues : {p : Plan Queues} → Grants d (λ u. blur_queues client c u ≡ blur_queues client c s.queues) p → Grants d (IsSame client c s) (whole s (OnQueues p))
@@ -96,7 +96,7 @@ module _ (client : ℕ) (c : Credentials) (s : State) where
     stays-alive call hidden = absurd (true≢false (sym hidden))
 
     pub unseen-stays : (call : Call) → is_unseen client c s who call ≡ true → IfGranted (λ answer new. IsSame client c s new) (decide s who call)
-    unseen-stays call unseen = (grants-check (IsSame client c s) d (Passes (not (has_ended s who)) Ended tt) (stays-alive call unseen)).granted
+    unseen-stays call unseen = (grants-check (IsSame client c s) d (Passes (not (has_exited s who)) Ended tt) (stays-alive call unseen)).granted
 
     -- a call that may wait is unseen where its object is hidden
     pub unseen-waits : (call : Call) → can_wait call ≡ true → is_unseen client c s who call ≡ is_hidden_at client c s (waits_at call)
@@ -144,4 +144,4 @@ module _ (client : ℕ) (c : Credentials) (s : State) where
 
     pub own-refused : (call : Call) → is_hidden_at client c s (waits_at call) ≡ true → proceeds (decide s who call) ≡ true
     own-refused call hidden =
-        ap (λ e. proceeds (decision e (plan s who call))) creds ∙ (goes-passes c (not (has_ended s who)) Ended tt (λ alive. refused-alive call hidden)).goes
+        ap (λ e. proceeds (decision e (plan s who call))) creds ∙ (goes-passes c (not (has_exited s who)) Ended tt (λ alive. refused-alive call hidden)).goes

@@ -17,7 +17,7 @@ use Rattle.ipc_ids.specs.Table.{Table, without_object}
 use Rattle.ipc_ids.proofs.Images.{get-entries}
 use Rattle.ipc_objects.specs.declared.object.Object.{Object}
 use Rattle.ipc_objects.specs.Objects.{changed}
-use Rattle.sem_set.specs.declared.sets.Semaphore.{Semaphore}
+use Rattle.sem_set.specs.declared.set.Semaphore.{Semaphore}
 use Rattle.sem_set.specs.Exits.{undone_from}
 use Rattle.sem_set.specs.Sets.{is_value, set_to, zeroed}
 use Rattle.sem_set.specs.Trials.{are_in, committed, left_from}
@@ -26,7 +26,7 @@ use Rattle.ipc_model.specs.State.{Caller, SemSet, Sems, pid_of}
 use Rattle.ipc_model.specs.Plan.{Needs, Passes, Grant, in_order}
 use Rattle.ipc_model.specs.Controls.{without_set}
 use Rattle.ipc_model.specs.Gets.{Get, get_set, getting_set}
-use Rattle.ipc_model.specs.Semaphores.{after_exit, exited, undone_set, get_all, look, lowered, operate, operate_found, operated, renewed, set_all, set_at, set_value, trial_checks, values_of, wanted_by, with_values}
+use Rattle.ipc_model.specs.Semaphores.{after_exit, set_after_exit, undone_set, get_all, look, lowered, operate, operate_found, operated, renewed, set_all, set_at, set_value, trial_checks, values_of, wanted_by, with_values}
 use Rattle.ipc_model.proofs.Apart.{cleared-apart, lowered-apart}
 use Rattle.ipc_laws.specs.Worlds.{all_masked, blank, blank_set, masked, blur_sems, hides_closed, is_closed, is_hidden_in}
 use Rattle.ipc_laws.proofs.Closed.{denied-permission}
@@ -246,36 +246,36 @@ module _ (client : ℕ) (c : Credentials) where
     -- exit
     module _ (who : Caller) where
       exited-one : (q : ℕ) (o : Object SemSet) → finite.get sems.sets.objects q ≡ Some o → (b : Bool) → is_closed c o.perm ≡ b
-          → masked blank_set (hides_closed client c) q (exited sems who q o) ≡ masked blank_set (hides_closed client c) q (exited blurred who q (masked blank_set (hides_closed client c) q o))
+          → masked blank_set (hides_closed client c) q (set_after_exit sems who q o) ≡ masked blank_set (hides_closed client c) q (set_after_exit blurred who q (masked blank_set (hides_closed client c) q o))
       exited-one q o there true is =
-          masked-hidden blank_set (hides_closed client c) q (exited sems who q o) is
-          ∙ blank-like blank_set (exited sems who q o) (exited blurred who q (blank blank_set o)) refl (blank-same (exited sems who q o).contents (exited blurred who q (blank blank_set o)).contents
+          masked-hidden blank_set (hides_closed client c) q (set_after_exit sems who q o) is
+          ∙ blank-like blank_set (set_after_exit sems who q o) (set_after_exit blurred who q (blank blank_set o)) refl (blank-same (set_after_exit sems who q o).contents (set_after_exit blurred who q (blank blank_set o)).contents
           (undone-long (adj_of sems.undo who.client q) (pid_of who.client) 0 o.contents.semaphores ∙ sym (undone-long (adj_of blurred.undo who.client q) (pid_of who.client) 0 (blank_set o.contents).semaphores ∙ length-replicate (length o.contents.semaphores) zeroed)))
-          ∙ sym (masked-hidden blank_set (hides_closed client c) q (exited blurred who q (blank blank_set o)) is)
-          ∙ ap (λ x. masked blank_set (hides_closed client c) q (exited blurred who q x)) (sym (masked-hidden blank_set (hides_closed client c) q o is))
+          ∙ sym (masked-hidden blank_set (hides_closed client c) q (set_after_exit blurred who q (blank blank_set o)) is)
+          ∙ ap (λ x. masked blank_set (hides_closed client c) q (set_after_exit blurred who q x)) (sym (masked-hidden blank_set (hides_closed client c) q o is))
       exited-one q o there false isnt =
           ap (λ adj. masked blank_set (hides_closed client c) q (record o { contents = undone_set adj (pid_of who.client) who.now o.contents })) (same-adj who.client q (hidden-at (hides_closed client c) sems.sets q (Some o) there ∙ isnt))
-          ∙ ap (λ x. masked blank_set (hides_closed client c) q (exited blurred who q x)) (sym (masked-seen blank_set (hides_closed client c) q o isnt))
+          ∙ ap (λ x. masked blank_set (hides_closed client c) q (set_after_exit blurred who q x)) (sym (masked-seen blank_set (hides_closed client c) q o isnt))
 
       exited-at : (q : ℕ) (o : Option (Object SemSet)) → finite.get sems.sets.objects q ≡ o
-          → option_map (masked blank_set (hides_closed client c) q) (option_map (exited sems who q) o) ≡ option_map (masked blank_set (hides_closed client c) q) (option_map (exited blurred who q) (option_map (masked blank_set (hides_closed client c) q) o))
+          → option_map (masked blank_set (hides_closed client c) q) (option_map (set_after_exit sems who q) o) ≡ option_map (masked blank_set (hides_closed client c) q) (option_map (set_after_exit blurred who q) (option_map (masked blank_set (hides_closed client c) q) o))
       exited-at q None there = refl
       exited-at q (Some o) there = ap (λ (x : Object SemSet). Some x) (exited-one q o there (is_closed c o.perm) refl)
 
-      hidden-exited : (q : ℕ) (o : Option (Object SemSet)) → unwrap_or (option_map (λ (x : Object SemSet). is_closed c x.perm) (option_map (exited sems who q) o)) false ≡ unwrap_or (option_map (λ (x : Object SemSet). is_closed c x.perm) o) false
+      hidden-exited : (q : ℕ) (o : Option (Object SemSet)) → unwrap_or (option_map (λ (x : Object SemSet). is_closed c x.perm) (option_map (set_after_exit sems who q) o)) false ≡ unwrap_or (option_map (λ (x : Object SemSet). is_closed c x.perm) o) false
       hidden-exited q None = refl
       hidden-exited q (Some o) = refl
 
       pub own-exit : IsAlike (after_exit sems who) (after_exit blurred who)
       own-exit =
           let t = sems.sets in
-          let new = map_entries (exited sems who) t in
-          let later = map_entries (exited blurred who) blurred.sets in
+          let new = map_entries (set_after_exit sems who) t in
+          let later = map_entries (set_after_exit blurred who) blurred.sets in
           alike-sems new later (without_client sems.undo who.client) (without_client blurred.undo who.client) (
             same-tables (mask new) (mask later) refl refl refl (λ q.
-                get-masked blank_set (hides_closed client c) new q ∙ ap (option_map (masked blank_set (hides_closed client c) q)) (get-entries (exited sems who) t q)
+                get-masked blank_set (hides_closed client c) new q ∙ ap (option_map (masked blank_set (hides_closed client c) q)) (get-entries (set_after_exit sems who) t q)
                 ∙ exited-at q (finite.get t.objects q) refl
-                ∙ sym (get-masked blank_set (hides_closed client c) later q ∙ ap (option_map (masked blank_set (hides_closed client c) q)) (get-entries (exited blurred who) blurred.sets q ∙ ap (option_map (exited blurred who q)) (get-masked blank_set (hides_closed client c) t q)))),
-            λ q is. hidden-at (hides_closed client c) new q _ (get-entries (exited sems who) t q) ∙ hidden-exited q (finite.get t.objects q) ∙ is,
+                ∙ sym (get-masked blank_set (hides_closed client c) later q ∙ ap (option_map (masked blank_set (hides_closed client c) q)) (get-entries (set_after_exit blurred who) blurred.sets q ∙ ap (option_map (set_after_exit blurred who q)) (get-masked blank_set (hides_closed client c) t q)))),
+            λ q is. hidden-at (hides_closed client c) new q _ (get-entries (set_after_exit sems who) t q) ∙ hidden-exited q (finite.get t.objects q) ∙ is,
           )
           (same-retained (hid sems) sems.undo blurred.undo _ (same-kept (hid sems) sems.undo))

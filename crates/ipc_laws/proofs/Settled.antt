@@ -7,10 +7,10 @@ use Rattle.std.proofs.lemmas.List.{map-append}
 use Rattle.std.proofs.lemmas.List.Elements.{filter-append}
 use Rattle.ipc_call.specs.declared.calls.Kind.{Kind}
 use Rattle.ipc_call.specs.declared.replies.Waiting.{Waiting}
-use Rattle.ipc_call.specs.declared.replies.Ended.{Ended}
+use Rattle.ipc_call.specs.declared.replies.Completion.{Completion}
 use Rattle.ipc_creds.specs.Credentials.{Credentials}
 use Rattle.ipc_model.specs.State.{State}
-use Rattle.ipc_model.specs.Decision.{Decision, Refuse, Wait, Grant}
+use Rattle.ipc_model.specs.Decision.{Decision, Refused, Waits, Granted}
 use Rattle.ipc_model.specs.Decide.{can_wait, decide, waits_at}
 use Rattle.ipc_model.specs.Step.{Moved, and_then, end_waiting, ended_by, first_ready, is_ready, settled, without}
 use Rattle.ipc_model.proofs.Calls.{only_parkable}
@@ -35,7 +35,7 @@ either-way s t w alike = ⊎_elim
         (λ (waits : is_ready u w ≡ false). absurd (true≢false (sym (only_parkable u w.client w.call waits) ∙ not_can)))
         (cases_Bool (is_ready u w))
 
-pub ends-append : (client : ℕ) (xs ys : List Ended) → ends_of client (xs ++ ys) ≡ ends_of client xs ++ ends_of client ys
+pub ends-append : (client : ℕ) (xs ys : List Completion) → ends_of client (xs ++ ys) ≡ ends_of client xs ++ ends_of client ys
 ends-append client xs ys = ap (map (λ e. e.outcome)) (filter-append (λ e. e.client == client) xs ys) ∙ map-append (λ e. e.outcome) (filter (λ e. e.client == client) xs) (filter (λ e. e.client == client) ys)
 
 pub in-sight : (b : Bool) → not b ≡ true → b ≡ false
@@ -63,22 +63,22 @@ module _ (client : ℕ) (c : Credentials) where
   ended-seen : (s : State) (who : ℕ) (d e : Decision State) → Pair (IsExact client c s) d e
       → (ended_by (blur_by client c s) who e ≡ record { state = blur_by client c (ended_by s who d).state; ended = (ended_by s who d).ended })
       × ((kind : Kind) (q : ℕ) → is_hidden client c (ended_by s who d).state kind q ≡ is_hidden client c s kind q)
-  ended-seen s who (Refuse rule) (Refuse other) both = (λ i. record { state = blur_by client c s; ended = record { client = who; outcome = Err (sym both i) } ∷ [] }, λ kind q. refl)
-  ended-seen s who (Refuse rule) Wait both = absurd both
-  ended-seen s who (Refuse rule) (Grant answer new) both = absurd both
-  ended-seen s who Wait (Refuse rule) both = absurd both
-  ended-seen s who Wait Wait both = (refl, λ kind q. refl)
-  ended-seen s who Wait (Grant answer new) both = absurd both
-  ended-seen s who (Grant answer new) (Refuse rule) both = absurd both
-  ended-seen s who (Grant answer new) Wait both = absurd both
-  ended-seen s who (Grant answer new) (Grant other later) both =
+  ended-seen s who (Refused rule) (Refused other) both = (λ i. record { state = blur_by client c s; ended = record { client = who; outcome = Err (sym both i) } ∷ [] }, λ kind q. refl)
+  ended-seen s who (Refused rule) Waits both = absurd both
+  ended-seen s who (Refused rule) (Granted answer new) both = absurd both
+  ended-seen s who Waits (Refused rule) both = absurd both
+  ended-seen s who Waits Waits both = (refl, λ kind q. refl)
+  ended-seen s who Waits (Granted answer new) both = absurd both
+  ended-seen s who (Granted answer new) (Refused rule) both = absurd both
+  ended-seen s who (Granted answer new) Waits both = absurd both
+  ended-seen s who (Granted answer new) (Granted other later) both =
       (λ i. record { state = sym both.1.0 i; ended = record { client = who; outcome = Ok (sym both.0 i) } ∷ [] }, both.1.1)
 
   -- a turn out of sight
   ended-unseen : (s : State) (who : ℕ) (d : Decision State) → IfGranted (λ answer new. IsSame client c s new) d → (who == client) ≡ false → (dim client c (ended_by s who d).state ≡ dim client c s) × (ends_of client (ended_by s who d).ended ≡ [])
-  ended-unseen s who (Refuse rule) stays other = (refl, rw other refl)
-  ended-unseen s who Wait stays other = (refl, refl)
-  ended-unseen s who (Grant answer new) stays other = (stays, rw other refl)
+  ended-unseen s who (Refused rule) stays other = (refl, rw other refl)
+  ended-unseen s who Waits stays other = (refl, refl)
+  ended-unseen s who (Granted answer new) stays other = (stays, rw other refl)
 
   blur-without : (s : State) (who : ℕ) → blur_by client c (without s who) ≡ without (blur_by client c s) who
   blur-without s who = ap (λ ws. record (blur_by client c s) { parked = ws }) (filter-turned (sight client c s) (λ w. not (w.client == who)) s.parked)

@@ -11,11 +11,11 @@ use Rattle.ipc_call.specs.declared.replies.Waiting.{Waiting}
 use Rattle.ipc_call.specs.declared.rules.Rule.{Rule}
 use Rattle.ipc_creds.specs.Credentials.{Credentials}
 use Rattle.ipc_model.specs.State.{State, creds_at, is_waiting}
-use Rattle.ipc_model.specs.Decision.{Decision, Refuse, Wait, Grant, outcome_of, proceeds}
+use Rattle.ipc_model.specs.Decision.{Decision, Refused, Waits, Granted, outcome_of, proceeds}
 use Rattle.ipc_model.specs.Decide.{can_wait, decide, decide_call, is_late, is_reached, plan, waits_at}
 use Rattle.ipc_model.specs.Plan.{decision}
 use Rattle.ipc_model.specs.Cancelled.{cancelled}
-use Rattle.ipc_model.specs.Step.{Event, Moved, after, begun, enter, expire, expired, Stepped, and_then, at_time, cancel, cancelled_by, entered, is_ready, moved_as, settled, state_by, step, stepped, told_cancelled, waiting_as}
+use Rattle.ipc_model.specs.Step.{Event, Moved, after, begun, enter, expire, expired, Stepped, and_then, at_time, cancel, cancelled_by, entered, is_ready, moved_as, settled, state_by, step, stepped, ended_by_rule, waiting_as}
 use Rattle.ipc_history.specs.Waits.{AreInTime, AreNotReady}
 use Rattle.ipc_model.proofs.Calls.{only_parkable}
 use Rattle.ipc_model.proofs.Late.{Keeps-call, at-as, late-granted, late-waits, only_parkable_call}
@@ -33,9 +33,9 @@ use Rattle.ipc_laws.proofs.Sight.{IsAlike, IsSame, blur-alike, blur-from, blur-s
 use Rattle.ipc_laws.proofs.Turns.{Apart, Free, apart-filter, apart-moved, done, free-of, quiet-of, settled-none}
 
 -- nobody is told where nobody's call is cancelled
-told-none : (rule : Waiting → Option Rule) → ((w : Waiting) → rule w ≡ None) → (ws : List Waiting) → flat_map (λ w. told_cancelled w.client (rule w)) ws ≡ []
+told-none : (rule : Waiting → Option Rule) → ((w : Waiting) → rule w ≡ None) → (ws : List Waiting) → flat_map (λ w. ended_by_rule w.client (rule w)) ws ≡ []
 told-none rule none [] = refl
-told-none rule none (w ∷ ws) = ap (λ o. told_cancelled w.client o ++ flat_map (λ w. told_cancelled w.client (rule w)) ws) (none w) ∙ told-none rule none ws
+told-none rule none (w ∷ ws) = ap (λ o. ended_by_rule w.client o ++ flat_map (λ w. ended_by_rule w.client (rule w)) ws) (none w) ∙ told-none rule none ws
 
 all-kept : (rule : Waiting → Option Rule) → ((w : Waiting) → rule w ≡ None) → (ws : List Waiting) → AllByRecursion (λ w. is_none (rule w) ≡ true) ws
 all-kept rule none [] = tt
@@ -52,9 +52,9 @@ in-time-kept : (s : State) (ws : List Waiting) → AllByRecursion (λ w. is_reac
 in-time-kept s [] all = tt
 in-time-kept s (w ∷ ws) all = (ap (λ b. is_none (if b then Some TimedOut else None)) all.0, in-time-kept s ws all.1)
 
-in-time-told : (s : State) (ws : List Waiting) → AllByRecursion (λ w. is_reached s.clock w.deadline ≡ false) ws → flat_map (λ w. told_cancelled w.client (expired s w)) ws ≡ []
+in-time-told : (s : State) (ws : List Waiting) → AllByRecursion (λ w. is_reached s.clock w.deadline ≡ false) ws → flat_map (λ w. ended_by_rule w.client (expired s w)) ws ≡ []
 in-time-told s [] all = refl
-in-time-told s (w ∷ ws) all = ap (λ b. told_cancelled w.client (if b then Some TimedOut else None) ++ flat_map (λ w. told_cancelled w.client (expired s w)) ws) all.0 ∙ in-time-told s ws all.1
+in-time-told s (w ∷ ws) all = ap (λ b. ended_by_rule w.client (if b then Some TimedOut else None) ++ flat_map (λ w. ended_by_rule w.client (expired s w)) ws) all.0 ∙ in-time-told s ws all.1
 
 expire-none : (s : State) → AreInTime s → expire s ≡ done s
 expire-none s in_time = λ i. record {
@@ -83,26 +83,26 @@ module _ (client : ℕ) (c : Credentials) where
 
   module _ (s : State) (who : ℕ) (call : Call) (hidden : is_unseen client c s who call ≡ true) (other : (who == client) ≡ false) where
     cancels-none : (t : State) (d : Decision State) → cancelled_by t call d ≡ done t
-    cancels-none t (Refuse rule) = refl
-    cancels-none t Wait = refl
-    cancels-none t (Grant answer new) = cancel-none t call (never-cancels s t who call hidden)
+    cancels-none t (Refused rule) = refl
+    cancels-none t Waits = refl
+    cancels-none t (Granted answer new) = cancel-none t call (never-cancels s t who call hidden)
 
     waits-hidden : can_wait call ≡ true → is_hidden_at client c s (waits_at call) ≡ true
     waits-hidden can = sym (unseen-waits client c s who call can) ∙ hidden
 
     blur-unseen : (d : Decision State) → (proceeds d ≡ false → can_wait call ≡ true) → IfGranted (λ answer new. IsSame client c s new) d → Keeps s d → blur_by client c (state_by s who call d) ≡ blur_by client c s
-    blur-unseen (Refuse rule) can stays keeps = refl
-    blur-unseen Wait can stays keeps =
+    blur-unseen (Refused rule) can stays keeps = refl
+    blur-unseen Waits can stays keeps =
         let w : Waiting = waiting_as s who call in
         let gone : filter (sight client c s) (w ∷ []) ≡ [] = filter-not (sight client c s) w [] (ap not (ap (is_hidden_at client c s) (at-as call) ∙ waits-hidden (can refl))) in
         ap (λ ws. record (blur_by client c s) { parked = ws })
         (filter-append (sight client c s) s.parked (w ∷ []) ∙ ap (λ l. filter (sight client c s) s.parked ++ l) gone ∙ append-nil (filter (sight client c s) s.parked))
-    blur-unseen (Grant answer new) can stays keeps = blur-same client c new s stays keeps.0
+    blur-unseen (Granted answer new) can stays keeps = blur-same client c new s stays keeps.0
 
     others-unseen : (d : Decision State) → (proceeds d ≡ false → can_wait call ≡ true) → IfGranted (λ answer new. IsSame client c s new) d → Keeps s d → AreOthers client c s → AreOthers client c (state_by s who call d)
-    others-unseen (Refuse rule) can stays keeps are = are
-    others-unseen Wait can stays keeps are = all-push (IsAnother client c s) s.parked (waiting_as s who call) are (ap (λ at. is_some at) (at-as call) ∙ can refl, λ out. other)
-    others-unseen (Grant answer new) can stays keeps are =
+    others-unseen (Refused rule) can stays keeps are = are
+    others-unseen Waits can stays keeps are = all-push (IsAnother client c s) s.parked (waiting_as s who call) are (ap (λ at. is_some at) (at-as call) ∙ can refl, λ out. other)
+    others-unseen (Granted answer new) can stays keeps are =
         subst (AllByRecursion (IsAnother client c new)) (sym keeps.0) (all-map (IsAnother client c s) (IsAnother client c new) (λ w is. another-by client c s new (same-hidden client c new s stays) w is) s.parked are)
 
   pub unseen-step : (s : State) (e : Event) → creds_at s client ≡ c → AreNotReady s → AreInTime s → Apart s.parked → is_waiting s e.client ≡ false → IsOutOfSight client s e
@@ -145,12 +145,12 @@ module _ (client : ℕ) (c : Credentials) where
       ∙ filter-turned (stays t) (sight client c t) t.parked)
 
   -- what is told of cancelled calls isn't told to who doesn't wait
-  none-told : (rule : Waiting → Option Rule) (ws : List Waiting) → Free client ws → ends_of client (flat_map (λ w. told_cancelled w.client (rule w)) ws) ≡ []
+  none-told : (rule : Waiting → Option Rule) (ws : List Waiting) → Free client ws → ends_of client (flat_map (λ w. ended_by_rule w.client (rule w)) ws) ≡ []
   none-told rule [] free = refl
   none-told rule (w ∷ ws) free =
-      ends-append client (told_cancelled w.client (rule w)) (flat_map (λ w. told_cancelled w.client (rule w)) ws) ∙ (λ i. one w.client (rule w) free.0 i ++ none-told rule ws free.1 i)
+      ends-append client (ended_by_rule w.client (rule w)) (flat_map (λ w. ended_by_rule w.client (rule w)) ws) ∙ (λ i. one w.client (rule w) free.0 i ++ none-told rule ws free.1 i)
     where
-      one : (who : ℕ) (o : Option Rule) → (who == client) ≡ false → ends_of client (told_cancelled who o) ≡ []
+      one : (who : ℕ) (o : Option Rule) → (who == client) ≡ false → ends_of client (ended_by_rule who o) ≡ []
       one who None other = refl
       one who (Some rule) other = rw other refl
 
@@ -161,36 +161,36 @@ module _ (client : ℕ) (c : Credentials) where
   module _ (s : State) (call : Call) (is : creds_at s client ≡ c) (free : Free client s.parked) (are : AreOthers client c s) where
     -- what the own call leaves waiting
     others-own : (d : Decision State) → d ≡ decide_call s client call → Keeps s d → AreOthers client c (moved_as s client call d).state
-    others-own (Refuse rule) decided keeps = are
-    others-own Wait decided keeps =
+    others-own (Refused rule) decided keeps = are
+    others-own Waits decided keeps =
         let waits : proceeds (decide s client call) ≡ false = late-waits (is_late s call) (decide s client call) (ap (λ d. proceeds d) (sym decided)) in
         all-push (IsAnother client c s) s.parked (waiting_as s client call) are (ap (λ at. is_some at) (at-as call) ∙ only_parkable s client call waits, λ hidden. waits-alone s client call is waits (sym (ap (is_hidden_at client c s) (at-as call)) ∙ hidden))
-    others-own (Grant answer new) decided keeps =
+    others-own (Granted answer new) decided keeps =
         all-filter (IsAnother client c new) (λ w. is_none (cancelled new call w)) new.parked (subst (AllByRecursion (IsAnother client c new)) (sym keeps.0) (another-free s new s.parked free are))
 
     none-own : (d : Decision State) → Keeps s d → ends_of client (moved_as s client call d).ended ≡ []
-    none-own (Refuse rule) keeps = refl
-    none-own Wait keeps = refl
-    none-own (Grant answer new) keeps = none-told (cancelled new call) new.parked (subst (Free client) (sym keeps.0) free)
+    none-own (Refused rule) keeps = refl
+    none-own Waits keeps = refl
+    none-own (Granted answer new) keeps = none-told (cancelled new call) new.parked (subst (Free client) (sym keeps.0) free)
 
   -- the call enters a state and its blur
   entered-alike : (s : State) (call : Call) (d e : Decision State) → Pair (IsAlike client c s) d e → Keeps s d → Keeps (blur_by client c s) e
       → blur_by client c (moved_as s client call d).state ≡ blur_by client c (moved_as (blur_by client c s) client call e).state
-  entered-alike s call (Refuse rule) (Refuse other) both keeps kept = blur-twice client c s
-  entered-alike s call (Refuse rule) Wait both keeps kept = absurd both
-  entered-alike s call (Refuse rule) (Grant answer new) both keeps kept = absurd both
-  entered-alike s call Wait (Refuse rule) both keeps kept = absurd both
-  entered-alike s call Wait Wait both keeps kept =
+  entered-alike s call (Refused rule) (Refused other) both keeps kept = blur-twice client c s
+  entered-alike s call (Refused rule) Waits both keeps kept = absurd both
+  entered-alike s call (Refused rule) (Granted answer new) both keeps kept = absurd both
+  entered-alike s call Waits (Refused rule) both keeps kept = absurd both
+  entered-alike s call Waits Waits both keeps kept =
       let b = blur_by client c s in
       let w : Waiting = waiting_as s client call in
       let f = sight client c s in
       blur-from client c (record s { parked = s.parked ++ w ∷ [] }) (record b { parked = b.parked ++ w ∷ [] }) (dim-twice client c s)
       (filter-append f s.parked (w ∷ []) ∙ ap (λ l. l ++ filter f (w ∷ [])) (sym (filter-finer f f (λ v yes. yes) s.parked)) ∙ sym (filter-append f b.parked (w ∷ []))
       ∙ ap (λ g. filter g (b.parked ++ w ∷ [])) (sym (sight-blur client c s)))
-  entered-alike s call Wait (Grant answer new) both keeps kept = absurd both
-  entered-alike s call (Grant answer new) (Refuse rule) both keeps kept = absurd both
-  entered-alike s call (Grant answer new) Wait both keeps kept = absurd both
-  entered-alike s call (Grant answer new) (Grant other later) both keeps kept = cancel-alike new later call (blur-alike client c s new later both.1 keeps.0 kept.0)
+  entered-alike s call Waits (Granted answer new) both keeps kept = absurd both
+  entered-alike s call (Granted answer new) (Refused rule) both keeps kept = absurd both
+  entered-alike s call (Granted answer new) Waits both keeps kept = absurd both
+  entered-alike s call (Granted answer new) (Granted other later) both keeps kept = cancel-alike new later call (blur-alike client c s new later both.1 keeps.0 kept.0)
 
   free-filter : (test : Waiting → Bool) (ws : List Waiting) → Free client ws → Free client (filter test ws)
   free-filter test ws free = all-filter (λ w. (w.client == client) ≡ false) test ws free

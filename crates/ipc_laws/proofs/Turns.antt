@@ -8,7 +8,7 @@ use Rattle.ipc_call.specs.declared.calls.Call.{Call}
 use Rattle.ipc_call.specs.declared.replies.Waiting.{Waiting}
 use Rattle.ipc_call.specs.declared.rules.Rule.TheVariants.{TimedOut}
 use Rattle.ipc_model.specs.State.{State, is_waiting}
-use Rattle.ipc_model.specs.Decision.{Decision, Refuse, Wait, Grant, proceeds}
+use Rattle.ipc_model.specs.Decision.{Decision, Refused, Waits, Granted, proceeds}
 use Rattle.ipc_model.specs.Decide.{decide, decide_call, deadline_of, is_late, is_reached}
 use Rattle.ipc_model.specs.Cancelled.{cancelled}
 use Rattle.ipc_model.specs.Step.{Event, Moved, and_then, at_time, begun, cancelled_by, end_waiting, ended_by, expired, first_ready, is_ready, moved_by, settle, settle_from, settled, state_by, step, waiting_as, without}
@@ -25,9 +25,9 @@ done s = record { state = s; ended = [] }
 
 -- who waits is left as it is
 pub kept-ended : (s : State) (who : ℕ) (d : Decision State) → Keeps s d → (ended_by s who d).state.parked ≡ s.parked
-kept-ended s who (Refuse rule) keeps = refl
-kept-ended s who Wait keeps = refl
-kept-ended s who (Grant answer new) keeps = keeps.0
+kept-ended s who (Refused rule) keeps = refl
+kept-ended s who Waits keeps = refl
+kept-ended s who (Granted answer new) keeps = keeps.0
 
 pub left-parked : (s : State) (w : Waiting) → (end_waiting s w).state.parked ≡ others w.client s.parked
 left-parked s w = let rest = without s w.client in kept-ended rest w.client (decide rest w.client w.call) (Keeps-decide rest w.client w.call)
@@ -161,14 +161,14 @@ pub apart-settled : (s : State) → Apart s.parked → Apart (settled s).state.p
 apart-settled s apart = kept-settled (λ t. Apart t.parked) (λ t w is p. apart-end t w p) s apart
 
 pub apart-state_by : (s : State) (who : ℕ) (call : Call) (d : Decision State) → Keeps s d → Free who s.parked → Apart s.parked → Apart (state_by s who call d).parked
-apart-state_by s who call (Refuse rule) keeps free apart = apart
-apart-state_by s who call Wait keeps free apart = apart-push s.parked (waiting_as s who call) apart free
-apart-state_by s who call (Grant answer new) keeps free apart = subst Apart (sym keeps.0) apart
+apart-state_by s who call (Refused rule) keeps free apart = apart
+apart-state_by s who call Waits keeps free apart = apart-push s.parked (waiting_as s who call) apart free
+apart-state_by s who call (Granted answer new) keeps free apart = subst Apart (sym keeps.0) apart
 
 pub apart-cancelled_by : (s : State) (call : Call) (d : Decision State) → Apart s.parked → Apart (cancelled_by s call d).state.parked
-apart-cancelled_by s call (Refuse rule) apart = apart
-apart-cancelled_by s call Wait apart = apart
-apart-cancelled_by s call (Grant answer new) apart = apart-filter (λ w. is_none (cancelled s call w)) s.parked apart
+apart-cancelled_by s call (Refused rule) apart = apart
+apart-cancelled_by s call Waits apart = apart
+apart-cancelled_by s call (Granted answer new) apart = apart-filter (λ w. is_none (cancelled s call w)) s.parked apart
 
 pub apart-moved : (s : State) (who : ℕ) (call : Call) → Free who s.parked → Apart s.parked → Apart (moved_by s who call).state.parked
 apart-moved s who call free apart =
@@ -190,9 +190,9 @@ abbrev IsOnTime : ℕ → State → Type 0
 IsOnTime clock s = (s.clock ≡ clock) × InTime clock s.parked
 
 time-ended : (clock : ℕ) (s : State) (who : ℕ) (d : Decision State) → Keeps s d → IfGranted (λ answer new. new.clock ≡ s.clock) d → IsOnTime clock s → IsOnTime clock (ended_by s who d).state
-time-ended clock s who (Refuse rule) keeps kept on = on
-time-ended clock s who Wait keeps kept on = on
-time-ended clock s who (Grant answer new) keeps kept on = (kept ∙ on.0, subst (InTime clock) (sym keeps.0) on.1)
+time-ended clock s who (Refused rule) keeps kept on = on
+time-ended clock s who Waits keeps kept on = on
+time-ended clock s who (Granted answer new) keeps kept on = (kept ∙ on.0, subst (InTime clock) (sym keeps.0) on.1)
 
 pub time-end : (clock : ℕ) (s : State) (w : Waiting) → IsOnTime clock s → IsOnTime clock (end_waiting s w).state
 time-end clock s w on =
@@ -203,16 +203,16 @@ time-end clock s w on =
 time-settled : (clock : ℕ) (s : State) → IsOnTime clock s → IsOnTime clock (settled s).state
 time-settled clock s on = kept-settled (IsOnTime clock) (λ t w is on. time-end clock t w on) s on
 
-time-state_by : (clock : ℕ) (s : State) (who : ℕ) (call : Call) (d : Decision State) → Keeps s d → IfGranted (λ answer new. new.clock ≡ s.clock) d → (d ≡ Wait → is_late s call ≡ false) → IsOnTime clock s → IsOnTime clock (state_by s who call d)
-time-state_by clock s who call (Refuse rule) keeps kept early on = on
-time-state_by clock s who call Wait keeps kept early on =
+time-state_by : (clock : ℕ) (s : State) (who : ℕ) (call : Call) (d : Decision State) → Keeps s d → IfGranted (λ answer new. new.clock ≡ s.clock) d → (d ≡ Waits → is_late s call ≡ false) → IsOnTime clock s → IsOnTime clock (state_by s who call d)
+time-state_by clock s who call (Refused rule) keeps kept early on = on
+time-state_by clock s who call Waits keeps kept early on =
     (on.0, all-push (λ w. is_reached clock w.deadline ≡ false) s.parked (waiting_as s who call) on.1 (ap (λ n. is_reached n (deadline_of s.clock call)) (sym on.0) ∙ early refl))
-time-state_by clock s who call (Grant answer new) keeps kept early on = (kept ∙ on.0, subst (InTime clock) (sym keeps.0) on.1)
+time-state_by clock s who call (Granted answer new) keeps kept early on = (kept ∙ on.0, subst (InTime clock) (sym keeps.0) on.1)
 
 time-cancelled_by : (clock : ℕ) (s : State) (call : Call) (d : Decision State) → IsOnTime clock s → IsOnTime clock (cancelled_by s call d).state
-time-cancelled_by clock s call (Refuse rule) on = on
-time-cancelled_by clock s call Wait on = on
-time-cancelled_by clock s call (Grant answer new) on = (on.0, all-filter (λ w. is_reached clock w.deadline ≡ false) (λ w. is_none (cancelled s call w)) s.parked on.1)
+time-cancelled_by clock s call (Refused rule) on = on
+time-cancelled_by clock s call Waits on = on
+time-cancelled_by clock s call (Granted answer new) on = (on.0, all-filter (λ w. is_reached clock w.deadline ≡ false) (λ w. is_none (cancelled s call w)) s.parked on.1)
 
 pub time-moved : (clock : ℕ) (s : State) (who : ℕ) (call : Call) → IsOnTime clock s → IsOnTime clock (moved_by s who call).state
 time-moved clock s who call on =

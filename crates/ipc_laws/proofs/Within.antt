@@ -12,8 +12,8 @@ use Rattle.ipc_call.specs.declared.replies.Waiting.{Waiting}
 use Rattle.ipc_call.specs.declared.rules.Rule.TheVariants.{Ended, TooManyGroups}
 use Rattle.ipc_creds.specs.Credentials.{Credentials, acting_as, became, cap_setgid, cap_setuid, groups_max, has_capability, own_groups, own_users}
 use Rattle.ipc_perm.specs.Access.{BecomeGroup, BecomeUser, SetGroups, denial}
-use Rattle.ipc_model.specs.State.{State, caller, creds_at, has_ended, nobody}
-use Rattle.ipc_model.specs.Decision.{Decision, Refuse, Wait, Grant}
+use Rattle.ipc_model.specs.State.{State, caller, creds_at, has_exited, nobody}
+use Rattle.ipc_model.specs.Decision.{Decision, Refused, Waits, Granted}
 use Rattle.ipc_model.specs.Plan.{Needs, Passes, in_order, ◌⨾◌}
 use Rattle.ipc_model.specs.Plan as plans
 use Rattle.ipc_model.specs.Processes.{set_creds, with_creds}
@@ -130,21 +130,21 @@ module _ (s : State) (client : ℕ) where
 
   within-set-plan : (euid egid : ℕ) (groups : Option (List ℕ)) → Grants c (AllWithin s) (plan s client (SetCreds euid egid groups))
   unfolding part_plan
-  within-set-plan euid egid groups = grants-check (AllWithin s) c (Passes (not (has_ended s client)) Ended tt) (within-setcreds euid egid groups)
+  within-set-plan euid egid groups = grants-check (AllWithin s) c (Passes (not (has_exited s client)) Ended tt) (within-setcreds euid egid groups)
 
 by-same : (s : State) (d : Decision State) → IfGranted (KeepsClients s) d → IfGranted (λ answer new. AllWithin s new) d
-by-same s (Refuse rule) same = tt
-by-same s Wait same = tt
-by-same s (Grant answer new) same = same-within s new same
+by-same s (Refused rule) same = tt
+by-same s Waits same = tt
+by-same s (Granted answer new) same = same-within s new same
 
 pub within-decide : (s : State) (client : ℕ) (call : Call) → IfGranted (λ answer new. AllWithin s new) (decide s client call)
 within-decide s client (SetCreds euid egid groups) = (within-set-plan s client euid egid groups).granted
 within-decide s client call = by-same s (decide s client call) (clients-kept s client call refl)
 
 within-ended : (s : State) (who : ℕ) (d : Decision State) → IfGranted (λ answer new. AllWithin s new) d → AllWithin s (ended_by s who d).state
-within-ended s who (Refuse rule) within = λ k p closed. closed
-within-ended s who Wait within = λ k p closed. closed
-within-ended s who (Grant answer new) within = within
+within-ended s who (Refused rule) within = λ k p closed. closed
+within-ended s who Waits within = λ k p closed. closed
+within-ended s who (Granted answer new) within = within
 
 within-end : (s : State) (w : Waiting) → AllWithin s (end_waiting s w).state
 within-end s w = let rest = without s w.client in within-ended rest w.client (decide rest w.client w.call) (within-decide rest w.client w.call)
@@ -153,9 +153,9 @@ within-settled : (s : State) → AllWithin s (settled s).state
 within-settled s = kept-settled (AllWithin s) (λ t w is within. all-within s t (end_waiting t w).state within (within-end t w)) s (λ k p closed. closed)
 
 within-state_by : (s : State) (who : ℕ) (call : Call) (d : Decision State) → IfGranted (λ answer new. AllWithin s new) d → AllWithin s (cancelled_by (state_by s who call d) call d).state
-within-state_by s who call (Refuse rule) within = λ k p closed. closed
-within-state_by s who call Wait within = λ k p closed. closed
-within-state_by s who call (Grant answer new) within = within
+within-state_by s who call (Refused rule) within = λ k p closed. closed
+within-state_by s who call Waits within = λ k p closed. closed
+within-state_by s who call (Granted answer new) within = within
 
 pub within-step : (s : State) (e : Event) → AllWithin s (step s e).state
 within-step s e =

@@ -10,7 +10,7 @@ use Rattle.ipc_call.specs.declared.calls.Call.TheVariants.{GetAll, SetVal, SetAl
 use Rattle.ipc_call.specs.declared.calls.Kind.{Kind}
 use Rattle.ipc_call.specs.declared.calls.Kind.TheVariants as kinds
 use Rattle.ipc_call.specs.declared.perms.Perm.{Perm}
-use Rattle.ipc_call.specs.declared.replies.Ended.{Ended}
+use Rattle.ipc_call.specs.declared.replies.Completion.{Completion}
 use Rattle.ipc_creds.specs.Credentials.{Credentials, acting_as, cap_ipc_owner, cap_setgid, cap_setuid, has_capability, own_groups, own_users}
 use Rattle.ipc_perm.specs.Access.{controls, rights_of}
 use Rattle.ipc_ids.specs.Table.{Table}
@@ -134,7 +134,7 @@ own_from client s [] = []
 own_from client s (e ∷ es) = own_by client e (step s e) ++ own_from client (step s e).state es
 
 -- how its waiting calls ended
-abbrev pub ends_of : ℕ → List Ended → List Outcome
+abbrev pub ends_of : ℕ → List Completion → List Outcome
 ends_of client ended = map (λ e. e.outcome) (filter (λ e. e.client == client) ended)
 
 abbrev pub ends_from : ℕ → State → List Event → List Outcome

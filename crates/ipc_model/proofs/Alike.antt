@@ -33,9 +33,9 @@ pub whole-alike : {X Y : Type 0} (c : Credentials) (p : Plan X) (q : Plan Y) →
 whole-alike c p q same = sym (decision-on c nothing p) ∙ ap (λ r. decision c r) same ∙ decision-on c nothing q
 
 proceeds-whole : {X Y : Type 0} (put : X → Y) (d : Decision X) → proceeds (on_whole put d) ≡ proceeds d
-proceeds-whole put (decisions.Refuse rule) = refl
-proceeds-whole put decisions.Wait = refl
-proceeds-whole put (decisions.Grant answer new) = refl
+proceeds-whole put (decisions.Refused rule) = refl
+proceeds-whole put decisions.Waits = refl
+proceeds-whole put (decisions.Granted answer new) = refl
 
 -- the plan of a part goes on or waits as it does on the whole
 pub proceeds-on : {X Y : Type 0} (c : Credentials) (put : X → Y) (p : Plan X) → proceeds (decision c (on_part put p)) ≡ proceeds (decision c p)

@@ -14,7 +14,7 @@ use Rattle.ipc_perm.specs.Access.{Resource, SetGroups}
 use Rattle.ipc_model.specs.State.{State, caller, creds_at}
 use Rattle.ipc_model.specs.Plan.{Needs, Plan, ◌⨾◌}
 use Rattle.ipc_model.specs.Plan as plans
-use Rattle.ipc_model.specs.Decision.{Decision, Refuse, Wait, Grant}
+use Rattle.ipc_model.specs.Decision.{Decision, Refused, Waits, Granted}
 use Rattle.ipc_model.specs.Controls.{is_within, perm_of, removed, status_of, with_set}
 use Rattle.ipc_model.specs.Processes.{process}
 use Rattle.ipc_model.specs.Decide.{OnQueues, OnSems, OnShared, OnState, PartPlan, decide, part_plan, plan, whole}
@@ -26,9 +26,9 @@ every-end P all (plans.Refuse rule plain) = tt
 every-end P all (plans.Grant answer new) = all answer new
 
 granted-so : {X : Type 0} (P Q : Answer → X → Type 0) → ((answer : Answer) (x : X) → P answer x → Q answer x) → (d : Decision X) → IfGranted P d → IfGranted Q d
-granted-so P Q so (Refuse rule) is = tt
-granted-so P Q so Wait is = tt
-granted-so P Q so (Grant answer new) is = so answer new is
+granted-so P Q so (Refused rule) is = tt
+granted-so P Q so Waits is = tt
+granted-so P Q so (Granted answer new) is = so answer new is
 
 abbrev pub KeepsClock : State → Answer → State → Type 0
 KeepsClock s answer new = new.clock ≡ s.clock

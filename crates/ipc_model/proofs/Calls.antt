@@ -18,13 +18,13 @@ use Rattle.ipc_perm.specs.Access.{Permission, Resource, SetGroups, to_read}
 use Rattle.ipc_ids.specs.Table.{Table, next_id, with_object, without_object}
 use Rattle.ipc_objects.specs.declared.object.Object.{Object}
 use Rattle.msg_queue.specs.declared.messages.Message.{Message}
-use Rattle.ipc_model.specs.State.{Caller, Queue, Queues, Segment, SemSet, Sems, Shared, State, caller, creds_at, has_ended}
+use Rattle.ipc_model.specs.State.{Caller, Queue, Queues, Segment, SemSet, Sems, Shared, State, caller, creds_at, has_exited}
 use Rattle.ipc_model.specs.Decision.{proceeds}
 use Rattle.ipc_model.specs.Plan.{Needs, Passes, Plan, decision, in_order, on_part, ◌⨾◌}
 use Rattle.ipc_model.specs.Plan as plans
 use Rattle.ipc_model.specs.Gets.{Getting, get, get_found, get_queue, get_segment, get_set, getting_queue, getting_segment, getting_set, new_object, object_of_key, Get}
 use Rattle.ipc_model.specs.Messages.{chosen, queue_at, receive_message, send_found, send_message, take_chosen, receive_found, Send}
-use Rattle.ipc_model.specs.Semaphores.{exited, get_all, get_pid, get_value, operate, operated, set_all, set_at, set_value, trial_checks, wanted_by}
+use Rattle.ipc_model.specs.Semaphores.{set_after_exit, get_all, get_pid, get_value, operate, operated, set_all, set_at, set_value, trial_checks, wanted_by}
 use Rattle.ipc_model.specs.Segments.{attach, behind, detach, read_bytes, segment_at, write_bytes}
 use Rattle.shm_seg.specs.Attachments.{attachment_at, free_number, shmseg}
 use Rattle.sem_set.specs.Trials.{are_in}
@@ -103,7 +103,7 @@ module _ (s : State) (parked : List Waiting) (clock : ℕ) where
   alive-alike client call can = absurd (true≢false (sym can))
 
   pub plan-alike : (client : ℕ) (call : Call) → can_wait call ≡ true → blank (plan later client call) ≡ blank (plan s client call)
-  plan-alike client call can = ap (λ p. Passes (not (has_ended s client)) Ended tt ⨾ p) (alive-alike client call can)
+  plan-alike client call can = ap (λ p. Passes (not (has_exited s client)) Ended tt ⨾ p) (alive-alike client call can)
 
 -- only a call of a kind that may wait is made to wait
 never-sems : (s : State) (p : Plan Sems) → never_waits p ≡ true → never_waits (whole s (OnSems p)) ≡ true
@@ -297,7 +297,7 @@ Ends-plan s client (SemOp id ops) = Ends-operate s client id ops
 Ends-plan s client (SemTimedOp id ops timeout) = Ends-operate s client id ops
 Ends-plan s client (GetNcnt id num) = Ends-sems s (get_waiting s id num (is_negative num)) (Ends-found _ (set_at s.sems id) BadId tt _ (λ set is. Grows-same s.sems.sets))
 Ends-plan s client (GetZcnt id num) = Ends-sems s (get_waiting s id num (is_zero num)) (Ends-found _ (set_at s.sems id) BadId tt _ (λ set is. Grows-same s.sems.sets))
-Ends-plan s client Exit = (refl, record { queues = Grows-same s.queues; sets = Grows-mapped (exited s.sems (caller s client)) s.sems.sets; shared = Leads-each shmseg 0 (caller s client) s.shared; clients = refl; limits = refl })
+Ends-plan s client Exit = (refl, record { queues = Grows-same s.queues; sets = Grows-mapped (set_after_exit s.sems (caller s client)) s.sems.sets; shared = Leads-each shmseg 0 (caller s client) s.shared; clients = refl; limits = refl })
 Ends-plan s client (GetVal id num) = Ends-sems s (get_value s.sems id num) (Ends-found _ (set_at s.sems id) BadId tt _ (λ set is. Grows-same s.sems.sets))
 Ends-plan s client (GetPid id num) = Ends-sems s (get_pid s.sems id num) (Ends-found _ (set_at s.sems id) BadId tt _ (λ set is. Grows-same s.sems.sets))
 Ends-plan s client (GetAll id) = Ends-sems s (get_all s.sems id) (Ends-found _ (set_at s.sems id) BadId tt _ (λ set is. Grows-same s.sems.sets))

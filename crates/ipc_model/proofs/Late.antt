@@ -5,7 +5,7 @@ use Rattle.ipc_call.specs.declared.calls.Call.{Call}
 use Rattle.ipc_call.specs.declared.calls.Call.TheVariants.{SemTimedOp}
 use Rattle.ipc_call.specs.declared.replies.Answer.{Answer}
 use Rattle.ipc_model.specs.State.{State}
-use Rattle.ipc_model.specs.Decision.{Decision, Refuse, Wait, Grant, proceeds}
+use Rattle.ipc_model.specs.Decision.{Decision, Refused, Waits, Granted, proceeds}
 use Rattle.ipc_model.specs.Decide.{decide, decide_call, is_late, part_plan, plan, unless_late, waits_as}
 use Rattle.ipc_model.proofs.Growing.{Keeps}
 use Rattle.ipc_model.proofs.Plans.{IfGranted}
@@ -13,22 +13,22 @@ use Rattle.ipc_model.proofs.Calls.{Keeps-decide, only_parkable}
 use Rattle.ipc_model.specs.Decide.{can_wait, waits_at}
 
 pub late-granted : {X : Type 0} (P : Answer → X → Type 0) (late : Bool) (d : Decision X) → IfGranted P d → IfGranted P (unless_late late d)
-late-granted P true (Refuse rule) is = tt
-late-granted P true Wait is = tt
-late-granted P true (Grant answer new) is = is
+late-granted P true (Refused rule) is = tt
+late-granted P true Waits is = tt
+late-granted P true (Granted answer new) is = is
 late-granted P false d is = is
 
 pub late-waits : {X : Type 0} (late : Bool) (d : Decision X) → proceeds (unless_late late d) ≡ false → proceeds d ≡ false
-late-waits true (Refuse rule) waits = absurd (true≢false waits)
-late-waits true Wait waits = absurd (true≢false waits)
-late-waits true (Grant answer new) waits = absurd (true≢false waits)
+late-waits true (Refused rule) waits = absurd (true≢false waits)
+late-waits true Waits waits = absurd (true≢false waits)
+late-waits true (Granted answer new) waits = absurd (true≢false waits)
 late-waits false d waits = waits
 
 -- where it waits, it isn't late
 pub waits-early : {X : Type 0} (late : Bool) (d : Decision X) → proceeds (unless_late late d) ≡ false → late ≡ false
-waits-early true (Refuse rule) waits = absurd (true≢false waits)
-waits-early true Wait waits = absurd (true≢false waits)
-waits-early true (Grant answer new) waits = absurd (true≢false waits)
+waits-early true (Refused rule) waits = absurd (true≢false waits)
+waits-early true Waits waits = absurd (true≢false waits)
+waits-early true (Granted answer new) waits = absurd (true≢false waits)
 waits-early false d waits = refl
 
 pub Keeps-call : (s : State) (client : ℕ) (call : Call) → Keeps s (decide_call s client call)

@@ -11,7 +11,7 @@ use Rattle.ipc_perm.specs.declared.access.Want.{Want}
 use Rattle.ipc_objects.specs.Objects.{with_contents}
 use Rattle.ipc_objects.specs.declared.object.Object.{Object}
 use Rattle.msg_queue.specs.declared.messages.Message.{Message}
-use Rattle.sem_set.specs.declared.sets.Semaphore.{Semaphore}
+use Rattle.sem_set.specs.declared.set.Semaphore.{Semaphore}
 use Rattle.sem_undo.specs.Entries.{adj_of}
 use Rattle.ipc_model.specs.State.{Caller, Queue, Queues, SemSet, Sems, State, caller}
 use Rattle.ipc_model.specs.Plan.{Grant, Plan, in_order, needs_in, on_part}

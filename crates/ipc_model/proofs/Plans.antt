@@ -13,11 +13,11 @@ use Rattle.ipc_model.specs.Plan.{Check, Proceeds, IsPlain, Needs, Passes, Plan, 
 -- what is decided where all checks pass
 abbrev pub end_of : {X : Type 0} → Plan X → Decision X
 end_of (check ⨾ rest) = end_of rest
-end_of (Refuse rule plain) = decisions.Refuse rule
-end_of (Grant answer new) = decisions.Grant answer new
+end_of (Refuse rule plain) = decisions.Refused rule
+end_of (Grant answer new) = decisions.Granted answer new
 
 -- what holds of each refusal, of waiting, and of the end of a plan, holds of its decision
-module _ {X : Type 0} (c : Credentials) (P : Decision X → Type 0) (refused : (rule : Rule) → P (decisions.Refuse rule)) (waits : P decisions.Wait) where
+module _ {X : Type 0} (c : Credentials) (P : Decision X → Type 0) (refused : (rule : Rule) → P (decisions.Refused rule)) (waits : P decisions.Waits) where
   by-if : (b : Bool) (d e : Decision X) → P d → P e → P (cond b d e)
   by-if true d e pd pe = pd
   by-if false d e pd pe = pe
@@ -27,9 +27,9 @@ module _ {X : Type 0} (c : Credentials) (P : Decision X → Type 0) (refused : (
   by-unless (Some rule) d p = refused rule
 
   by-checked : (check : Check) (d : Decision X) → P d → P (by_check c check d)
-  by-checked (Passes passes rule plain) d p = by-if passes d (decisions.Refuse rule) p (refused rule)
+  by-checked (Passes passes rule plain) d p = by-if passes d (decisions.Refused rule) p (refused rule)
   by-checked (Needs need) d p = by-unless (denial c need) d p
-  by-checked (Proceeds proceeds flags rule plain) d p = by-if proceeds d (or_wait flags rule) p (by-if (has_flag flags ipc_nowait) (decisions.Refuse rule) decisions.Wait (refused rule) waits)
+  by-checked (Proceeds proceeds flags rule plain) d p = by-if proceeds d (or_wait flags rule) p (by-if (has_flag flags ipc_nowait) (decisions.Refused rule) decisions.Waits (refused rule) waits)
 
   pub by-end : (p : Plan X) → P (end_of p) → P (decision c p)
   by-end (check ⨾ rest) holds = by-checked check (decision c rest) (by-end rest holds)
@@ -38,9 +38,9 @@ module _ {X : Type 0} (c : Credentials) (P : Decision X → Type 0) (refused : (
 
 -- what is granted has the property
 abbrev pub IfGranted : {X : Type 0} → (Answer → X → Type 0) → Decision X → Type 0
-IfGranted P (decisions.Refuse rule) = Unit {0}
-IfGranted P decisions.Wait = Unit {0}
-IfGranted P (decisions.Grant answer new) = P answer new
+IfGranted P (decisions.Refused rule) = Unit {0}
+IfGranted P decisions.Waits = Unit {0}
+IfGranted P (decisions.Granted answer new) = P answer new
 
 -- what the end of a plan grants has it
 abbrev pub Ends : {X : Type 0} → (Answer → X → Type 0) → Plan X → Type 0
@@ -65,12 +65,12 @@ Ends-on put P (Grant answer new) ends = ends
 
 -- a decision on a part, as one on the whole
 abbrev pub on_whole : {X Y : Type 0} → (X → Y) → Decision X → Decision Y
-on_whole put (decisions.Refuse rule) = decisions.Refuse rule
-on_whole put decisions.Wait = decisions.Wait
-on_whole put (decisions.Grant answer new) = decisions.Grant answer (put new)
+on_whole put (decisions.Refused rule) = decisions.Refused rule
+on_whole put decisions.Waits = decisions.Waits
+on_whole put (decisions.Granted answer new) = decisions.Granted answer (put new)
 
 module _ {X Y : Type 0} (c : Credentials) (put : X → Y) where
-  whole-if : (b : Bool) (d : Decision X) (e : Decision Y) (rule : Rule) → e ≡ on_whole put d → cond b e (decisions.Refuse rule) ≡ on_whole put (cond b d (decisions.Refuse rule))
+  whole-if : (b : Bool) (d : Decision X) (e : Decision Y) (rule : Rule) → e ≡ on_whole put d → cond b e (decisions.Refused rule) ≡ on_whole put (cond b d (decisions.Refused rule))
   whole-if true d e rule same = same
   whole-if false d e rule same = refl
 
@@ -78,7 +78,7 @@ module _ {X Y : Type 0} (c : Credentials) (put : X → Y) where
   whole-unless None d e same = same
   whole-unless (Some rule) d e same = refl
 
-  whole-wait : (b : Bool) (rule : Rule) → cond b (decisions.Refuse rule) decisions.Wait ≡ on_whole put (cond b (decisions.Refuse rule) decisions.Wait)
+  whole-wait : (b : Bool) (rule : Rule) → cond b (decisions.Refused rule) decisions.Waits ≡ on_whole put (cond b (decisions.Refused rule) decisions.Waits)
   whole-wait true rule = refl
   whole-wait false rule = refl
 
@@ -95,17 +95,17 @@ module _ {X Y : Type 0} (c : Credentials) (put : X → Y) where
   decision-on (Grant answer new) = refl
 
 outcome-whole : {X Y : Type 0} (put : X → Y) (d : Decision X) → outcome_of (on_whole put d) ≡ outcome_of d
-outcome-whole put (decisions.Refuse rule) = refl
-outcome-whole put decisions.Wait = refl
-outcome-whole put (decisions.Grant answer new) = refl
+outcome-whole put (decisions.Refused rule) = refl
+outcome-whole put decisions.Waits = refl
+outcome-whole put (decisions.Granted answer new) = refl
 
 pub outcome-on : {X Y : Type 0} (c : Credentials) (put : X → Y) (p : Plan X) → outcome_of (decision c (on_part put p)) ≡ outcome_of (decision c p)
 outcome-on c put p = ap (λ d. outcome_of d) (decision-on c put p) ∙ outcome-whole put (decision c p)
 
 left-whole : {X Y : Type 0} (put : X → Y) (d : Decision X) (t : X) (s : Y) → put t ≡ s → left_by s (on_whole put d) ≡ put (left_by t d)
-left-whole put (decisions.Refuse rule) t s same = sym same
-left-whole put decisions.Wait t s same = sym same
-left-whole put (decisions.Grant answer new) t s same = refl
+left-whole put (decisions.Refused rule) t s same = sym same
+left-whole put decisions.Waits t s same = sym same
+left-whole put (decisions.Granted answer new) t s same = refl
 
 -- what is left of the whole is what is left of the part
 pub left-on : {X Y : Type 0} (c : Credentials) (put : X → Y) (p : Plan X) (t : X) (s : Y) → put t ≡ s → left_by s (decision c (on_part put p)) ≡ put (left_by t (decision c p))
@@ -140,7 +140,7 @@ never-on put (Refuse rule plain) never = never
 never-on put (Grant answer new) never = never
 
 module _ {X : Type 0} (c : Credentials) where
-  proceeds-if : (b : Bool) (rule : Rule) (d : Decision X) → proceeds d ≡ true → proceeds (cond b d (decisions.Refuse rule)) ≡ true
+  proceeds-if : (b : Bool) (rule : Rule) (d : Decision X) → proceeds d ≡ true → proceeds (cond b d (decisions.Refused rule)) ≡ true
   proceeds-if true rule d is = is
   proceeds-if false rule d is = refl
 

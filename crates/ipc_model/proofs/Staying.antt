@@ -22,7 +22,7 @@ use Rattle.ipc_objects.specs.declared.object.Object.{Object}
 use Rattle.ipc_objects.specs.Objects.{changed, with_contents}
 use Rattle.ipc_perm.specs.Access.{Resource, SetGroups}
 use Rattle.msg_queue.specs.declared.messages.Message.{Message}
-use Rattle.sem_set.specs.declared.sets.Semaphore.{Semaphore}
+use Rattle.sem_set.specs.declared.set.Semaphore.{Semaphore}
 use Rattle.sem_set.specs.Exits.{any_from}
 use Rattle.sem_undo.specs.Entries.{adj_of}
 use Rattle.sem_undo.proofs.Entries.{key}
@@ -32,7 +32,7 @@ use Rattle.ipc_model.specs.Plan as plans
 use Rattle.ipc_model.specs.Cancelled.{is_same}
 use Rattle.ipc_model.specs.Gets.{get, get_queue, get_segment, get_set, getting_queue, getting_set, object_of_key, Get}
 use Rattle.ipc_model.specs.Messages.{chosen, queue_at, receive_found, receive_message, send_found, send_message, take_chosen, Send}
-use Rattle.ipc_model.specs.Semaphores.{after_exit, exited, get_all, get_pid, get_value, operate, operated, set_all, set_at, set_value, trial_checks, with_values}
+use Rattle.ipc_model.specs.Semaphores.{after_exit, set_after_exit, get_all, get_pid, get_value, operate, operated, set_all, set_at, set_value, trial_checks, with_values}
 use Rattle.ipc_model.specs.Processes.{process, with_creds}
 use Rattle.ipc_model.specs.Controls.{is_within, perm_of, removed, status_of, with_set, without_set}
 use Rattle.ipc_model.specs.Decide.{get_waiting, is_negative, is_zero, part_plan, plan}
@@ -186,22 +186,22 @@ module _ (s : State) (client : ℕ) (kind : Kind) (at : ℕ) where
   exited-kept : is_same kinds.Sems kind && owes s.sems client at ≡ false → KeepsSet (after_exit s.sems (caller s client))
   exited-kept other is =
       let none : owes s.sems client at ≡ false = off (is_same kinds.Sems kind) (owes s.sems client at) other is in (
-        get-entries (exited s.sems (caller s client)) s.sems.sets at ∙ by none (set_at s.sems at) refl,
+        get-entries (set_after_exit s.sems (caller s client)) s.sems.sets at ∙ by none (set_at s.sems at) refl,
         λ c ne num. entry (after_exit s.sems (caller s client)) c num (without-apart s.sems.undo client (key c at num) ne),
       )
     where
-      by : owes s.sems client at ≡ false → (o : Option (Object SemSet)) → set_at s.sems at ≡ o → option_map (exited s.sems (caller s client) at) (set_at s.sems at) ≡ set_at s.sems at
+      by : owes s.sems client at ≡ false → (o : Option (Object SemSet)) → set_at s.sems at ≡ o → option_map (set_after_exit s.sems (caller s client) at) (set_at s.sems at) ≡ set_at s.sems at
       by none None is = rw is refl
       by none (Some set) is = rw is (ap (λ (x : Object SemSet). Some x) (exited-none s.sems (caller s client) at set (
           ap (λ (o : Option (Object SemSet)). unwrap_or (option_map (λ (set : Object SemSet). any_from (adj_of s.sems.undo client at) 0 set.contents.semaphores) o) false) (sym is) ∙ none
           )))
 
-  exit-kept : is_same kinds.Sems kind && owes s.sems client at ≡ false → (shared : Shared) → Kept (record s { ended = s.ended ++ client ∷ []; sems = after_exit s.sems (caller s client); shared = shared })
+  exit-kept : is_same kinds.Sems kind && owes s.sems client at ≡ false → (shared : Shared) → Kept (record s { exited = s.exited ++ client ∷ []; sems = after_exit s.sems (caller s client); shared = shared })
   exit-kept other shared = record {
     limits = refl;
     creds = λ c ne. refl;
-    alive = λ c ne. ended-other s.ended client c ne;
-    object = seen (record s { ended = s.ended ++ client ∷ []; sems = after_exit s.sems (caller s client); shared = shared }) queue-same (exited-kept other);
+    alive = λ c ne. ended-other s.exited client c ne;
+    object = seen (record s { exited = s.exited ++ client ∷ []; sems = after_exit s.sems (caller s client); shared = shared }) queue-same (exited-kept other);
   }
 
   -- each call

@@ -3,7 +3,7 @@ use Rattle.std.specs.Prelude.{◌≡◌, ◌≢◌, ℕ}
 use Rattle.ipc_call.specs.declared.calls.Kind.{Kind}
 use Rattle.ipc_call.specs.declared.calls.Kind.TheVariants as kinds
 use Rattle.sem_undo.specs.Entries.{adj_of}
-use Rattle.ipc_model.specs.State.{State, creds_at, has_ended}
+use Rattle.ipc_model.specs.State.{State, creds_at, has_exited}
 use Rattle.ipc_model.specs.Messages.{queue_at}
 use Rattle.ipc_model.specs.Semaphores.{set_at}
 
@@ -20,5 +20,5 @@ IsSeenAlike kinds.Segment id client s new = Unit {0}
 pub record Stays (s : State) (client : ℕ) (kind : Kind) (id : ℕ) (new : State) : Type 0 where
   pub limits : new.limits ≡ s.limits
   pub creds : (c : ℕ) → c ≢ client → creds_at new c ≡ creds_at s c
-  pub alive : (c : ℕ) → c ≢ client → has_ended new c ≡ has_ended s c
+  pub alive : (c : ℕ) → c ≢ client → has_exited new c ≡ has_exited s c
   pub object : IsSeenAlike kind id client s new

@@ -22,7 +22,7 @@ use Rattle.ipc_perm.specs.Access.{Permission, to_read}
 use Rattle.msg_queue.specs.declared.messages.Message.{Message}
 use Rattle.sem_set.specs.Trials.{are_in}
 use Rattle.sem_undo.specs.Entries.{adj_of}
-use Rattle.ipc_model.specs.State.{Caller, Queue, Queues, SemSet, Sems, State, caller, creds_at, has_ended}
+use Rattle.ipc_model.specs.State.{Caller, Queue, Queues, SemSet, Sems, State, caller, creds_at, has_exited}
 use Rattle.ipc_model.specs.Decision.{proceeds}
 use Rattle.ipc_model.specs.Plan.{Grant, Needs, Passes, Plan, decision, in_order, on_part, ◌⨾◌}
 use Rattle.ipc_model.specs.Cancelled.{is_same, waits_on}
@@ -102,7 +102,7 @@ pub stays_alike : (s new : State) (client c : ℕ) (kind : Kind) (at : ℕ) → 
 stays_alike s new client c kind at stays other call on =
     ap (λ d. proceeds (decision d (plan new c call))) (stays.creds c other)
     ∙ proceeds-alike (creds_at s c) (plan new c call) (plan s c call)
-    ((λ i. Passes (not (stays.alive c other i)) Ended tt ⨾ blank (plan_alive new c call)) ∙ ap (λ p. Passes (not (has_ended s c)) Ended tt ⨾ p) (alive-seen s new client c kind at stays other call on))
+    ((λ i. Passes (not (stays.alive c other i)) Ended tt ⨾ blank (plan_alive new c call)) ∙ ap (λ p. Passes (not (has_exited s c)) Ended tt ⨾ p) (alive-seen s new client c kind at stays other call on))
 
 -- the object on which a call waits is there
 abbrev pub is_there : State → Kind → ℕ → Bool

@@ -6,7 +6,7 @@ use Rattle.ipc_call.specs.Flags.{has_flag, ipc_nowait}
 use Rattle.ipc_call.specs.declared.calls.SemOper.{SemOper}
 use Rattle.ipc_call.specs.declared.replies.Answer.TheVariants.{Done}
 use Rattle.ipc_call.specs.declared.rules.Rule.TheVariants.{UndoRange, ValueRange, WouldWait}
-use Rattle.sem_set.specs.declared.sets.Semaphore.{Semaphore}
+use Rattle.sem_set.specs.declared.set.Semaphore.{Semaphore}
 use Rattle.sem_set.specs.declared.trials.Trial.{Trial}
 use Rattle.sem_set.specs.declared.trials.Trial.TheVariants as trials
 use Rattle.sem_set.specs.Met.{met_at}
@@ -27,7 +27,7 @@ at-place [] o ys = refl
 at-place (x ∷ xs) o ys = at-place xs o ys
 
 by-tests : (high low nowait far : Bool) (o : SemOper) (all : List SemOper) (place : ℕ) (rest : Trial) (later : Option SemOper) → slice_get all place ≡ Some o → later ≡ stops_in all rest
-    → waits_at_oper o (without_answer (cond (not high) (cond (not low) (cond (not far) (decisions.Grant Done (tt {0})) (decisions.Refuse UndoRange)) (cond nowait (decisions.Refuse WouldWait) decisions.Wait)) (decisions.Refuse ValueRange))) later
+    → waits_at_oper o (without_answer (cond (not high) (cond (not low) (cond (not far) (decisions.Granted Done (tt {0})) (decisions.Refused UndoRange)) (cond nowait (decisions.Refused WouldWait) decisions.Waits)) (decisions.Refused ValueRange))) later
     ≡ stops_in all (unwrap_or (if high then Some (trials.Refuse ValueRange) else (if low then Some (if nowait then trials.Refuse WouldWait else trials.Wait place) else (if far then Some (trials.Refuse UndoRange) else None))) rest)
 by-tests true low nowait far o all place rest later here is = refl
 by-tests false true true far o all place rest later here is = refl

@@ -12,7 +12,7 @@ use Rattle.ipc_call.specs.declared.replies.Answer.{Answer}
 use Rattle.ipc_call.specs.declared.replies.Waiting.{Waiting}
 use Rattle.ipc_ids.specs.Table.{next_id}
 use Rattle.ipc_model.specs.State.{State, creds_at}
-use Rattle.ipc_model.specs.Decision.{Decision, Grant}
+use Rattle.ipc_model.specs.Decision.{Decision, Granted}
 use Rattle.ipc_model.specs.Decide.{can_wait, decide, plan, waits_at}
 use Rattle.ipc_model.specs.Cancelled.{is_same, waits_on}
 use Rattle.ipc_model.specs.Step.{is_ready}
@@ -35,19 +35,19 @@ place_of (SemTimedOp id ops timeout) can = (kinds.Sems, id, refl, eq-eqb id id r
 place_of call can = absurd (false≢true can)
 
 -- what was granted leaves untouched objects as they were
-granted-stays : (s new : State) (client : ℕ) (call : Call) (answer : Answer) (k : Kind) (i : ℕ) → decide s client call ≡ Grant answer new → touches s client call k i ≡ false → Stays s client k i new
+granted-stays : (s new : State) (client : ℕ) (call : Call) (answer : Answer) (k : Kind) (i : ℕ) → decide s client call ≡ Granted answer new → touches s client call k i ≡ false → Stays s client k i new
 granted-stays s new client call answer k i is off =
     subst (λ (d : Decision State). IfGranted (λ (answer : Answer) (new : State). Stays s client k i new) d) is
     (Ends-decision (creds_at s client) (λ answer new. Stays s client k i new) (plan s client call) (stays s client k i call off))
 
-still-waits : (s new : State) (client : ℕ) (call : Call) (answer : Answer) → decide s client call ≡ Grant answer new → (w : Waiting) → is_ready s w ≡ false → w.client ≢ client → touches_place s client call w ≡ false → is_ready new w ≡ false
+still-waits : (s new : State) (client : ℕ) (call : Call) (answer : Answer) → decide s client call ≡ Granted answer new → (w : Waiting) → is_ready s w ≡ false → w.client ≢ client → touches_place s client call w ≡ false → is_ready new w ≡ false
 still-waits s new client call answer is w waits other off =
     let at = place_of w.call (only_parkable s w.client w.call waits) in
     let there : touches s client call at.0 at.1 ≡ false = ap (place_touched s client call) (sym at.2) ∙ off in
     stays_alike s new client w.client at.0 at.1 (granted-stays s new client call answer at.0 at.1 is there) other w.call at.3 ∙ waits
 
 -- after a granted event, where no call was ready before it, and its client has none that waits
-pub event_quiet : (s new : State) (client : ℕ) (call : Call) (answer : Answer) → decide s client call ≡ Grant answer new → (ws : List Waiting) → AllByRecursion (λ w. is_ready s w ≡ false) ws → AllByRecursion (λ w. w.client ≢ client) ws
+pub event_quiet : (s new : State) (client : ℕ) (call : Call) (answer : Answer) → decide s client call ≡ Granted answer new → (ws : List Waiting) → AllByRecursion (λ w. is_ready s w ≡ false) ws → AllByRecursion (λ w. w.client ≢ client) ws
     → AllByRecursion (λ w. touches_place s client call w ≡ false → is_ready new w ≡ false) ws
 event_quiet s new client call answer is [] waits others = tt
 event_quiet s new client call answer is (w ∷ ws) waits others =
@@ -80,7 +80,7 @@ place-is (SemTimedOp id ops timeout) k i on = same-set id i k on
 place-is call k i on = absurd (false≢true on)
 
 -- a call that waits elsewhere still waits when a waiting call was granted
-pub turn_quiet : (s new : State) (w : Waiting) (answer : Answer) (k : Kind) (i : ℕ) → waits_on k i w.call ≡ true → decide s w.client w.call ≡ Grant answer new → (v : Waiting) → v.client ≢ w.client
+pub turn_quiet : (s new : State) (w : Waiting) (answer : Answer) (k : Kind) (i : ℕ) → waits_on k i w.call ≡ true → decide s w.client w.call ≡ Granted answer new → (v : Waiting) → v.client ≢ w.client
     → waits_on k i v.call ≡ false → is_ready s v ≡ false → is_ready new v ≡ false
 turn_quiet s new w answer k i on is v other elsewhere waits =
     still-waits s new w.client w.call answer is v waits other (by (touches_place s w.client w.call v) refl)

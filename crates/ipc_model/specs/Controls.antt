@@ -100,7 +100,7 @@ status_of s kinds.Segment id =
 
 abbrev pub stat_object : State → Kind → ℕ → Plan State
 stat_object s kind id =
-    found (status_of s kind id) BadId _ (λ told. Needs (Permission told.0 to_read) ⨾ Grant (StatusAnswer told.1) s)
+    found (status_of s kind id) BadId _ (λ status. Needs (Permission status.0 to_read) ⨾ Grant (StatusAnswer status.1) s)
 
 -- the owner that IPC_SET sets: the low nine bits of the mode count
 abbrev pub owner_in : Settings → Owner

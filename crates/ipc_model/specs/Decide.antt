@@ -6,7 +6,7 @@ use Rattle.ipc_call.specs.declared.calls.Call.TheVariants.{MsgGet, MsgSnd, MsgRc
 use Rattle.ipc_call.specs.declared.rules.Rule.TheVariants.{Ended, TimedOut}
 use Rattle.ipc_call.specs.declared.calls.Kind.TheVariants as kinds
 use Rattle.ipc_perm.specs.Access.{Need}
-use Rattle.ipc_model.specs.State.{Call, Caller, Kind, Message, Queues, SemOper, Sems, Shared, State, caller, creds_at, has_ended}
+use Rattle.ipc_model.specs.State.{Call, Caller, Kind, Message, Queues, SemOper, Sems, Shared, State, caller, creds_at, has_exited}
 use Rattle.ipc_model.specs.Decision.{Decision}
 use Rattle.ipc_model.specs.Decision as decisions
 use Rattle.ipc_model.specs.Plan.{Passes, Plan, decision, needs_in, on_part, ◌⨾◌}
@@ -93,7 +93,7 @@ plan_alive s client call = whole s (part_plan s (caller s client) call)
 
 -- before all else the client hasn't ended (ESRCH; the project's own)
 abbrev pub plan : State → ℕ → Call → Plan State
-plan s client call = Passes (not (has_ended s client)) Ended _ ⨾ plan_alive s client call
+plan s client call = Passes (not (has_exited s client)) Ended _ ⨾ plan_alive s client call
 
 -- the decision relation: the credentials are the caller's, by its number
 abbrev pub decide : State → ℕ → Call → Decision State
@@ -135,9 +135,9 @@ is_reached clock (Some deadline) = nat_le deadline clock
 
 -- a call that would have to wait, and whose deadline isn't above the clock, is refused (EAGAIN of semop(2))
 abbrev pub at_once : {X : Type 0} → Decision X → Decision X
-at_once (decisions.Refuse rule) = decisions.Refuse rule
-at_once decisions.Wait = decisions.Refuse TimedOut
-at_once (decisions.Grant answer new) = decisions.Grant answer new
+at_once (decisions.Refused rule) = decisions.Refused rule
+at_once decisions.Waits = decisions.Refused TimedOut
+at_once (decisions.Granted answer new) = decisions.Granted answer new
 
 abbrev pub unless_late : {X : Type 0} → Bool → Decision X → Decision X
 unless_late true d = at_once d

@@ -20,7 +20,7 @@ ids_of_kind s kinds.Segment = ids_of s.shared.segments
 
 -- the row of an object, to those who may read it
 abbrev pub row_to : Credentials → ℕ → Perm × Status → Option Row
-row_to c id told = if is_none (denial c (Permission told.0 to_read)) then Some (row_of id told.1) else None
+row_to c id status = if is_none (denial c (Permission status.0 to_read)) then Some (row_of id status.1) else None
 
 abbrev pub row_at : State → Credentials → Kind → ℕ → Option Row
 row_at s c kind id = option_and_then (row_to c id) (status_of s kind id)
@@ -38,7 +38,7 @@ values_in s kinds.Sems id = values_at s.sems id
 values_in s kind id = []
 
 abbrev pub line_at : State → Kind → ℕ → Option (Row × List ℕ)
-line_at s kind id = option_map (λ told. (row_of id told.1, values_in s kind id)) (status_of s kind id)
+line_at s kind id = option_map (λ status. (row_of id status.1, values_in s kind id)) (status_of s kind id)
 
 -- each object of a kind, whoever may read it, with the values of a set
 unfoldable pub lines_of_kind : State → Kind → List (Row × List ℕ)

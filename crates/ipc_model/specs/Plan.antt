@@ -67,21 +67,21 @@ awaited (Some x) flags rule plain rest = rest x
 
 abbrev pub unless : {X : Type 0} → Option Rule → Decision X → Decision X
 unless None rest = rest
-unless (Some rule) rest = decisions.Refuse rule
+unless (Some rule) rest = decisions.Refused rule
 
 abbrev pub or_wait : {X : Type 0} → ℕ → Rule → Decision X
-or_wait flags rule = if has_flag flags ipc_nowait then decisions.Refuse rule else decisions.Wait
+or_wait flags rule = if has_flag flags ipc_nowait then decisions.Refused rule else decisions.Waits
 
 abbrev pub by_check : {X : Type 0} → Credentials → Check → Decision X → Decision X
-by_check c (Passes passes rule plain) rest = if passes then rest else decisions.Refuse rule
+by_check c (Passes passes rule plain) rest = if passes then rest else decisions.Refused rule
 by_check c (Needs need) rest = unless (denial c need) rest
 by_check c (Proceeds proceeds flags rule plain) rest = if proceeds then rest else or_wait flags rule
 
 -- what these credentials get by the plan
 abbrev pub decision : {X : Type 0} → Credentials → Plan X → Decision X
 decision c (check ⨾ rest) = by_check c check (decision c rest)
-decision c (Refuse rule plain) = decisions.Refuse rule
-decision c (Grant answer new) = decisions.Grant answer new
+decision c (Refuse rule plain) = decisions.Refused rule
+decision c (Grant answer new) = decisions.Granted answer new
 
 -- what these checks alone give: all pass, or a rule refuses, or the call waits
 abbrev pub passed : Credentials → List Check → Option (Result ⊤ Rule)

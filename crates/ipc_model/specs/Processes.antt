@@ -5,14 +5,14 @@ use Rattle.ipc_call.specs.declared.rules.Rule.TheVariants.{NoProcess, TooManyGro
 use Rattle.ipc_call.specs.declared.replies.Answer.TheVariants.{Done}
 use Rattle.ipc_creds.specs.Credentials.{Credentials, became, groups_max}
 use Rattle.ipc_perm.specs.Access.{BecomeGroup, BecomeUser, SameUser, SetGroups}
-use Rattle.ipc_model.specs.State.{Caller, State, has_ended}
+use Rattle.ipc_model.specs.State.{Caller, State, has_exited}
 use Rattle.ipc_model.specs.Semaphores.{after_exit}
 use Rattle.ipc_model.specs.Segments.{after_detaches}
 use Rattle.ipc_model.specs.Plan.{Needs, Passes, Plan, Grant, found, in_order, ◌⨾◌}
 
 -- the credentials of the client of a process, which is its number plus 1; one that ended has none
 abbrev pub process : State → ℕ → Option Credentials
-process s pid = if pid == 0 then None else (if has_ended s (pid - 1) then None else slice_get s.clients (pid - 1))
+process s pid = if pid == 0 then None else (if has_exited s (pid - 1) then None else slice_get s.clients (pid - 1))
 
 -- a waiting call of the target is cancelled after the grant
 abbrev pub interrupt : State → ℕ → Plan State
@@ -21,7 +21,7 @@ interrupt s pid = found (process s pid) NoProcess _ (λ target. Needs (SameUser 
 -- what exit undoes is undone, all attachments of the client go, and it has ended
 abbrev pub exit : State → Caller → Plan State
 exit s who = Grant Done (record s {
-  ended = s.ended ++ who.client ∷ [];
+  exited = s.exited ++ who.client ∷ [];
   sems = after_exit s.sems who;
   shared = after_detaches s.shared who;
 })

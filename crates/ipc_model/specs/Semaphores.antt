@@ -166,11 +166,11 @@ undone_set adj pid now set = record {
 }
 
 -- a set after the exit of the caller
-abbrev pub exited : Sems → Caller → ℕ → Object SemSet → Object SemSet
-exited sems who id set =
+abbrev pub set_after_exit : Sems → Caller → ℕ → Object SemSet → Object SemSet
+set_after_exit sems who id set =
     record set { contents = undone_set (adj_of sems.undo who.client id) (pid_of who.client) who.now set.contents }
 
 -- each set, and the caller's entries go
 abbrev pub after_exit : Sems → Caller → Sems
 after_exit sems who =
-    record { sets = map_entries (exited sems who) sems.sets; undo = without_client sems.undo who.client }
+    record { sets = map_entries (set_after_exit sems who) sems.sets; undo = without_client sems.undo who.client }

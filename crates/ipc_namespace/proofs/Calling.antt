@@ -14,8 +14,8 @@ use Rattle.ipc_call.specs.declared.rules.Rule.TheVariants as rules
 use Rattle.ipc_creds.specs.Credentials.{Credentials}
 use Rattle.ipc_objects.specs.declared.object.Object.{Object}
 use Rattle.msg_queue.specs.declared.messages.Message.{Message}
-use Rattle.ipc_model.specs.State.{Caller, Queue, Queues, SemSet, Sems, Shared, State, caller, creds_at, has_ended}
-use Rattle.ipc_model.specs.Decision.{Decision, Grant, Outcome, Refuse, Wait, left_by, outcome_of, proceeds}
+use Rattle.ipc_model.specs.State.{Caller, Queue, Queues, SemSet, Sems, Shared, State, caller, creds_at, has_exited}
+use Rattle.ipc_model.specs.Decision.{Decision, Granted, Outcome, Refused, Waits, left_by, outcome_of, proceeds}
 use Rattle.ipc_model.specs.Plan.{Plan, decision, on_part, unless}
 use Rattle.ipc_perm.specs.Access.{Permission, denial}
 use Rattle.sem_set.specs.Trials.{are_in}
@@ -27,8 +27,8 @@ use Rattle.ipc_model.specs.Decide.{OnSems, PartPlan, decide_alive as decide, par
 use Rattle.ipc_model.specs.Step.{end_waiting, ended_by, without}
 use Rattle.ipc_model.proofs.Plans.{Ends-decision, Ends-found, IfGranted, left-on, outcome-on}
 use Rattle.ipc_model.proofs.Alike.{proceeds-on}
-use Rattle.queue_calls.specs.Calls.{sending}
-use Rattle.queue_calls.proofs.Holding.{IfOk-map}
+use Rattle.msg_calls.specs.Calls.{sending}
+use Rattle.msg_calls.proofs.Holding.{IfOk-map}
 use Rattle.ipc_model.specs.Decision.{without_answer}
 use Rattle.ipc_namespace.specs.Namespace.{MayReserve, is_send_to}
 
@@ -110,9 +110,9 @@ answered (Some (Ok answer)) = Some (Ok tt)
 answered (Some (Err rule)) = Some (Err rule)
 
 answered-as : {X : Type 0} (d : Decision X) → without_answer d ≡ answered (outcome_of d)
-answered-as (Refuse rule) = refl
-answered-as Wait = refl
-answered-as (Grant answer new) = refl
+answered-as (Refused rule) = refl
+answered-as Waits = refl
+answered-as (Granted answer new) = refl
 
 module _ (v s : State) (client : ℕ) (who : Caller) (is : v ≡ s) (called : who ≡ caller v client) where
   pub get-outcome : (key flags : ℕ) → outcome_of (decision who.creds (get_queue v.limits v.queues who (record { key = key; flags = flags }))) ≡ outcome_of (decide s client (MsgGet key flags))
@@ -163,30 +163,30 @@ module _ (v s : State) (client : ℕ) (who : Caller) (is : v ≡ s) (called : wh
 
 -- a call that waits changes nothing
 pub left-waits : {X : Type 0} (x : X) (d : Decision X) → outcome_of d ≡ None → left_by x d ≡ x
-left-waits x (Refuse rule) is = refl
-left-waits x Wait is = refl
-left-waits x (Grant answer new) is = absurd (none-some (Ok answer) (sym is))
+left-waits x (Refused rule) is = refl
+left-waits x Waits is = refl
+left-waits x (Granted answer new) is = absurd (none-some (Ok answer) (sym is))
 
 pub left-refused : {X : Type 0} (x : X) (d : Decision X) (rule : Rule) → outcome_of d ≡ Some (Err rule) → left_by x d ≡ x
-left-refused x (Refuse other) rule is = refl
-left-refused x Wait rule is = refl
-left-refused x (Grant answer new) rule is = cc
+left-refused x (Refused other) rule is = refl
+left-refused x Waits rule is = refl
+left-refused x (Granted answer new) rule is = cc
 
 pub answered-some : {X : Type 0} (d : Decision X) → is_some (without_answer d) ≡ proceeds d
-answered-some (Refuse rule) = refl
-answered-some Wait = refl
-answered-some (Grant answer new) = refl
+answered-some (Refused rule) = refl
+answered-some Waits = refl
+answered-some (Granted answer new) = refl
 
 pub outcome-some : {X : Type 0} (d : Decision X) → is_some (outcome_of d) ≡ proceeds d
-outcome-some (Refuse rule) = refl
-outcome-some Wait = refl
-outcome-some (Grant answer new) = refl
+outcome-some (Refused rule) = refl
+outcome-some Waits = refl
+outcome-some (Granted answer new) = refl
 
 -- what a msgsnd that is granted answers
 done-granted : (d : Decision Queues) → IfGranted (λ answer new. answer ≡ Done) d → without_answer d ≡ Some (Ok tt) → outcome_of d ≡ Some (Ok Done)
-done-granted (Refuse rule) done is = cc
-done-granted Wait done is = cc
-done-granted (Grant answer new) done is = ap (λ a. Some (Ok a)) done
+done-granted (Refused rule) done is = cc
+done-granted Waits done is = cc
+done-granted (Granted answer new) done is = ap (λ a. Some (Ok a)) done
 
 pub sent-done : (limits : Limits) (queues : Queues) (who : Caller) (id flags : ℕ) (message : Message) → without_answer (sending limits queues who id flags message) ≡ Some (Ok tt)
     → outcome_of (sending limits queues who id flags message) ≡ Some (Ok Done)
@@ -195,58 +195,58 @@ sent-done limits queues who id flags message =
     (Ends-decision who.creds (λ answer new. answer ≡ Done) (send_message limits queues who id (record { message = message; flags = flags })) (Ends-found (λ answer new. answer ≡ Done) (queue_at queues id) BadId tt _ (λ queue is. refl)))
 
 pub answered-none : {X : Type 0} (d : Decision X) → without_answer d ≡ None → outcome_of d ≡ None
-answered-none (Refuse rule) is = cc
-answered-none Wait is = refl
-answered-none (Grant answer new) is = cc
+answered-none (Refused rule) is = cc
+answered-none Waits is = refl
+answered-none (Granted answer new) is = cc
 
 pub answered-refused : {X : Type 0} (d : Decision X) (rule : Rule) → without_answer d ≡ Some (Err rule) → (outcome_of d ≡ Some (Err rule)) × ((x : X) → left_by x d ≡ x)
-answered-refused (Refuse other) rule is = (cc, λ x. refl)
-answered-refused Wait rule is = cc
-answered-refused (Grant answer new) rule is = cc
+answered-refused (Refused other) rule is = (cc, λ x. refl)
+answered-refused Waits rule is = cc
+answered-refused (Granted answer new) rule is = cc
 
 ended-as : (s : State) (client : ℕ) (d : Decision State) (outcome : Outcome) → outcome_of d ≡ Some outcome
     → ended_by s client d ≡ record { state = left_by s d; ended = record { client = client; outcome = outcome } ∷ [] }
-ended-as s client (Refuse rule) outcome is = let same : Err rule ≡ outcome = cc in ap (λ o. record { state = s; ended = record { client = client; outcome = o } ∷ [] }) same
-ended-as s client Wait outcome is = absurd (none-some outcome is)
-ended-as s client (Grant answer new) outcome is = let same : Ok answer ≡ outcome = cc in ap (λ o. record { state = new; ended = record { client = client; outcome = o } ∷ [] }) same
+ended-as s client (Refused rule) outcome is = let same : Err rule ≡ outcome = cc in ap (λ o. record { state = s; ended = record { client = client; outcome = o } ∷ [] }) same
+ended-as s client Waits outcome is = absurd (none-some outcome is)
+ended-as s client (Granted answer new) outcome is = let same : Ok answer ≡ outcome = cc in ap (λ o. record { state = new; ended = record { client = client; outcome = o } ∷ [] }) same
 
 -- of a client that hasn't ended
-pub alive-decides : (s : State) (client : ℕ) (call : Call) → has_ended s client ≡ false → decisions.decide s client call ≡ decide s client call
-alive-decides s client call alive = ap (λ b. if not b then decide s client call else Refuse rules.Ended) alive
+pub alive-decides : (s : State) (client : ℕ) (call : Call) → has_exited s client ≡ false → decisions.decide s client call ≡ decide s client call
+alive-decides s client call alive = ap (λ b. if not b then decide s client call else Refused rules.Ended) alive
 
 -- a waiting call that ends
-pub ends-so : (s new : State) (client : ℕ) (call : Call) (until : Option ℕ) (outcome : Outcome) → has_ended s client ≡ false → outcome_of (decide (without s client) client call) ≡ Some outcome
+pub ends-so : (s new : State) (client : ℕ) (call : Call) (until : Option ℕ) (outcome : Outcome) → has_exited s client ≡ false → outcome_of (decide (without s client) client call) ≡ Some outcome
     → new ≡ left_by (without s client) (decide (without s client) client call)
     → end_waiting s (record { client = client; call = call; deadline = until }) ≡ record { state = new; ended = record { client = client; outcome = outcome } ∷ [] }
 ends-so s new client call until outcome alive told left =
     ap (λ d. ended_by (without s client) client d) (alive-decides (without s client) client call alive)
     ∙ ended-as (without s client) client (decide (without s client) client call) outcome told ∙ (λ i. record { state = sym left i; ended = record { client = client; outcome = outcome } ∷ [] })
 
-no-queue : (a b : Bool) → outcome_of {X = Queues} (if a then (if b then Refuse BadId else Refuse TextTooLong) else Refuse BadType) ≡ None → ⊥
+no-queue : (a b : Bool) → outcome_of {X = Queues} (if a then (if b then Refused BadId else Refused TextTooLong) else Refused BadType) ≡ None → ⊥
 no-queue true true is = cc
 no-queue true false is = cc
 no-queue false b is = cc
 
 there-where : (a b : Bool) (c : Credentials) (queues : Queues) (who : Caller) (id : ℕ) (asked : Send) (queue : Option (Object Queue))
-    → outcome_of (if a then (if b then decision c (send_found queues who id asked queue) else Refuse TextTooLong) else Refuse BadType) ≡ None → IsSome queue
+    → outcome_of (if a then (if b then decision c (send_found queues who id asked queue) else Refused TextTooLong) else Refused BadType) ≡ None → IsSome queue
 there-where a b c queues who id asked None is = absurd (no-queue a b is)
 there-where a b c queues who id asked (Some queue) is = refl
 
 -- a semop that waits has its set, with the semaphores that it names
-no-set : (a b : Bool) → outcome_of {X = Sems} (if a then (if b then Refuse BadId else Refuse TooManyOperations) else Refuse NoOperations) ≡ None → ⊥
+no-set : (a b : Bool) → outcome_of {X = Sems} (if a then (if b then Refused BadId else Refused TooManyOperations) else Refused NoOperations) ≡ None → ⊥
 no-set true true is = cc
 no-set true false is = cc
 no-set false b is = cc
 
 module _ (c : Credentials) (sems : Sems) (who : Caller) (id : ℕ) (ops : List SemOper) where
   abbrev tests : Bool → Bool → Option (Object SemSet) → Decision Sems
-  tests a b set = if a then (if b then decision c (operate_found sems who id ops set) else Refuse TooManyOperations) else Refuse NoOperations
+  tests a b set = if a then (if b then decision c (operate_found sems who id ops set) else Refused TooManyOperations) else Refused NoOperations
 
   set-there : (a b : Bool) (set : Option (Object SemSet)) → outcome_of (tests a b set) ≡ None → IsSome set
   set-there a b None is = absurd (no-set a b is)
   set-there a b (Some set) is = refl
 
-  denied-or : (o : Option Rule) (inside : Bool) (d : Decision Sems) → outcome_of (unless o (if inside then d else Refuse SemOutOfSet)) ≡ None → inside ≡ true
+  denied-or : (o : Option Rule) (inside : Bool) (d : Decision Sems) → outcome_of (unless o (if inside then d else Refused SemOutOfSet)) ≡ None → inside ≡ true
   denied-or (Some rule) inside d is = cc
   denied-or None true d is = refl
   denied-or None false d is = cc

@@ -6,14 +6,14 @@ use Rattle.std.proofs.lemmas.Bool.{cases_Bool, false≢true, true≢false}
 use Rattle.ipc_call.specs.declared.calls.Call.{Call}
 use Rattle.ipc_call.specs.declared.calls.Kind.{Kind}
 use Rattle.ipc_call.specs.declared.replies.Waiting.{Waiting}
-use Rattle.ipc_call.specs.declared.replies.Ended.{Ended}
+use Rattle.ipc_call.specs.declared.replies.Completion.{Completion}
 use Rattle.ipc_call.specs.declared.rules.Rule.{Rule}
 use Rattle.ipc_model.specs.State.{State, creds_at, is_waiting, waiting_of}
 use Rattle.ipc_model.specs.Decide.{can_wait, needs, plan, waits_at}
 use Rattle.ipc_model.proofs.Alike.{needs-alike}
 use Rattle.ipc_model.proofs.Calls.{plan-alike}
 use Rattle.ipc_model.specs.Cancelled.{first_denial, is_same, waits_on}
-use Rattle.ipc_model.specs.Step.{told_cancelled, without}
+use Rattle.ipc_model.specs.Step.{ended_by_rule, without}
 use Rattle.ipc_namespace.specs.declared.cancelling.Cancelling.{Cancelling}
 use Rattle.ipc_namespace.specs.declared.cancelling.Cancelling.TheVariants as cancellings
 use Rattle.ipc_namespace.specs.Namespace.{ended_as, cancelled_as, kept_by}
@@ -32,7 +32,7 @@ module _ (rule : Waiting → Option Rule) where
 
   ended-append : (vs ws : List Waiting) → ended_as rule (vs ++ ws) ≡ ended_as rule vs ++ ended_as rule ws
   ended-append [] ws = refl
-  ended-append (v ∷ vs) ws = ap (λ es. told_cancelled v.client (rule v) ++ es) (ended-append vs ws) ∙ sym (append_assoc (told_cancelled v.client (rule v)) (ended_as rule vs) (ended_as rule ws))
+  ended-append (v ∷ vs) ws = ap (λ es. ended_by_rule v.client (rule v) ++ es) (ended-append vs ws) ∙ sym (append_assoc (ended_by_rule v.client (rule v)) (ended_as rule vs) (ended_as rule ws))
 
   pub left-none : (ws : List Waiting) → AllByRecursion (λ w. rule w ≡ None) ws → kept_by rule ws ≡ ws
   left-none [] none = refl
@@ -40,7 +40,7 @@ module _ (rule : Waiting → Option Rule) where
 
   pub ended-none : (ws : List Waiting) → AllByRecursion (λ w. rule w ≡ None) ws → ended_as rule ws ≡ []
   ended-none [] none = refl
-  ended-none (v ∷ ws) none = ap (λ o. told_cancelled v.client o ++ ended_as rule ws) none.0 ∙ ended-none ws none.1
+  ended-none (v ∷ ws) none = ap (λ o. ended_by_rule v.client o ++ ended_as rule ws) none.0 ∙ ended-none ws none.1
 
   none_from : (o : Option Rule) → is_some o ≡ false → o ≡ None
   none_from None is = refl
@@ -60,7 +60,7 @@ module _ (rule : Waiting → Option Rule) where
     pub ended-first : ended_as rule ws ≡ record { client = w.client; outcome = Err r } ∷ ended_as rule (others w.client ws)
     ended-first =
         let before = ended-none at.before (none_fails at.before at.fails) in
-        ap (ended_as rule) at.is ∙ ended-append at.before (w ∷ at.after) ∙ ap (λ es. es ++ ended_as rule (w ∷ at.after)) before ∙ ap (λ o. told_cancelled w.client o ++ ended_as rule at.after) is
+        ap (ended_as rule) at.is ∙ ended-append at.before (w ∷ at.after) ∙ ap (λ es. es ++ ended_as rule (w ∷ at.after)) before ∙ ap (λ o. ended_by_rule w.client o ++ ended_as rule at.after) is
         ∙ ap (λ es. record { client = w.client; outcome = Err r } ∷ es) (sym (ap (ended_as rule) at.left ∙ ended-append at.before at.after ∙ ap (λ es. es ++ ended_as rule at.after) before))
 
 -- a call that waits at an object may wait
@@ -96,15 +96,15 @@ without-until s (cancellings.Interrupted pid) w = refl
 
 -- one turn of those that end by a rule: the first leaves, and what is left to end is the rest
 module _ (initial s : State) (f0 : Waiting → Option Rule) (rest : s ≡ record initial { parked = s.parked }) where
-  pub leave-turn : (new : State) (client : ℕ) (rule : Rule) (e : Ended) (w : Waiting) → AreApart s.parked → waiting_of s client ≡ Some w → w.client ≡ client
+  pub leave-turn : (new : State) (client : ℕ) (rule : Rule) (e : Completion) (w : Waiting) → AreApart s.parked → waiting_of s client ≡ Some w → w.client ≡ client
       → f0 w ≡ Some rule → At (λ v. is_some (f0 v)) s.parked w → new ≡ without s client → e ≡ record { client = client; outcome = Err rule }
       → (new ≡ record initial { parked = new.parked }) × (kept_by f0 s.parked ≡ kept_by f0 new.parked) × (ended_as f0 s.parked ≡ e ∷ ended_as f0 new.parked) × (length new.parked + 1 ≡ length s.parked)
   leave-turn new client rule e w apart own same ends at left told =
       let parked : new.parked ≡ others w.client s.parked = ap (λ (t : State). t.parked) left ∙ ap (λ k. others k s.parked) (sym same) in (
         left ∙ ap (λ (t : State). record t { parked = others client s.parked }) rest ∙ ap (λ ws. record initial { parked = ws }) (sym (ap (λ (t : State). t.parked) left)),
         left-first f0 s.parked w rule ends at ∙ ap (kept_by f0) (sym parked),
-        ended-first f0 s.parked w rule ends at ∙ ap (λ (x : Ended). x ∷ ended_as f0 (others w.client s.parked)) (λ i. record { client = same i; outcome = Err rule })
-            ∙ ap (λ (x : Ended). x ∷ ended_as f0 (others w.client s.parked)) (sym told) ∙ ap (λ ws. e ∷ ended_as f0 ws) (sym parked),
+        ended-first f0 s.parked w rule ends at ∙ ap (λ (x : Completion). x ∷ ended_as f0 (others w.client s.parked)) (λ i. record { client = same i; outcome = Err rule })
+            ∙ ap (λ (x : Completion). x ∷ ended_as f0 (others w.client s.parked)) (sym told) ∙ ap (λ ws. e ∷ ended_as f0 ws) (sym parked),
         ap (λ (t : State). length t.parked + 1) left ∙ length-others s.parked client w apart own same,
       )
 
@@ -116,7 +116,7 @@ module _ (initial s : State) (cancelling : Cancelling) (rest : s ≡ record init
   rule-same : cancelled_as s cancelling ≡ f0
   rule-same = ap (λ (t : State). cancelled_as t cancelling) rest ∙ same_rule initial s.parked cancelling
 
-  pub cancel-turn : (new : State) (client : ℕ) (rule : Rule) (e : Ended) → AreApart s.parked → is_waiting s client ≡ true
+  pub cancel-turn : (new : State) (client : ℕ) (rule : Rule) (e : Completion) → AreApart s.parked → is_waiting s client ≡ true
       → find (λ w. is_some (cancelled_as s cancelling w)) s.parked ≡ waiting_of s client → IfSome (waiting_of s client) (λ w. cancelled_as s cancelling w ≡ Some rule)
       → new ≡ without s client → e ≡ record { client = client; outcome = Err rule }
       → (new ≡ record initial { parked = new.parked }) × (kept_by f0 s.parked ≡ kept_by f0 new.parked) × (ended_as f0 s.parked ≡ e ∷ ended_as f0 new.parked) × (length new.parked + 1 ≡ length s.parked)
@@ -128,8 +128,8 @@ module _ (initial s : State) (cancelling : Cancelling) (rest : s ≡ record init
       let parked : new.parked ≡ others w.client s.parked = ap (λ (t : State). t.parked) left ∙ ap (λ k. others k s.parked) (sym there.2) in (
         left ∙ ap (λ (t : State). record t { parked = others client s.parked }) rest ∙ ap (λ ws. record initial { parked = ws }) (sym (ap (λ (t : State). t.parked) left)),
         left-first f0 s.parked w rule ends at ∙ ap (kept_by f0) (sym parked),
-        ended-first f0 s.parked w rule ends at ∙ ap (λ (x : Ended). x ∷ ended_as f0 (others w.client s.parked)) (λ i. record { client = there.2 i; outcome = Err rule })
-            ∙ ap (λ (x : Ended). x ∷ ended_as f0 (others w.client s.parked)) (sym told) ∙ ap (λ ws. e ∷ ended_as f0 ws) (sym parked),
+        ended-first f0 s.parked w rule ends at ∙ ap (λ (x : Completion). x ∷ ended_as f0 (others w.client s.parked)) (λ i. record { client = there.2 i; outcome = Err rule })
+            ∙ ap (λ (x : Completion). x ∷ ended_as f0 (others w.client s.parked)) (sym told) ∙ ap (λ ws. e ∷ ended_as f0 ws) (sym parked),
         ap (λ (t : State). length t.parked + 1) left ∙ length-others s.parked client w apart there.1 there.2,
       )
 

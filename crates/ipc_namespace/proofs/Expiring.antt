@@ -10,7 +10,7 @@ use Rattle.ipc_call.specs.declared.calls.Call.{Call}
 use Rattle.ipc_call.specs.declared.calls.Call.TheVariants.{IpcStat, IpcSet, IpcRmid, Interrupt, GetNcnt, GetZcnt, SetCreds, Exit, Listing}
 use Rattle.ipc_call.specs.declared.calls.Kind.TheVariants as kinds
 use Rattle.ipc_call.specs.declared.replies.Waiting.{Waiting}
-use Rattle.ipc_call.specs.declared.replies.Ended.{Ended}
+use Rattle.ipc_call.specs.declared.replies.Completion.{Completion}
 use Rattle.ipc_call.specs.declared.rules.Rule.{Rule}
 use Rattle.ipc_call.specs.declared.rules.Rule.TheVariants.{BadId, TimedOut}
 use Rattle.ipc_model.specs.State.{State, caller, creds_at}
@@ -18,10 +18,10 @@ use Rattle.ipc_model.specs.Plan.{IsPlain, Plan, decision, found, on_part, ◌⨾
 use Rattle.ipc_model.specs.Plan as plans
 use Rattle.ipc_model.specs.Controls.{status_of}
 use Rattle.ipc_model.specs.Listings.{rows_to}
-use Rattle.ipc_model.specs.Decision.{Decision, Refuse, Wait, Grant, outcome_of}
+use Rattle.ipc_model.specs.Decision.{Decision, Refused, Waits, Granted, outcome_of}
 use Rattle.ipc_model.specs.Decide.{OnQueues, OnSems, OnShared, OnState, PartPlan, decide_alive, is_late, is_reached, part_plan, plan_alive, unless_late, whole}
 use Rattle.ipc_model.specs.Cancelled.{cancelled}
-use Rattle.ipc_model.specs.Step.{Moved, expire, expired, moved_as, state_by, told_cancelled, waiting_as, without}
+use Rattle.ipc_model.specs.Step.{Moved, expire, expired, moved_as, state_by, ended_by_rule, waiting_as, without}
 use Rattle.ipc_model.proofs.Beside.{is_on_part}
 use Rattle.ipc_model.proofs.Growing.{Keeps}
 use Rattle.ipc_model.proofs.Plans.{IfGranted, decision-on, on_whole}
@@ -53,11 +53,11 @@ module _ (initial s : State) (rest : s ≡ record initial { parked = s.parked })
   same-test : due ≡ (λ w. is_some (expired initial w))
   same-test = λ i w. (ap (λ n. is_reached n w.deadline) same-clock ∙ sym (is-due initial.clock w.deadline)) i
 
-  abbrev Turn : State → Ended → Type 0
+  abbrev Turn : State → Completion → Type 0
   Turn new e = (new ≡ record initial { parked = new.parked }) × (kept_by (expired initial) s.parked ≡ kept_by (expired initial) new.parked)
       × (ended_as (expired initial) s.parked ≡ e ∷ ended_as (expired initial) new.parked) × (length new.parked + 1 ≡ length s.parked)
 
-  pub expire-turn : (new : State) (client : ℕ) (e : Ended) → AreApart s.parked → Some client ≡ option_map (λ w. w.client) (find due s.parked)
+  pub expire-turn : (new : State) (client : ℕ) (e : Completion) → AreApart s.parked → Some client ≡ option_map (λ w. w.client) (find due s.parked)
       → new ≡ without s client → e ≡ record { client = client; outcome = Err TimedOut } → Turn new e
   expire-turn new client e apart first left told = by (find due s.parked) refl first
     where
@@ -121,9 +121,9 @@ module _ (s : State) (ws : List Waiting) where
   alone-alive client call alone = alone-part (part_plan s (caller s client) call) refl
 
   late-whole : (late : Bool) (d : Decision State) → unless_late late (on_whole (with_list ws) d) ≡ on_whole (with_list ws) (unless_late late d)
-  late-whole true (Refuse rule) = refl
-  late-whole true Wait = refl
-  late-whole true (Grant answer new) = refl
+  late-whole true (Refused rule) = refl
+  late-whole true Waits = refl
+  late-whole true (Granted answer new) = refl
   late-whole false d = refl
 
   pub alone-made : (client : ℕ) (call : Call) → is_on_waiting call ≡ false → decide_made (with_list ws s) client call ≡ on_whole (with_list ws) (decide_made s client call)
@@ -141,7 +141,7 @@ alone-cancels call alone new w = refl
 
 ended-append : (rule : Waiting → Option Rule) (vs ws : List Waiting) → ended_as rule (vs ++ ws) ≡ ended_as rule vs ++ ended_as rule ws
 ended-append rule [] ws = refl
-ended-append rule (v ∷ vs) ws = ap (λ es. told_cancelled v.client (rule v) ++ es) (ended-append rule vs ws) ∙ sym (append_assoc (told_cancelled v.client (rule v)) (ended_as rule vs) (ended_as rule ws))
+ended-append rule (v ∷ vs) ws = ap (λ es. ended_by_rule v.client (rule v) ++ es) (ended-append rule vs ws) ∙ sym (append_assoc (ended_by_rule v.client (rule v)) (ended_as rule vs) (ended_as rule ws))
 
 -- so those whose deadline is reached may end after it
 module _ (s : State) (client : ℕ) (call : Call) (none : (new : State) (w : Waiting) → cancelled new call w ≡ None) where
@@ -153,16 +153,16 @@ module _ (s : State) (client : ℕ) (call : Call) (none : (new : State) (w : Wai
       ((expire (state_by s client call d)).state ≡ (moved_as (expire s).state client call (on_whole (with_list kept) d)).state)
       × ((expire (state_by s client call d)).ended ≡ (expire s).ended ++ (moved_as (expire s).state client call (on_whole (with_list kept) d)).ended)
 
-  pub expired-later : (d : Decision State) → Keeps s d → IfGranted (λ answer new. new.clock ≡ s.clock) d → (d ≡ Wait → is_late s call ≡ false) → Later d
-  expired-later (Refuse rule) keeps clock early = (refl, sym (append-nil (expire s).ended))
-  expired-later Wait keeps clock early =
+  pub expired-later : (d : Decision State) → Keeps s d → IfGranted (λ answer new. new.clock ≡ s.clock) d → (d ≡ Waits → is_late s call ≡ false) → Later d
+  expired-later (Refused rule) keeps clock early = (refl, sym (append-nil (expire s).ended))
+  expired-later Waits keeps clock early =
       let w = waiting_as s client call in
       let stays : Waiting → Bool = λ v. is_none (expired s v) in
       let not_due : expired s w ≡ None = ap (λ b. cond b (Some TimedOut) None) (early refl) in (
         ap (λ ws. with_list ws s) (filter-append stays s.parked (w ∷ []) ∙ ap (λ o. kept ++ cond (is_none o) (w ∷ []) []) not_due),
-        ended-append (expired s) s.parked (w ∷ []) ∙ ap (λ o. (expire s).ended ++ (told_cancelled w.client o ++ [])) not_due,
+        ended-append (expired s) s.parked (w ∷ []) ∙ ap (λ o. (expire s).ended ++ (ended_by_rule w.client o ++ [])) not_due,
       )
-  expired-later (Grant answer new) keeps clock early =
+  expired-later (Granted answer new) keeps clock early =
       let same : kept_by (expired new) new.parked ≡ kept = (λ i. kept_by (λ w. cond (is_reached (clock i) w.deadline) (Some TimedOut) None) (keeps.0 i)) in
       let told : ended_as (expired new) new.parked ≡ (expire s).ended = (λ i. ended_as (λ w. cond (is_reached (clock i) w.deadline) (Some TimedOut) None) (keeps.0 i)) in
       let moves = uncancelled (with_list kept new) call (none (with_list kept new)) in (
@@ -170,7 +170,7 @@ module _ (s : State) (client : ℕ) (call : Call) (none : (new : State) (w : Wai
         told ∙ sym (append-nil (expire s).ended) ∙ ap (λ es. (expire s).ended ++ es) (sym (ap (λ (m : Moved). m.ended) moves)),
       )
 
-told-few : (client : ℕ) (o : Option Rule) → length (told_cancelled client o) ≤ 1
+told-few : (client : ℕ) (o : Option Rule) → length (ended_by_rule client o) ≤ 1
 told-few client None = omega arith
 told-few client (Some rule) = omega arith
 
@@ -178,22 +178,22 @@ told-few client (Some rule) = omega arith
 pub ended-few : (rule : Waiting → Option Rule) (ws : List Waiting) → length (ended_as rule ws) ≤ length ws
 ended-few rule [] = omega arith
 ended-few rule (w ∷ ws) =
-    let sum = length-append (told_cancelled w.client (rule w)) (ended_as rule ws) in
+    let sum = length-append (ended_by_rule w.client (rule w)) (ended_as rule ws) in
     omega (arith, sum, told-few w.client (rule w), ended-few rule ws)
 
 -- a call that cancels none ends none, and leaves the list as long as it was, or one longer where it waits
 module _ (s : State) (client : ℕ) (call : Call) where
   pub moved-none : (d : Decision State) → ((new : State) (w : Waiting) → cancelled new call w ≡ None) → (moved_as s client call d).ended ≡ []
-  moved-none (Refuse rule) none = refl
-  moved-none Wait none = refl
-  moved-none (Grant answer new) none = ap (λ (m : Moved). m.ended) (uncancelled new call (none new))
+  moved-none (Refused rule) none = refl
+  moved-none Waits none = refl
+  moved-none (Granted answer new) none = ap (λ (m : Moved). m.ended) (uncancelled new call (none new))
 
   pub one-longer : (d : Decision State) → Keeps s d → length (state_by s client call d).parked ≤ length s.parked + 1
-  one-longer (Refuse rule) keeps = omega arith
-  one-longer Wait keeps = let sum = length-append s.parked (waiting_as s client call ∷ []) in omega (arith, sum)
-  one-longer (Grant answer new) keeps = let same = ap length keeps.0 in omega (arith, same)
+  one-longer (Refused rule) keeps = omega arith
+  one-longer Waits keeps = let sum = length-append s.parked (waiting_as s client call ∷ []) in omega (arith, sum)
+  one-longer (Granted answer new) keeps = let same = ap length keeps.0 in omega (arith, same)
 
   pub as-long : (d : Decision State) (Q : Type 0) → Keeps s d → (length (state_by s client call d).parked ≡ length s.parked → Q) → IfSome (outcome_of d) (λ _. Q)
-  as-long (Refuse rule) Q keeps so = so refl
-  as-long Wait Q keeps so = tt
-  as-long (Grant answer new) Q keeps so = so (ap length keeps.0)
+  as-long (Refused rule) Q keeps so = so refl
+  as-long Waits Q keeps so = tt
+  as-long (Granted answer new) Q keeps so = so (ap length keeps.0)

@@ -11,54 +11,54 @@ use Rattle.ipc_call.specs.declared.calls.SemOper.{SemOper}
 use Rattle.ipc_call.specs.declared.replies.Waiting.{Waiting}
 use Rattle.ipc_call.specs.declared.rules.Rule.TheVariants.{Removed}
 use Rattle.ipc_model.specs.Cancelled.{waits_on}
-use Rattle.set_calls.specs.Held.{Held, HasRow, row_at}
+use Rattle.sem_calls.specs.WithRows.{SetsWithRows, HasRow, row_at}
 use Rattle.ipc_namespace.specs.Namespace.{AreHeld, HasRowFor, kept_by}
 use Rattle.ipc_namespace.proofs.Parked.{all-filter, all-found, all-push, turned}
 
 -- what is true of a waiting call
-abbrev pub IsHeld : Held → List ℕ → Waiting → Type 0
+abbrev pub IsHeld : SetsWithRows → List ℕ → Waiting → Type 0
 IsHeld sets ended w = (list_any (λ other. other == w.client) ended ≡ false) × HasRowFor sets w.client w.call
 
-abbrev pub Longer : Held → Held → Type 0
+abbrev pub Longer : SetsWithRows → SetsWithRows → Type 0
 Longer old new = (c s n : ℕ) → n < row_at old c s → n < row_at new c s
 
-row-longer : (old new : Held) (client id : ℕ) → ((n : ℕ) → n < row_at old client id → n < row_at new client id) → (ops : List SemOper) → HasRow old client id ops → HasRow new client id ops
+row-longer : (old new : SetsWithRows) (client id : ℕ) → ((n : ℕ) → n < row_at old client id → n < row_at new client id) → (ops : List SemOper) → HasRow old client id ops → HasRow new client id ops
 row-longer old new client id longer [] has = tt
 row-longer old new client id longer (o ∷ os) has = (λ undoes. longer o.num (has.0 undoes), row-longer old new client id longer os has.1)
 
-row-for-longer : (old new : Held) → Longer old new → (client : ℕ) (call : Call) → HasRowFor old client call → HasRowFor new client call
+row-for-longer : (old new : SetsWithRows) → Longer old new → (client : ℕ) (call : Call) → HasRowFor old client call → HasRowFor new client call
 row-for-longer old new longer client (SemOp id ops) has = row-longer old new client id (longer client id) ops has
 row-for-longer old new longer client call has = tt
 
-pub none_held : (sets : Held) (ended : List ℕ) (ws : List Waiting) → ws ≡ [] → AreHeld sets ended ws
+pub none_held : (sets : SetsWithRows) (ended : List ℕ) (ws : List Waiting) → ws ≡ [] → AreHeld sets ended ws
 unfolding AreHeld
 none_held sets ended [] none = tt
 none_held sets ended (w ∷ ws) none = cc
 
 -- rows only grow
-pub held-longer : (old new : Held) (ended : List ℕ) → Longer old new → (ws : List Waiting) → AreHeld old ended ws → AreHeld new ended ws
+pub held-longer : (old new : SetsWithRows) (ended : List ℕ) → Longer old new → (ws : List Waiting) → AreHeld old ended ws → AreHeld new ended ws
 unfolding AreHeld
 held-longer old new ended longer [] held = tt
 held-longer old new ended longer (w ∷ ws) held = ((held.0.0, row-for-longer old new longer w.client w.call held.0.1), held-longer old new ended longer ws held.1)
 
 -- or stay
-pub held-same : (old new : Held) (ended : List ℕ) → ((c s : ℕ) → row_at new c s ≡ row_at old c s) → (ws : List Waiting) → AreHeld old ended ws → AreHeld new ended ws
+pub held-same : (old new : SetsWithRows) (ended : List ℕ) → ((c s : ℕ) → row_at new c s ≡ row_at old c s) → (ws : List Waiting) → AreHeld old ended ws → AreHeld new ended ws
 held-same old new ended same ws held = held-longer old new ended (λ c s n below. subst (λ k. n < k) (sym (same c s)) below) ws held
 
-pub held-filter : (sets : Held) (ended : List ℕ) (test : Waiting → Bool) (ws : List Waiting) → AreHeld sets ended ws → AreHeld sets ended (filter test ws)
+pub held-filter : (sets : SetsWithRows) (ended : List ℕ) (test : Waiting → Bool) (ws : List Waiting) → AreHeld sets ended ws → AreHeld sets ended (filter test ws)
 unfolding AreHeld
 held-filter sets ended test ws held = all-filter (IsHeld sets ended) test ws held
 
-pub held-push : (sets : Held) (ended : List ℕ) (ws : List Waiting) (w : Waiting) → AreHeld sets ended ws → IsHeld sets ended w → AreHeld sets ended (ws ++ w ∷ [])
+pub held-push : (sets : SetsWithRows) (ended : List ℕ) (ws : List Waiting) (w : Waiting) → AreHeld sets ended ws → IsHeld sets ended w → AreHeld sets ended (ws ++ w ∷ [])
 unfolding AreHeld
 held-push sets ended ws w held is = all-push (IsHeld sets ended) ws w held is
 
-pub held-found : (sets : Held) (ended : List ℕ) (test : Waiting → Bool) (ws : List Waiting) (w : Waiting) → AreHeld sets ended ws → find test ws ≡ Some w → IsHeld sets ended w
+pub held-found : (sets : SetsWithRows) (ended : List ℕ) (test : Waiting → Bool) (ws : List Waiting) (w : Waiting) → AreHeld sets ended ws → find test ws ≡ Some w → IsHeld sets ended w
 unfolding AreHeld
 held-found sets ended test ws w held found = all-found (IsHeld sets ended) test ws w held found
 
 -- the rows at a set may go where no call waits at it
-module _ (old new : Held) (id : ℕ) (same : (c s : ℕ) → (s ≡ id → ⊥) → row_at new c s ≡ row_at old c s) where
+module _ (old new : SetsWithRows) (id : ℕ) (same : (c s : ℕ) → (s ≡ id → ⊥) → row_at new c s ≡ row_at old c s) where
   row-for-elsewhere : (client : ℕ) (call : Call) → waits_on kinds.Sems id call ≡ false → HasRowFor old client call → HasRowFor new client call
   row-for-elsewhere client (SemOp other ops) apart has = row-longer old new client other (λ n below. subst (λ k. n < k) (sym (same client other (eqb-false other id apart))) below) ops has
   row-for-elsewhere client call apart has = tt
@@ -79,7 +79,7 @@ none_there id [] = tt
 none_there id (w ∷ ws) = kept-elsewhere id (waits_on kinds.Sems id w.call) w (kept_by (λ v. if waits_on kinds.Sems id v.call then Some Removed else None) ws) refl (none_there id ws)
 
 -- where a client with no call that waits has ended, and the rows of the others stay
-module _ (old new : Held) (ended : List ℕ) (client : ℕ) (stay : (c s : ℕ) → (c ≡ client → ⊥) → row_at new c s ≡ row_at old c s) where
+module _ (old new : SetsWithRows) (ended : List ℕ) (client : ℕ) (stay : (c s : ℕ) → (c ≡ client → ⊥) → row_at new c s ≡ row_at old c s) where
   row-of-other : (c id : ℕ) → (c ≡ client → ⊥) → (ops : List SemOper) → HasRow old c id ops → HasRow new c id ops
   row-of-other c id other [] has = tt
   row-of-other c id other (o ∷ os) has = (λ undoes. subst (λ k. o.num < k) (sym (stay c id other)) (has.0 undoes), row-of-other c id other os has.1)

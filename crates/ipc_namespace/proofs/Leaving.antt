@@ -4,7 +4,7 @@ use Rattle.std.specs.Prelude.{◌==◌, not, option_map}
 use Rattle.std.specs.List.{find}
 use Rattle.ipc_call.specs.declared.calls.Call.{Call}
 use Rattle.ipc_call.specs.declared.replies.Waiting.{Waiting}
-use Rattle.queue_calls.specs.Held.{one_if}
+use Rattle.msg_calls.specs.WithRoom.{one_if}
 use Rattle.ipc_parked.specs.declared.parked.Arrival.{Arrival}
 use Rattle.ipc_parked.specs.Parked.{arrival_of, waiting}
 use Rattle.ipc_parked.specs.Parked as parked

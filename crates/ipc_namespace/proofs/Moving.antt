@@ -7,7 +7,7 @@ use Rattle.ipc_call.specs.declared.replies.Waiting.{Waiting}
 use Rattle.ipc_call.specs.declared.rules.Rule.{Rule}
 use Rattle.ipc_creds.specs.Credentials.{Credentials}
 use Rattle.ipc_model.specs.State.{State, creds_at, nobody}
-use Rattle.ipc_model.specs.Decision.{Decision, Grant, Refuse, Wait, left_by, outcome_of}
+use Rattle.ipc_model.specs.Decision.{Decision, Granted, Refused, Waits, left_by, outcome_of}
 use Rattle.ipc_model.specs.Decide.{decide_alive as decide}
 use Rattle.ipc_model.specs.Cancelled.{cancelled}
 use Rattle.ipc_model.specs.Step.{Moved, cancel, cancelled_by}
@@ -16,10 +16,10 @@ use Rattle.ipc_model.proofs.Plans.{IfGranted}
 use Rattle.ipc_namespace.specs.Namespace.{left_alive as moved_by}
 use Rattle.ipc_namespace.proofs.Endings.{ended-none, left-none}
 
-pub refused-as : (d : Decision State) (rule : Rule) → without_answer d ≡ Some (Err rule) → d ≡ Refuse rule
-refused-as (Refuse other) rule is = let same : other ≡ rule = cc in ap (λ r. Refuse r) same
-refused-as Wait rule is = cc
-refused-as (Grant answer new) rule is = cc
+pub refused-as : (d : Decision State) (rule : Rule) → without_answer d ≡ Some (Err rule) → d ≡ Refused rule
+refused-as (Refused other) rule is = let same : other ≡ rule = cc in ap (λ r. Refused r) same
+refused-as Waits rule is = cc
+refused-as (Granted answer new) rule is = cc
 
 every : (P : Waiting → Type 0) (ws : List Waiting) → ((w : Waiting) → P w) → AllByRecursion P ws
 every P [] all = tt
@@ -34,9 +34,9 @@ uncancelled new call none = λ i. record {
 
 moved-state : (s : State) (call : Call) (d : Decision State) → ((new : State) (w : Waiting) → cancelled new call w ≡ None)
     → cancelled_by (left_by s d) call d ≡ record { state = left_by s d; ended = [] }
-moved-state s call (Refuse rule) none = refl
-moved-state s call Wait none = refl
-moved-state s call (Grant answer new) none = uncancelled new call (none new)
+moved-state s call (Refused rule) none = refl
+moved-state s call Waits none = refl
+moved-state s call (Granted answer new) none = uncancelled new call (none new)
 
 -- it moves the state as its decision says
 moved-alone : (s : State) (client : ℕ) (call same : Call) → call ≡ same → ((new : State) (w : Waiting) → cancelled new same w ≡ None)
@@ -53,7 +53,7 @@ pub moved-nothing : (s : State) (client : ℕ) (call same : Call) → call ≡ s
 moved-nothing s client call same is none left =
     moved-alone s client call same is none ∙ (λ i. record { state = left i; ended = [] })
 
-pub moved-refused : (s : State) (client : ℕ) (call : Call) (rule : Rule) → decide s client call ≡ Refuse rule → moved_by s client call ≡ record { state = s; ended = [] }
+pub moved-refused : (s : State) (client : ℕ) (call : Call) (rule : Rule) → decide s client call ≡ Refused rule → moved_by s client call ≡ record { state = s; ended = [] }
 moved-refused s client call rule is = ap (λ d. cancelled_by (left_by s d) call d) is
 
 -- the client's credentials as the code reads them
@@ -67,9 +67,9 @@ pub granted-state : (s new : State) (client : ℕ) (call : Call) → without_ans
 granted-state s new client call is = by (decide s client call) is
   where
     by : (d : Decision State) → without_answer d ≡ Some (Ok tt) → IfGranted (λ answer t. t ≡ new) d → (cancel new call).state ≡ (cancelled_by (left_by s d) call d).state
-    by (Refuse rule) is leaves = cc
-    by Wait is leaves = cc
-    by (Grant answer t) is leaves = ap (λ (t : State). (cancel t call).state) (sym leaves)
+    by (Refused rule) is leaves = cc
+    by Waits is leaves = cc
+    by (Granted answer t) is leaves = ap (λ (t : State). (cancel t call).state) (sym leaves)
 
 -- a call that is refused moves nothing
 module _ (s : State) (client : ℕ) (call : Call) (rule : Rule) (is : without_answer (decide s client call) ≡ Some (Err rule)) where

@@ -6,10 +6,10 @@ use Rattle.std.proofs.lemmas.Bool.{cases_Bool, eqb-false, false≢true, or_parts
 use Rattle.std.proofs.lemmas.Option.{none-some, same_Some}
 use Rattle.ipc_call.specs.declared.calls.Call.{Call}
 use Rattle.ipc_call.specs.declared.replies.Answer.{Answer}
-use Rattle.ipc_call.specs.declared.replies.Ended.{Ended}
+use Rattle.ipc_call.specs.declared.replies.Completion.{Completion}
 use Rattle.ipc_call.specs.declared.replies.Waiting.{Waiting}
 use Rattle.ipc_model.specs.State.{State, is_waiting}
-use Rattle.ipc_model.specs.Decision.{Decision, Grant, Refuse, Wait, outcome_of}
+use Rattle.ipc_model.specs.Decision.{Decision, Granted, Refused, Waits, outcome_of}
 use Rattle.ipc_model.specs.Decide.{decide, decide_call, is_late, unless_late}
 use Rattle.ipc_model.specs.Cancelled.{cancelled}
 use Rattle.ipc_model.specs.Step.{Moved, end_waiting, ended_by, first_ready, is_ready, moved_as, moved_by, without}
@@ -40,10 +40,10 @@ others-of client (w ∷ ws) free =
     (λ e. eqb-false w.client client parts.0 e, others-of client ws parts.1)
 
 -- a grant is one whatever the deadline
-early : (late : Bool) (d : Decision State) (answer : Answer) (new : State) → unless_late late d ≡ Grant answer new → d ≡ Grant answer new
-early true (Refuse rule) answer new is = is
-early true Wait answer new is = cc
-early true (Grant other old) answer new is = is
+early : (late : Bool) (d : Decision State) (answer : Answer) (new : State) → unless_late late d ≡ Granted answer new → d ≡ Granted answer new
+early true (Refused rule) answer new is = is
+early true Waits answer new is = cc
+early true (Granted other old) answer new is = is
 early false d answer new is = is
 
 -- what isn't among those that were touched isn't touched
@@ -63,10 +63,10 @@ pub quiet-moved : (s : State) (client : ℕ) (call : Call) (touched : Touched) �
 quiet-moved s client call touched covers none free granted = by (decide_call s client call) refl granted
   where
     by : (d : Decision State) → decide_call s client call ≡ d → is_grant (outcome_of d) ≡ true → AreQuietBut (is_touched touched) (moved_as s client call d).state
-    by (Refuse rule) is granted = absurd (false≢true granted)
-    by Wait is granted = absurd (false≢true granted)
-    by (Grant answer new) is granted =
-        let so : decide s client call ≡ Grant answer new = early (is_late s call) (decide s client call) answer new is in
+    by (Refused rule) is granted = absurd (false≢true granted)
+    by Waits is granted = absurd (false≢true granted)
+    by (Granted answer new) is granted =
+        let so : decide s client call ≡ Granted answer new = early (is_late s call) (decide s client call) answer new is in
         let same : new.parked ≡ s.parked = (subst (λ (d : Decision State). Keeps s d) so (Keeps-decide s client call)).0 in
         let waits = found-none (is_ready s) s.parked none in
         let quiet = covered s new client call touched covers s.parked waits (event_quiet s new client call answer so s.parked waits (others-of client s.parked free)) in
@@ -93,7 +93,7 @@ module _ (s : State) (w : Waiting) (touched : Touched) (quiet : AreQuietBut (is_
       by true is = refl
       by false is = absurd (true≢false (sym ready ∙ all-found (λ v. is_touched touched v ≡ false → is_ready s v ≡ false) (is_ready s) s.parked w quiet first is))
 
-  quiet-turn-on : (t : State) (answer : Answer) → decide rest w.client w.call ≡ Grant answer t → (u : Touched) → touched ≡ u → is_touched u w ≡ true → (vs : List Waiting) → AllByRecursion (λ v. v.client ≢ w.client) vs
+  quiet-turn-on : (t : State) (answer : Answer) → decide rest w.client w.call ≡ Granted answer t → (u : Touched) → touched ≡ u → is_touched u w ≡ true → (vs : List Waiting) → AllByRecursion (λ v. v.client ≢ w.client) vs
       → AreQuietIn (is_touched u) rest vs → AreQuietIn (is_touched u) t vs
   quiet-turn-on t answer is Nothing same on vs others waits = absurd (false≢true on)
   quiet-turn-on t answer is (Object kind id) same on [] others waits = tt
@@ -111,13 +111,13 @@ module _ (s : State) (w : Waiting) (touched : Touched) (quiet : AreQuietBut (is_
       (cases_Bool (v.client == w.client))
 
   quiet-ended : first_ready s ≡ Some w → (d : Decision State) → decide rest w.client w.call ≡ d → AreQuietBut (is_touched touched) (ended_by rest w.client d).state
-  quiet-ended first (Refuse rule) is = quiet-rest
-  quiet-ended first Wait is = quiet-rest
-  quiet-ended first (Grant answer t) is =
+  quiet-ended first (Refused rule) is = quiet-rest
+  quiet-ended first Waits is = quiet-rest
+  quiet-ended first (Granted answer t) is =
       let same : t.parked ≡ rest.parked = (subst (λ (d : Decision State). Keeps rest d) is (Keeps-decide rest w.client w.call)).0 in
       subst (λ ws. AreQuietIn (is_touched touched) t ws) (sym same) (quiet-turn-on t answer is touched refl (was-touched first) rest.parked (without-own s.parked) quiet-rest)
 
-pub quiet-turn : (s new : State) (e : Ended) (touched : Touched) → AreQuietBut (is_touched touched) s → option_map (end_waiting s) (first_ready s) ≡ Some (record { state = new; ended = e ∷ [] }) → AreQuietBut (is_touched touched) new
+pub quiet-turn : (s new : State) (e : Completion) (touched : Touched) → AreQuietBut (is_touched touched) s → option_map (end_waiting s) (first_ready s) ≡ Some (record { state = new; ended = e ∷ [] }) → AreQuietBut (is_touched touched) new
 quiet-turn s new e touched quiet ends = by (first_ready s) refl ends
   where
     by : (o : Option Waiting) → first_ready s ≡ o → option_map (end_waiting s) o ≡ Some (record { state = new; ended = e ∷ [] }) → AreQuietBut (is_touched touched) new

@@ -6,11 +6,11 @@ use Rattle.std.proofs.lemmas.Bool.{cases_Bool, true≢false}
 use Rattle.std.proofs.lemmas.List.{at_drop_all}
 use Rattle.std.proofs.lemmas.Option.{none-some, same_Some}
 use Rattle.ipc_call.specs.declared.calls.Call.{Call}
-use Rattle.ipc_call.specs.declared.replies.Ended.{Ended}
+use Rattle.ipc_call.specs.declared.replies.Completion.{Completion}
 use Rattle.ipc_call.specs.declared.replies.Waiting.{Waiting}
 use Rattle.ipc_model.specs.State.{State}
 use Rattle.ipc_model.specs.Decide.{decide, decide_call, is_late}
-use Rattle.ipc_model.specs.Decision.{Decision, Grant, Refuse, Wait, proceeds}
+use Rattle.ipc_model.specs.Decision.{Decision, Granted, Refused, Waits, proceeds}
 use Rattle.ipc_namespace.specs.Namespace.{is_grant}
 use Rattle.ipc_namespace.proofs.Own.{found-none}
 use Rattle.ipc_namespace.proofs.Parked.{all-filter}
@@ -28,12 +28,12 @@ settle-none (suc n) s none = ap (λ o. settle_from (settle n) s o) none
 pub settled-none : (s : State) → first_ready s ≡ None → settled s ≡ record { state = s; ended = [] }
 settled-none s none = settle-none (length s.parked) s none
 
-settle-some : (n k : ℕ) (s new : State) (w : Waiting) (e : Ended) → n ≡ suc k → first_ready s ≡ Some w → end_waiting s w ≡ record { state = new; ended = e ∷ [] }
+settle-some : (n k : ℕ) (s new : State) (w : Waiting) (e : Completion) → n ≡ suc k → first_ready s ≡ Some w → end_waiting s w ≡ record { state = new; ended = e ∷ [] }
     → settle n s ≡ record { state = (settle k new).state; ended = e ∷ (settle k new).ended }
 settle-some n k s new w e is first ends = ap (λ j. settle j s) is ∙ ap (λ o. settle_from (settle k) s o) first ∙ ap (λ (m : Moved). and_then m (settle k)) ends
 
 -- one turn: the first leaves, and the rest follows
-pub settled-turn : (s new : State) (e : Ended) → option_map (end_waiting s) (first_ready s) ≡ Some (record { state = new; ended = e ∷ [] }) → length new.parked + 1 ≡ length s.parked
+pub settled-turn : (s new : State) (e : Completion) → option_map (end_waiting s) (first_ready s) ≡ Some (record { state = new; ended = e ∷ [] }) → length new.parked + 1 ≡ length s.parked
     → settled s ≡ record { state = (settled new).state; ended = e ∷ (settled new).ended }
 settled-turn s new e ends shorter = by (first_ready s) refl ends
   where
@@ -100,19 +100,19 @@ quiet-expire s quiet =
 -- a call that isn't granted ends none where none is ready
 entered-by : (s : State) (client : ℕ) (call : Call) (d : Decision State) → first_ready s ≡ None → decide_call s client call ≡ d → is_grant (outcome_of d) ≡ false
     → enter s client call ≡ record { state = (cancelled_by (state_by s client call d) call d).state; own = outcome_of d; ended = (cancelled_by (state_by s client call d) call d).ended }
-entered-by s client call (Refuse rule) quiet is still = ap (entered s client call) is ∙ ap (λ (m : Moved). stepped (Some (Err rule)) m) (settled-none s quiet)
-entered-by s client call Wait quiet is still =
+entered-by s client call (Refused rule) quiet is still = ap (entered s client call) is ∙ ap (λ (m : Moved). stepped (Some (Err rule)) m) (settled-none s quiet)
+entered-by s client call Waits quiet is still =
     ap (entered s client call) is
     ∙ ap (λ (m : Moved). stepped None m) (settled-none (record s { parked = s.parked ++ waiting_as s client call ∷ [] }) (still_quiet s client call quiet (late-waits (is_late s call) (decide s client call) (ap proceeds is))))
-entered-by s client call (Grant answer new) quiet is still = absurd (true≢false still)
+entered-by s client call (Granted answer new) quiet is still = absurd (true≢false still)
 
-pub entered-still : (s new : State) (client : ℕ) (call : Call) (own : Option Outcome) (ended : List Ended) → first_ready s ≡ None → is_grant own ≡ false → own ≡ outcome_of (decide_call s client call)
+pub entered-still : (s new : State) (client : ℕ) (call : Call) (own : Option Outcome) (ended : List Completion) → first_ready s ≡ None → is_grant own ≡ false → own ≡ outcome_of (decide_call s client call)
     → new ≡ (moved_by s client call).state → ended ≡ (moved_by s client call).ended → enter s client call ≡ record { state = new; own = own; ended = ended }
 entered-still s new client call own ended quiet still is moved cancels =
     entered-by s client call (decide_call s client call) quiet refl (ap is_grant (sym is) ∙ still)
     ∙ (λ i. record { state = sym moved i; own = sym is i; ended = sym cancels i })
 
-pub entered-granted : (s t new : State) (client : ℕ) (call : Call) (own : Option Outcome) (first ended : List Ended) → t ≡ (moved_by s client call).state → first ≡ (moved_by s client call).ended
+pub entered-granted : (s t new : State) (client : ℕ) (call : Call) (own : Option Outcome) (first ended : List Completion) → t ≡ (moved_by s client call).state → first ≡ (moved_by s client call).ended
     → outcome_of (decide_call s client call) ≡ own → new ≡ (settled t).state → ended ≡ first ++ (settled t).ended → enter s client call ≡ record { state = new; own = own; ended = ended }
 entered-granted s t new client call own first ended moved cancels is settles ends = λ i. record {
   state = (ap (λ (u : State). (settled u).state) (sym moved) ∙ sym settles) i;

@@ -4,13 +4,13 @@ use Rattle.std.specs.List.{AllByRecursion, list_any}
 use Rattle.ipc_call.specs.declared.replies.Waiting.{Waiting}
 use Rattle.ipc_call.specs.declared.calls.Call.{Call}
 use Rattle.ipc_call.specs.declared.calls.Call.TheVariants.{MsgSnd, MsgRcv, SemOp, SemGet, GetNcnt, GetZcnt, GetVal, GetPid, GetAll, SetVal, SetAll, ShmGet, ShmAt, ShmDt, ShmRead, ShmWrite, IpcSet, IpcRmid, Interrupt}
-use Rattle.ipc_call.specs.declared.replies.Ended.{Ended}
+use Rattle.ipc_call.specs.declared.replies.Completion.{Completion}
 use Rattle.ipc_call.specs.declared.rules.Rule.{Rule}
 use Rattle.ipc_call.specs.declared.rules.Rule.TheVariants.{Removed, Interrupted}
 use Rattle.ipc_ids.specs.Table.{Table}
 use Rattle.ipc_objects.specs.declared.object.Object.{Object}
-use Rattle.queue_calls.specs.Held.{Held, one_if, room}
-use Rattle.set_calls.specs.Held.{Held as Sets, HasRow}
+use Rattle.msg_calls.specs.WithRoom.{QueueWithRoom, one_if, room}
+use Rattle.sem_calls.specs.WithRows.{SetsWithRows, HasRow}
 use Rattle.ipc_perm.specs.declared.access.Verdict.{Verdict}
 use Rattle.ipc_perm.specs.declared.access.Verdict.TheVariants.{Allowed, Denied}
 use Rattle.ipc_model.specs.State.{Sems, State, creds_at, pid_of}
@@ -19,7 +19,7 @@ use Rattle.sem_set.specs.Trials.{are_in}
 use Rattle.ipc_model.specs.Decide.{decide_alive, is_late, is_negative, is_zero, needs, unless_late}
 use Rattle.ipc_model.specs.Cancelled.{first_denial, waits_on}
 use Rattle.ipc_model.specs.Decision.{Decision, Outcome, left_by}
-use Rattle.ipc_model.specs.Step.{Moved, cancelled_by, is_ready, state_by, told_cancelled}
+use Rattle.ipc_model.specs.Step.{Moved, cancelled_by, is_ready, state_by, ended_by_rule}
 use Rattle.ipc_parked.specs.Parked.{AreApart}
 use Rattle.ipc_call.specs.declared.calls.SemOper.{SemOper}
 use Rattle.ipc_namespace.specs.declared.semaphore_calls.Awaited.{Awaited}
@@ -72,7 +72,7 @@ is_awaited awaits.Rise num o = is_negative num o
 is_awaited awaits.Zero num o = is_zero num o
 
 -- what a waiting call has reserved of the sets: a semop, a row of semadj
-abbrev pub HasRowFor : Sets → ℕ → Call → Type 0
+abbrev pub HasRowFor : SetsWithRows → ℕ → Call → Type 0
 HasRowFor sets client (SemOp id ops) = HasRow sets client id ops
 HasRowFor sets client call = Unit {0}
 
@@ -83,7 +83,7 @@ MayReserve sems (SemOp id ops) =
 MayReserve sems call = Unit {0}
 
 -- the client of each hasn't ended, and what it needs of the sets is reserved
-unfoldable pub AreHeld : Sets → List ℕ → List Waiting → Type 0
+unfoldable pub AreHeld : SetsWithRows → List ℕ → List Waiting → Type 0
 AreHeld sets ended ws =
     AllByRecursion (λ w. (list_any (λ other. other == w.client) ended ≡ false) × HasRowFor sets w.client w.call) ws
 
@@ -137,11 +137,11 @@ allowed_by (Denied rule) = Err rule
 abbrev pub kept_by : (Waiting → Option Rule) → List Waiting → List Waiting
 kept_by rule ws = filter (λ w. is_none (rule w)) ws
 
-abbrev pub ended_as : (Waiting → Option Rule) → List Waiting → List Ended
-ended_as rule ws = flat_map (λ w. told_cancelled w.client (rule w)) ws
+abbrev pub ended_as : (Waiting → Option Rule) → List Waiting → List Completion
+ended_as rule ws = flat_map (λ w. ended_by_rule w.client (rule w)) ws
 
 -- in each queue a place is reserved for each waiting call that sends to it, and no other
-abbrev pub IsReserved : Table (Object Held) → List Waiting → Type 0
+abbrev pub IsReserved : Table (Object QueueWithRoom) → List Waiting → Type 0
 IsReserved queues ws = (id : ℕ) → room queues id ≡ sends_on id ws
 
 -- no waiting call is ready but those that were touched

@@ -30,10 +30,10 @@ ghost use Rattle.ipc_namespace.specs.Namespace.{ended_as, cancelled_as, kept_by,
 ghost use Rattle.ipc_parked.specs.Parked.{AreApart};
 
 use crate::namespace::Namespace;
-use ipc_call::{Call, Ended, Kind, Rule};
+use ipc_call::{Call, Completion, Kind, Rule};
 use ipc_parked::waits_on;
 use ipc_perm::{Perm, TO_ALTER, TO_READ, Verdict, Want, decide};
-use set_calls::wanted_by;
+use sem_calls::wanted_by;
 
 /// Why a granted call cancels waiting ones.
 #[derive(Clone, Copy, Debug)]
@@ -49,7 +49,7 @@ pub enum Cancelling {
 impl Namespace {
     /// Ends the waiting calls that a granted call cancels, the earliest first. There is room for each in the list
     /// of those that ended.
-    pub(super) fn cancel(&mut self, cancelling: Cancelling, ended: &mut Vec<Ended>)
+    pub(super) fn cancel(&mut self, cancelling: Cancelling, ended: &mut Vec<Completion>)
         requires { vec_len ended.old + length self.old.parked ≤ vec_capacity ended.old }
         ensures state { self.new ≡ record self.old { parked = kept_by (cancelled_as self.old cancelling) self.old.parked } }
         ensures ended { ended.new.items ≡ ended.old.items ++ ended_as (cancelled_as self.old cancelling) self.old.parked }

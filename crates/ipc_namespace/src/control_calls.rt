@@ -12,7 +12,7 @@ ghost use Rattle.ipc_model.specs.Decision.{without_answer};
 use crate::cancelling::Cancelling;
 use crate::namespace::Namespace;
 use bitflags::Flags;
-use ipc_call::{Answer, Boxed, Call, Ended, Kind, Memory, Outcome, Rule, Settings, Status};
+use ipc_call::{Answer, Boxed, Call, Completion, Kind, Memory, Outcome, Rule, Settings, Status};
 use ipc_creds::{Caps, Creds};
 use ipc_perm::{Perm, TO_READ, Verdict, decide, may_control};
 
@@ -51,16 +51,16 @@ impl Namespace {
         match kind {
             Kind::Queue => {
                 let queue = self.queues.get(id)?;
-                Some((queue.perm, queue_calls::status(queue)))
+                Some((queue.perm, msg_calls::status(queue)))
             }
             Kind::Sems => {
                 let set = self.sets.get(id)?;
-                Some((set.perm, set_calls::status(set)))
+                Some((set.perm, sem_calls::status(set)))
             }
             Kind::Segment => {
                 let segment = self.segments.get(id)?;
                 let nattch = self.segments.nattch(id);
-                Some((segment.perm, segment_calls::status(segment, nattch)))
+                Some((segment.perm, shm_calls::status(segment, nattch)))
             }
         }
     }
@@ -74,7 +74,7 @@ impl Namespace {
         kind: Kind,
         id: u32,
         new: Settings,
-        ended: &mut Vec<Ended>,
+        ended: &mut Vec<Completion>,
     ) -> Outcome
         requires known { client < length self.old.clients }
         requires space { vec_len ended.old + length self.old.parked ≤ vec_capacity ended.old }
@@ -138,7 +138,7 @@ impl Namespace {
         client: u32,
         kind: Kind,
         id: u32,
-        ended: &mut Vec<Ended>,
+        ended: &mut Vec<Completion>,
     ) -> Outcome
         requires known { client < length self.old.clients }
         requires space { vec_len ended.old + length self.old.parked ≤ vec_capacity ended.old }

@@ -6,7 +6,7 @@ mod callers;
 mod cancelling;
 mod control_calls;
 mod listings;
-mod memory_calls;
+mod segment_calls;
 mod message_calls;
 mod namespace;
 mod process_calls;

@@ -27,7 +27,7 @@ ghost use Rattle.std.specs.Prelude.{
   None,
 };
 ghost use Rattle.ipc_call.specs.Limits.{are_in_range};
-ghost use Rattle.ipc_model.specs.State.{opening, has_ended as ended_before, is_waiting as waits, waiting_of};
+ghost use Rattle.ipc_model.specs.State.{opening, has_exited as exited_before, is_waiting as waits, waiting_of};
 ghost use Rattle.ipc_model.specs.Decision.{left_by, outcome_of};
 ghost use Rattle.ipc_model.specs.Decide.{decide_alive as decision_alive, decide_call as decision_made, deadline_of, is_reached, waits_as};
 ghost use Rattle.std.specs.List.{AllByRecursion, find};
@@ -52,12 +52,12 @@ ghost use Rattle.ipc_model.specs.Decision.{without_answer};
 use crate::callers::caller_of;
 use crate::reserving::{release_in, reserve_in, reserve_row, sent_to};
 use crate::semaphore_calls::Awaited;
-use ipc_call::{Answer, Call, Ended, Limits, Memory, Outcome, Receive, Rule, Settings};
+use ipc_call::{Answer, Call, Completion, Limits, Memory, Outcome, Receive, Rule, Settings};
 use ipc_creds::Creds;
 use ipc_parked::{Parked, Touched};
-use queue_calls::Queues;
-use segment_calls::Segments;
-use set_calls::Sets;
+use msg_calls::Queues;
+use shm_calls::Segments;
+use sem_calls::Sets;
 use std::marker::Model;
 
 /// The state of a namespace: its objects, its clients, its clock in seconds, and the calls that wait
@@ -66,7 +66,7 @@ use std::marker::Model;
 pub struct Namespace {
     pub(super) limits: Limits,
     pub(super) clients: Vec<Creds>,
-    pub(super) ended: Vec<u32>,
+    pub(super) exited: Vec<u32>,
     pub(super) clock: u64,
     pub(super) queues: Queues,
     pub(super) sets: Sets,
@@ -78,8 +78,8 @@ impl Model for Namespace {
     ghost use Rattle.std.specs.Prelude.{◌≤◌, length, vec_len};
     ghost use Rattle.std.specs.FinMap as map;
     ghost use Rattle.std.specs.Coded.{codes};
-    ghost use Rattle.queue_calls.specs.Held.{queues_of};
-    ghost use Rattle.set_calls.specs.Held.{sems_of};
+    ghost use Rattle.msg_calls.specs.WithRoom.{queues_of};
+    ghost use Rattle.sem_calls.specs.WithRows.{sems_of};
     ghost use Rattle.ipc_model.specs.State.{State};
     ghost use Rattle.ipc_parked.specs.Parked.{waiting};
     ghost use Rattle.ipc_namespace.specs.Namespace.{AreHeld, AreParked, IsReserved};
@@ -91,7 +91,7 @@ impl Model for Namespace {
     ghost view = { λ n. record {
       limits = n.limits;
       clients = n.clients.items;
-      ended = n.ended.items;
+      exited = n.exited.items;
       clock = n.clock;
       queues = queues_of n.queues;
       sems = sems_of n.sets;
@@ -99,7 +99,7 @@ impl Model for Namespace {
       parked = waiting n.parked;
     } };
 
-    ghost invariant = { λ n. (vec_len n.clients ≤ 64) × AreParked (length n.clients.items) (waiting n.parked) × IsReserved n.queues (waiting n.parked) × AreHeld n.sets n.ended.items (waiting n.parked) };
+    ghost invariant = { λ n. (vec_len n.clients ≤ 64) × AreParked (length n.clients.items) (waiting n.parked) × IsReserved n.queues (waiting n.parked) × AreHeld n.sets n.exited.items (waiting n.parked) };
 }
 
 impl Namespace {
@@ -114,7 +114,7 @@ impl Namespace {
         Namespace {
             limits,
             clients,
-            ended: Vec::new(alloc),
+            exited: Vec::new(alloc),
             clock: 0,
             queues: Queues::new(alloc, limits.slots, limits.first_seq),
             sets: Sets::new(alloc, limits.slots, limits.first_seq),
@@ -139,10 +139,10 @@ impl Namespace {
     }
 
     /// Whether the client has called exit.
-    pub(super) fn has_ended(&self, client: u32) -> bool
-        ensures { result ≡ ended_before self.now client }
+    pub(super) fn has_exited(&self, client: u32) -> bool
+        ensures { result ≡ exited_before self.now client }
     {
-        self.ended.iter().any(|other| *other == client)
+        self.exited.iter().any(|other| *other == client)
     }
 
     /// The clock, in seconds.
@@ -172,7 +172,7 @@ impl Namespace {
         place: u64,
         now: u64,
         call: &Call,
-        ended: &mut Vec<Ended>,
+        ended: &mut Vec<Completion>,
     ) -> Result<Option<Outcome>, Memory>
         requires known { client < length self.old.clients }
         requires free { waits self.old client ≡ false }
@@ -203,7 +203,7 @@ impl Namespace {
         client: u32,
         place: u64,
         call: &Call,
-        ended: &mut Vec<Ended>,
+        ended: &mut Vec<Completion>,
     ) -> Result<Option<Outcome>, Memory>
         requires known { client < length self.old.clients }
         requires free { waits self.old client ≡ false }
@@ -215,7 +215,7 @@ impl Namespace {
         ensures err { OnErr result (self.new ≡ self.old) }
         ensures none { OnErr result (ended.new.items ≡ []) }
     {
-        let own = self.act(client, place, call, ended)?;
+        let own = self.carry_out(client, place, call, ended)?;
         if is_granted(&own) {
             self.settle(Touched::by(call), ended);
         }
@@ -225,12 +225,12 @@ impl Namespace {
     /// The same but for the waiting calls that can proceed. The error comes only where an allocation fails, and then
     /// nothing has changed: so calls that take memory are served before those end whose deadline is reached, which
     /// doesn't matter to them.
-    fn act(
+    fn carry_out(
         &mut self,
         client: u32,
         place: u64,
         call: &Call,
-        ended: &mut Vec<Ended>,
+        ended: &mut Vec<Completion>,
     ) -> Result<Option<Outcome>, Memory>
         requires known { client < length self.old.clients }
         requires free { waits self.old client ≡ false }
@@ -245,7 +245,7 @@ impl Namespace {
         ensures err { OnErr result (self.new ≡ self.old) }
         ensures none { OnErr result (ended.new.items ≡ []) }
     {
-        if self.has_ended(client) {
+        if self.has_exited(client) {
             self.expire(ended);
             return Ok(Some(Err(Rule::Ended)));
         }
@@ -253,22 +253,22 @@ impl Namespace {
             self.expire(ended);
             return Ok(Some(self.serve_on_waiting(client, call, ended)));
         }
-        let own = self.act_alone(client, place, call)?;
+        let own = self.carry_out_alone(client, place, call)?;
         self.expire(ended);
         Ok(own)
     }
 
     /// Serves a call that ends no waiting call and doesn't look at them, of a client that hasn't ended.
-    fn act_alone(&mut self, client: u32, place: u64, call: &Call) -> Result<Option<Outcome>, Memory>
+    fn carry_out_alone(&mut self, client: u32, place: u64, call: &Call) -> Result<Option<Outcome>, Memory>
         requires known { client < length self.old.clients }
         requires free { waits self.old client ≡ false }
-        requires alive { ended_before self.old client ≡ false }
+        requires alive { exited_before self.old client ≡ false }
         requires alone { is_on_waiting_by call.now ≡ false }
         ensures own { IfOk result (λ own. own ≡ outcome_of (decide_made self.old client call.now)) }
         ensures state { OnOk result (self.new ≡ left_made self.old client call.now) }
         ensures err { OnErr result (self.new ≡ self.old) }
     {
-        match self.answer(client, call)? {
+        match self.grant_or_refuse(client, call)? {
             Some(outcome) => Ok(Some(outcome)),
             None => self.wait(client, place, call),
         }
@@ -278,7 +278,7 @@ impl Namespace {
     fn wait(&mut self, client: u32, place: u64, call: &Call) -> Result<Option<Outcome>, Memory>
         requires known { client < length self.old.clients }
         requires free { waits self.old client ≡ false }
-        requires alive { ended_before self.old client ≡ false }
+        requires alive { exited_before self.old client ≡ false }
         requires waits { outcome_of (decision_alive self.old client call.now) ≡ None }
         ensures own { IfOk result (λ own. own ≡ outcome_of (decide_made self.old client call.now)) }
         ensures state { OnOk result (self.new ≡ left_made self.old client call.now) }
@@ -294,7 +294,7 @@ impl Namespace {
 
     /// Serves a call that counts waiting calls or may end them, of a client that hasn't ended. It takes no memory. There
     /// is room for each that waits in the list of those that ended.
-    fn serve_on_waiting(&mut self, client: u32, call: &Call, ended: &mut Vec<Ended>) -> Outcome
+    fn serve_on_waiting(&mut self, client: u32, call: &Call, ended: &mut Vec<Completion>) -> Outcome
         requires known { client < length self.old.clients }
         requires on_waiting { is_on_waiting_by call.now ≡ true }
         requires space { vec_len ended.old + length self.old.parked ≤ vec_capacity ended.old }
@@ -331,10 +331,10 @@ impl Namespace {
 
     /// Refuses or grants a call that ends no waiting call and doesn't look at them. None where it is to wait, and then
     /// nothing has changed.
-    fn answer(&mut self, client: u32, call: &Call) -> Result<Option<Outcome>, Memory>
+    fn grant_or_refuse(&mut self, client: u32, call: &Call) -> Result<Option<Outcome>, Memory>
         requires known { client < length self.old.clients }
         requires free { waits self.old client ≡ false }
-        requires alive { ended_before self.old client ≡ false }
+        requires alive { exited_before self.old client ≡ false }
         requires alone { is_on_waiting_by call.now ≡ false }
         ensures own { IfOk result (λ own. own ≡ outcome_of (decision_alive self.old client call.now)) }
         ensures state { OnOk result (self.new ≡ left_by self.old (decision_alive self.old client call.now)) }
@@ -387,7 +387,7 @@ impl Namespace {
     /// Ends the waiting calls whose deadline is reached, the earliest first. There is room for each in the list of those
     /// that ended.
     #[inline(always)]
-    fn expire(&mut self, ended: &mut Vec<Ended>)
+    fn expire(&mut self, ended: &mut Vec<Completion>)
         requires { vec_len ended.old + length self.old.parked ≤ vec_capacity ended.old }
         ensures state { self.new ≡ (expire self.old).state }
         ensures ended { ended.new.items ≡ ended.old.items ++ (expire self.old).ended }
@@ -421,7 +421,7 @@ impl Namespace {
     ) -> Result<(), Memory>
         requires known { client < length self.old.clients }
         requires free { waits self.old client ≡ false }
-        requires alive { ended_before self.old client ≡ false }
+        requires alive { exited_before self.old client ≡ false }
         requires waits { outcome_of (decision_alive self.old client call) ≡ None }
         requires as_semop { stands call ≡ true }
         ensures ok { OnOk result (self.new ≡ record self.old { parked = self.old.parked ++ record { client = client; call = call; deadline = deadline } ∷ [] }) }
@@ -439,7 +439,7 @@ impl Namespace {
 
     /// Ends the waiting calls that can proceed, the earliest first, until none can: at first only those that were touched
     /// can, and a call that ends touches no others. There is room for each in the list of those that ended.
-    fn settle(&mut self, touched: Touched, ended: &mut Vec<Ended>)
+    fn settle(&mut self, touched: Touched, ended: &mut Vec<Completion>)
         requires quiet { AreQuietBut (is_touched touched) self.old }
         requires room { vec_len ended.old + length self.old.parked ≤ vec_capacity ended.old }
         ensures state { self.new ≡ (settled self.old).state }
@@ -452,7 +452,7 @@ impl Namespace {
     }
 
     /// Ends the earliest waiting call that can proceed. None where none can. Only those that were touched are tried.
-    fn complete_first(&mut self, touched: Touched) -> Option<Ended>
+    fn complete_first(&mut self, touched: Touched) -> Option<Completion>
         requires quiet { AreQuietBut (is_touched touched) self.old }
         ensures first { option_map (end_waiting self.old) (first_that_is_ready self.old) ≡ option_map {U = MovedTo} (λ ended. record { state = self.new; ended = ended ∷ [] }) result }
         ensures none { IfNone result (self.new ≡ self.old) }
@@ -470,7 +470,7 @@ impl Namespace {
     /// Tries the client's waiting call. Where it no longer waits it leaves the list, refused or carried out. It takes no
     /// memory: what it needs was made when it began to wait.
     #[tactic(auto, unfolding(ipc_model::specs::Decide::part_plan))]
-    fn try_waiting(&mut self, client: u32) -> Option<Ended>
+    fn try_waiting(&mut self, client: u32) -> Option<Completion>
         requires { waits self.old client ≡ true }
         ensures ready { IfSome (waiting_of self.old client) (λ w. is_some result ≡ is_ready self.old w) }
         ensures ended { IfSome (waiting_of self.old client) (λ w. IfSome result (λ ended. end_waiting self.old w ≡ record { state = self.new; ended = ended ∷ [] })) }
@@ -518,9 +518,9 @@ impl Namespace {
     /// Ends the client's waiting msgsnd as was decided on it: it leaves the list, and its message goes to the queue in
     /// the place that was reserved for it, or the place is given back.
     #[tactic(auto, unfolding(ipc_model::specs::Decide::part_plan))]
-    fn end_send(&mut self, client: u32, decided: Result<(), Rule>) -> Ended
+    fn end_send(&mut self, client: u32, decided: Result<(), Rule>) -> Completion
         requires waits { waits self.old client ≡ true }
-        requires alive { ended_before self.old client ≡ false }
+        requires alive { exited_before self.old client ≡ false }
         requires sends { IfSome (waiting_of self.old client) (λ w. IsSome (call_sent_to w.call)) }
         requires decided { IfSome (waiting_of self.old client) (λ w. without_answer (decision_alive (without self.old client) client w.call) ≡ Some decided) }
         ensures ended { IfSome (waiting_of self.old client) (λ w. end_waiting self.old w ≡ record { state = self.new; ended = result ∷ [] }) }
@@ -540,14 +540,14 @@ impl Namespace {
         };
         let who = caller_of(&self.clients, client, self.clock);
         self.queues.send_reserved(&who, id, mtype, text);
-        Ended {
+        Completion {
             client,
             outcome: Ok(Answer::Done),
         }
     }
 
     /// Ends the client's waiting call so: it leaves the list, and what was reserved for it is given back.
-    pub(super) fn end_as(&mut self, client: u32, outcome: Outcome) -> Ended
+    pub(super) fn end_as(&mut self, client: u32, outcome: Outcome) -> Completion
         requires { waits self.old client ≡ true }
         ensures state { self.new ≡ without self.old client }
         ensures shorter { length self.new.parked + 1 ≡ length self.old.parked }
@@ -555,7 +555,7 @@ impl Namespace {
     {
         let call = self.parked.finish(client);
         release_in(&mut self.queues, sent_to(&call));
-        Ended { client, outcome }
+        Completion { client, outcome }
     }
 }
 

@@ -13,7 +13,7 @@ use crate::callers::caller_of;
 use crate::cancelling::Cancelling;
 use crate::control_calls::allowed;
 use crate::namespace::Namespace;
-use ipc_call::{Answer, Call, Ended, Items, Memory, Outcome, Rule};
+use ipc_call::{Answer, Call, Completion, Items, Memory, Outcome, Rule};
 use ipc_creds::{Creds, GROUPS_MAX};
 use ipc_perm::{may_become, may_interrupt};
 
@@ -21,7 +21,7 @@ impl Namespace {
     /// An interrupt of the client of a process: its waiting call ends; there is room for it in the list of those that
     /// ended.
     #[tactic(auto, unfolding(ipc_model::specs::Decide::part_plan))]
-    pub(super) fn interrupt(&mut self, client: u32, pid: u32, ended: &mut Vec<Ended>) -> Outcome
+    pub(super) fn interrupt(&mut self, client: u32, pid: u32, ended: &mut Vec<Completion>) -> Outcome
         requires known { client < length self.old.clients }
         requires space { vec_len ended.old + length self.old.parked ≤ vec_capacity ended.old }
         ensures outcome { outcome_of (decision_on self.old client (Call.Interrupt pid)) ≡ Some result }
@@ -49,7 +49,7 @@ impl Namespace {
     fn process(&self, pid: u32) -> Option<&Creds>
         ensures { option_copied result ≡ process_of self.now pid }
     {
-        if pid == 0 || self.has_ended(pid - 1) {
+        if pid == 0 || self.has_exited(pid - 1) {
             return None;
         }
         self.clients.get(pid as usize - 1)
@@ -107,11 +107,11 @@ impl Namespace {
         ensures parked { self.new.parked ≡ self.old.parked }
         ensures err { OnErr result (self.new ≡ self.old) }
     {
-        self.ended.reserve(1)?;
+        self.exited.reserve(1)?;
         let who = caller_of(&self.clients, client, self.clock);
         self.sets.exit(&who);
         self.segments.exit(&who);
-        self.ended.push(client).unwrap();
+        self.exited.push(client).unwrap();
         Ok(Ok(Answer::Done))
     }
 }

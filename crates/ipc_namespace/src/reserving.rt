@@ -3,13 +3,13 @@
 
 ghost use Rattle.std.specs.Prelude.{◌≡◌, ℕ, ◌+◌, ◌<◌, true, IsSome, OnOk, OnErr};
 ghost use Rattle.std.specs.FinMap as map;
-ghost use Rattle.queue_calls.specs.Held.{one_if, queues_of, room};
-ghost use Rattle.set_calls.specs.Held.{row_at, sems_of};
+ghost use Rattle.msg_calls.specs.WithRoom.{one_if, queues_of, room};
+ghost use Rattle.sem_calls.specs.WithRows.{row_at, sems_of};
 ghost use Rattle.ipc_namespace.specs.Namespace.{HasRowFor, MayReserve, is_at, sent_to as call_sent_to};
 
 use ipc_call::{Call, Memory};
-use queue_calls::Queues;
-use set_calls::Sets;
+use msg_calls::Queues;
+use sem_calls::Sets;
 
 /// The queue that the call sends to, in which its completion needs a place.
 pub fn sent_to(call: &Call) -> Option<u32>

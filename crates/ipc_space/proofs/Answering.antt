@@ -14,7 +14,7 @@ use Rattle.ipc_call.specs.declared.calls.Kind.{Kind}
 use Rattle.ipc_call.specs.declared.calls.Kind.TheVariants as kinds
 use Rattle.ipc_call.specs.declared.replies.Answer.{Answer}
 use Rattle.ipc_call.specs.declared.replies.Answer.TheVariants.{Id, Done, Message as MessageAnswer}
-use Rattle.ipc_call.specs.declared.replies.Ended.{Ended}
+use Rattle.ipc_call.specs.declared.replies.Completion.{Completion}
 use Rattle.ipc_call.specs.declared.replies.Status.{Status}
 use Rattle.ipc_call.specs.declared.replies.Waiting.{Waiting}
 use Rattle.ipc_call.specs.declared.rules.Rule.{Rule}
@@ -26,7 +26,7 @@ use Rattle.msg_queue.specs.declared.messages.Message.{Message}
 use Rattle.shm_seg.specs.Attachments.{attachment_at, free_number}
 use Rattle.sem_undo.specs.Entries.{adj_of}
 use Rattle.ipc_model.specs.State.{Caller, Queue, Queues, SemSet, Sems, Shared, State, caller, creds_at}
-use Rattle.ipc_model.specs.Decision.{Decision, Outcome, Refuse, Wait, Grant, outcome_of, proceeds}
+use Rattle.ipc_model.specs.Decision.{Decision, Outcome, Refused, Waits, Granted, outcome_of, proceeds}
 use Rattle.ipc_model.specs.Plan.{Needs, Plan, on_part}
 use Rattle.ipc_model.specs.Plan as plans
 use Rattle.ipc_perm.specs.Access.{Resource, SetGroups}
@@ -38,7 +38,7 @@ use Rattle.ipc_model.specs.Processes.{process}
 use Rattle.ipc_model.specs.Controls.{is_within, perm_of, status_of, with_set}
 use Rattle.ipc_model.specs.Decide.{OnQueues, OnSems, OnShared, can_wait, decide, decide_call, is_late, get_waiting, is_negative, is_zero, part_plan, plan, whole}
 use Rattle.ipc_model.specs.Cancelled.{cancelled}
-use Rattle.ipc_model.specs.Step.{Event, at_time, begun, expire, expired, cancel, end_waiting, ended_by, entered, first_ready, is_ready, settle, settle_from, settled, told_cancelled, without}
+use Rattle.ipc_model.specs.Step.{Event, at_time, begun, expire, expired, cancel, end_waiting, ended_by, entered, first_ready, is_ready, settle, settle_from, settled, ended_by_rule, without}
 use Rattle.ipc_history.specs.History.{History, next_step, run}
 use Rattle.ipc_model.proofs.Calls.{Keeps-decide}
 use Rattle.ipc_model.proofs.Growing.{Keeps}
@@ -153,9 +153,9 @@ gives-decide s client call = Ends-decision (creds_at s client) (Gives call) (pla
 
 -- a call's own answer
 own-decided : (call : Call) (d : Decision State) (answer : Answer) → IfGranted (Gives call) d → outcome_of d ≡ Some (Ok answer) → can_give call answer ≡ true
-own-decided call (Refuse rule) answer gives own = cc
-own-decided call Wait answer gives own = absurd (none-some _ own)
-own-decided call (Grant other new) answer gives own =
+own-decided call (Refused rule) answer gives own = cc
+own-decided call Waits answer gives own = absurd (none-some _ own)
+own-decided call (Granted other new) answer gives own =
     let same : other ≡ answer = cc in
     ap (can_give call) (sym same) ∙ gives
 
@@ -164,9 +164,9 @@ own_answer h e answer own =
     let s = begun (run h) e.now in own-decided e.call (decide_call s e.client e.call) answer (late-granted (Gives e.call) (is_late s e.call) (decide s e.client e.call) (gives-decide s e.client e.call)) own
 
 waits-decided : (d : Decision State) → outcome_of d ≡ None → proceeds d ≡ false
-waits-decided (Refuse rule) none = absurd (none-some _ (sym none))
-waits-decided Wait none = refl
-waits-decided (Grant answer new) none = absurd (none-some _ (sym none))
+waits-decided (Refused rule) none = absurd (none-some _ (sym none))
+waits-decided Waits none = refl
+waits-decided (Granted answer new) none = absurd (none-some _ (sym none))
 
 pub who_waits : (h : History) (e : Event) → (next_step h e).own ≡ None → can_wait e.call ≡ true
 who_waits h e none =
@@ -190,10 +190,10 @@ module _ (ws : List Waiting) where
   among-filter : (keep : Waiting → Bool) (vs : List Waiting) → AreAmong vs → AreAmong (filter keep vs)
   among-filter keep vs among test none = any-filter test keep vs (among test none)
 
-  abbrev AreEnds : List Ended → Type 0
+  abbrev AreEnds : List Completion → Type 0
   AreEnds es = AllByRecursion (λ e. is_end_of ws e ≡ true) es
 
-  ends-append : (es fs : List Ended) → AreEnds es → AreEnds fs → AreEnds (es ++ fs)
+  ends-append : (es fs : List Completion) → AreEnds es → AreEnds fs → AreEnds (es ++ fs)
   ends-append [] fs first second = second
   ends-append (e ∷ es) fs first second = (first.0, ends-append es fs first.1 second)
 
@@ -209,9 +209,9 @@ module _ (ws : List Waiting) where
       (cases_Bool (list_any test ws))
 
   ends-by : (s : State) (w : Waiting) (d : Decision State) → IfGranted (Gives w.call) d → ((test : Waiting → Bool) → list_any test ws ≡ false → test w ≡ false) → AreEnds (ended_by s w.client d).ended
-  ends-by s w (Refuse rule) gives among = (one-end w (Err rule) refl among, tt)
-  ends-by s w Wait gives among = tt
-  ends-by s w (Grant answer new) gives among = (one-end w (Ok answer) gives among, tt)
+  ends-by s w (Refused rule) gives among = (one-end w (Err rule) refl among, tt)
+  ends-by s w Waits gives among = tt
+  ends-by s w (Granted answer new) gives among = (one-end w (Ok answer) gives among, tt)
 
   ends-waiting : (s : State) (w : Waiting) → AreAmong s.parked → first_ready s ≡ Some w → AreEnds (end_waiting s w).ended
   ends-waiting s w among first =
@@ -219,9 +219,9 @@ module _ (ws : List Waiting) where
       ends-by rest w (decide rest w.client w.call) (gives-decide rest w.client w.call) (λ test none. none-found test (is_ready s) s.parked w (among test none) first)
 
   kept-ended_by : (s : State) (client : ℕ) (d : Decision State) → Keeps s d → AreAmong s.parked → AreAmong (ended_by s client d).state.parked
-  kept-ended_by s client (Refuse rule) keeps among = among
-  kept-ended_by s client Wait keeps among = among
-  kept-ended_by s client (Grant answer new) keeps among = subst AreAmong (sym keeps.0) among
+  kept-ended_by s client (Refused rule) keeps among = among
+  kept-ended_by s client Waits keeps among = among
+  kept-ended_by s client (Granted answer new) keeps among = subst AreAmong (sym keeps.0) among
 
   among-waiting : (s : State) (w : Waiting) → AreAmong s.parked → AreAmong (end_waiting s w).state.parked
   among-waiting s w among =
@@ -238,16 +238,16 @@ module _ (ws : List Waiting) where
   ends-settle zero s among = tt
   ends-settle (suc n) s among = ends-settle_from n (ends-settle n) s (first_ready s) refl among
 
-  ends-told : (w : Waiting) (o : Option Rule) (es : List Ended) → ((test : Waiting → Bool) → list_any test ws ≡ false → test w ≡ false) → AreEnds es → AreEnds (told_cancelled w.client o ++ es)
+  ends-told : (w : Waiting) (o : Option Rule) (es : List Completion) → ((test : Waiting → Bool) → list_any test ws ≡ false → test w ≡ false) → AreEnds es → AreEnds (ended_by_rule w.client o ++ es)
   ends-told w None es among rest = rest
   ends-told w (Some rule) es among rest = (one-end w (Err rule) refl among, rest)
 
-  ends-cancelled : (f : Waiting → Option Rule) (vs : List Waiting) → AreAmong vs → AreEnds (flat_map (λ w. told_cancelled w.client (f w)) vs)
+  ends-cancelled : (f : Waiting → Option Rule) (vs : List Waiting) → AreAmong vs → AreEnds (flat_map (λ w. ended_by_rule w.client (f w)) vs)
   ends-cancelled f [] among = tt
   ends-cancelled f (v ∷ vs) among =
       let first : (test : Waiting → Bool) → list_any test ws ≡ false → test v ≡ false = λ test none. (or_parts (test v) (list_any test vs) (among test none)).0 in
       let later : AreAmong vs = λ test none. (or_parts (test v) (list_any test vs) (among test none)).1 in
-      ends-told v (f v) (flat_map (λ w. told_cancelled w.client (f w)) vs) first (ends-cancelled f vs later)
+      ends-told v (f v) (flat_map (λ w. ended_by_rule w.client (f w)) vs) first (ends-cancelled f vs later)
 
 -- the calls that a grant ends
 ends-granted : (s new : State) (call : Call) → new.parked ≡ s.parked → AreEnds s.parked ((cancel new call).ended ++ (settled (cancel new call).state).ended)
@@ -258,12 +258,12 @@ ends-granted s new call kept =
     (ends-settle s.parked (length m.state.parked) m.state (among-filter s.parked (λ w. is_none (cancelled new call w)) new.parked among))
 
 ends-entered : (s : State) (client : ℕ) (call : Call) (d : Decision State) → d ≡ decide_call s client call → Keeps s d → IsQuiet s → AreEnds s.parked (entered s client call d).ended
-ends-entered s client call (Refuse rule) is keeps quiet = ends-settle s.parked (length s.parked) s (λ test none. none)
-ends-entered s client call Wait is keeps quiet = subst (AreEnds s.parked) (sym (ends_none s client call Wait is quiet refl)) tt
-ends-entered s client call (Grant answer new) is keeps quiet = ends-granted s new call keeps.0
+ends-entered s client call (Refused rule) is keeps quiet = ends-settle s.parked (length s.parked) s (λ test none. none)
+ends-entered s client call Waits is keeps quiet = subst (AreEnds s.parked) (sym (ends_none s client call Waits is quiet refl)) tt
+ends-entered s client call (Granted answer new) is keeps quiet = ends-granted s new call keeps.0
 
 -- an end among fewer is one among all
-ends-fewer : (ws vs : List Waiting) → AreAmong ws vs → (es : List Ended) → AreEnds vs es → AreEnds ws es
+ends-fewer : (ws vs : List Waiting) → AreAmong ws vs → (es : List Completion) → AreEnds vs es → AreEnds ws es
 ends-fewer ws vs among [] ends = tt
 ends-fewer ws vs among (e ∷ es) ends = (
   ⊎_elim
@@ -274,7 +274,7 @@ ends-fewer ws vs among (e ∷ es) ends = (
 )
 
 -- as a property of each element
-all-ends : (ws : List Waiting) (es : List Ended) → AreEnds ws es → All (λ e. is_end_of ws e ≡ true) es
+all-ends : (ws : List Waiting) (es : List Completion) → AreEnds ws es → All (λ e. is_end_of ws e ≡ true) es
 all-ends ws [] ends = All-nil (λ e. is_end_of ws e ≡ true)
 all-ends ws (e ∷ es) ends = All-cons (λ f. is_end_of ws f ≡ true) e es ends.0 (all-ends ws es ends.1)
 

@@ -10,17 +10,17 @@ use Rattle.std.proofs.lemmas.List.Elements.{All-nil, All-cons}
 use Rattle.std.proofs.lemmas.Bool.{true≢false, or_parts, cases_Bool, eq-eqb, eqb-true}
 use Rattle.ipc_call.specs.declared.calls.Call.{Call}
 use Rattle.ipc_call.specs.declared.replies.Waiting.{Waiting}
-use Rattle.ipc_call.specs.declared.replies.Ended.{Ended}
+use Rattle.ipc_call.specs.declared.replies.Completion.{Completion}
 use Rattle.ipc_call.specs.declared.rules.Rule.{Rule}
 use Rattle.ipc_model.specs.State.{State, opening, is_waiting}
-use Rattle.ipc_model.specs.Decision.{Decision, Refuse, Wait, Grant, proceeds}
+use Rattle.ipc_model.specs.Decision.{Decision, Refused, Waits, Granted, proceeds}
 use Rattle.ipc_model.specs.Decide.{decide, decide_call}
 use Rattle.ipc_model.specs.Cancelled.{cancelled}
-use Rattle.ipc_model.specs.Step.{Event, Moved, Stepped, at_time, begun, expire, expired, waiting_as, end_waiting, ended_by, first_ready, cancelled_by, is_ready, settle, settle_from, settled, state_by, step, told_cancelled, without}
+use Rattle.ipc_model.specs.Step.{Event, Moved, Stepped, at_time, begun, expire, expired, waiting_as, end_waiting, ended_by, first_ready, cancelled_by, is_ready, settle, settle_from, settled, state_by, step, ended_by_rule, without}
 use Rattle.ipc_model.specs.Decision.{Outcome, outcome_of}
-use Rattle.ipc_history.specs.History.{AreLegalFrom, History, IsLegal, IsLegalAt, Told, answers_from, answers, next_step, own, replies, reply_of, run, run_from, told_by, told_ended, told_own, with_event}
+use Rattle.ipc_history.specs.History.{AreLegalFrom, History, IsLegal, IsLegalAt, ReplyTo, answers_from, answers, next_step, own, replies, reply_of, run, run_from, replies_by, replies_to_ended, reply_to_own, with_event}
 use Rattle.ipc_call.specs.declared.replies.Reply.{Reply}
-use Rattle.ipc_space.specs.Telling.{told_to, told_of, replies_in}
+use Rattle.ipc_space.specs.Telling.{addressed, replies_of, replies_in}
 use Rattle.ipc_model.proofs.Calls.{Keeps-decide, parked_alike}
 use Rattle.ipc_model.proofs.Growing.{Keeps}
 use Rattle.ipc_model.proofs.Keeping.{Follows-step}
@@ -38,7 +38,7 @@ abbrev pub waits_of : ℕ → List Waiting → ℕ
 waits_of r [] = 0
 waits_of r (w ∷ ws) = cond (w.client == r) 1 0 + waits_of r ws
 
-abbrev pub ends_of : ℕ → List Ended → ℕ
+abbrev pub ends_of : ℕ → List Completion → ℕ
 ends_of r [] = 0
 ends_of r (e ∷ es) = cond (e.client == r) 1 0 + ends_of r es
 
@@ -50,7 +50,7 @@ waits-append : (r : ℕ) (a b : List Waiting) → waits_of r (a ++ b) ≡ waits_
 waits-append r [] b = omega arith
 waits-append r (w ∷ a) b = let rest = waits-append r a b in omega (arith, rest)
 
-ends-append : (r : ℕ) (a b : List Ended) → ends_of r (a ++ b) ≡ ends_of r a + ends_of r b
+ends-append : (r : ℕ) (a b : List Completion) → ends_of r (a ++ b) ≡ ends_of r a + ends_of r b
 ends-append r [] b = omega arith
 ends-append r (w ∷ a) b = let rest = ends-append r a b in omega (arith, rest)
 
@@ -60,23 +60,23 @@ waits-others r test ws w at =
     let all = ap (waits_of r) at.is ∙ waits-append r at.before (w ∷ at.after) in
     omega (arith, left, all)
 
-cancel-one : (r : ℕ) (w : Waiting) (o : Option Rule) (ws rest : List Waiting) (es : List Ended) → waits_of r rest + ends_of r es ≡ waits_of r ws
-    → waits_of r (cond (is_none o) (w ∷ rest) rest) + ends_of r (told_cancelled w.client o ++ es) ≡ cond (w.client == r) 1 0 + waits_of r ws
+cancel-one : (r : ℕ) (w : Waiting) (o : Option Rule) (ws rest : List Waiting) (es : List Completion) → waits_of r rest + ends_of r es ≡ waits_of r ws
+    → waits_of r (cond (is_none o) (w ∷ rest) rest) + ends_of r (ended_by_rule w.client o ++ es) ≡ cond (w.client == r) 1 0 + waits_of r ws
 cancel-one r w None ws rest es even = omega (arith, even)
 cancel-one r w (Some rule) ws rest es even = omega (arith, even)
 
-cancel-all : (r : ℕ) (f : Waiting → Option Rule) (ws : List Waiting) → waits_of r (filter (λ w. is_none (f w)) ws) + ends_of r (flat_map (λ w. told_cancelled w.client (f w)) ws) ≡ waits_of r ws
+cancel-all : (r : ℕ) (f : Waiting → Option Rule) (ws : List Waiting) → waits_of r (filter (λ w. is_none (f w)) ws) + ends_of r (flat_map (λ w. ended_by_rule w.client (f w)) ws) ≡ waits_of r ws
 cancel-all r f [] = omega arith
-cancel-all r f (w ∷ ws) = cancel-one r w (f w) ws (filter (λ v. is_none (f v)) ws) (flat_map (λ v. told_cancelled v.client (f v)) ws) (cancel-all r f ws)
+cancel-all r f (w ∷ ws) = cancel-one r w (f w) ws (filter (λ v. is_none (f v)) ws) (flat_map (λ v. ended_by_rule v.client (f v)) ws) (cancel-all r f ws)
 
 -- what leaves the list is told
 abbrev IsEven : ℕ → State → Moved → Type 0
 IsEven r s m = waits_of r m.state.parked + ends_of r m.ended ≡ waits_of r s.parked
 
 even-ended_by : (r : ℕ) (s : State) (client : ℕ) (d : Decision State) → proceeds d ≡ true → Keeps s d → waits_of r (ended_by s client d).state.parked + ends_of r (ended_by s client d).ended ≡ waits_of r s.parked + cond (client == r) 1 0
-even-ended_by r s client (Refuse rule) goes keeps = omega arith
-even-ended_by r s client Wait goes keeps = absurd (true≢false (sym goes))
-even-ended_by r s client (Grant answer new) goes keeps = let same = ap (waits_of r) keeps.0 in omega (arith, same)
+even-ended_by r s client (Refused rule) goes keeps = omega arith
+even-ended_by r s client Waits goes keeps = absurd (true≢false (sym goes))
+even-ended_by r s client (Granted answer new) goes keeps = let same = ap (waits_of r) keeps.0 in omega (arith, same)
 
 even-end_waiting : (r : ℕ) (s : State) (w : Waiting) → AreApart s.parked → first_ready s ≡ Some w → IsEven r s (end_waiting s w)
 even-end_waiting r s w apart first =
@@ -99,14 +99,14 @@ even-settle r zero s apart = omega arith
 even-settle r (suc n) s apart = even-settle_from r n (even-settle r n) s (first_ready s) apart refl
 
 even-state_by : (r : ℕ) (s : State) (client : ℕ) (call : Call) (d : Decision State) → Keeps s d → waits_of r (state_by s client call d).parked + own_told r client (outcome_of d) ≡ waits_of r s.parked + cond (client == r) 1 0
-even-state_by r s client call (Refuse rule) keeps = refl
-even-state_by r s client call Wait keeps = let one = waits-append r s.parked (waiting_as s client call ∷ []) in omega (arith, one)
-even-state_by r s client call (Grant answer new) keeps = let same = ap (waits_of r) keeps.0 in omega (arith, same)
+even-state_by r s client call (Refused rule) keeps = refl
+even-state_by r s client call Waits keeps = let one = waits-append r s.parked (waiting_as s client call ∷ []) in omega (arith, one)
+even-state_by r s client call (Granted answer new) keeps = let same = ap (waits_of r) keeps.0 in omega (arith, same)
 
 even-cancelled_by : (r : ℕ) (s : State) (call : Call) (d : Decision State) → IsEven r s (cancelled_by s call d)
-even-cancelled_by r s call (Refuse rule) = omega arith
-even-cancelled_by r s call Wait = omega arith
-even-cancelled_by r s call (Grant answer new) = cancel-all r (cancelled s call) s.parked
+even-cancelled_by r s call (Refused rule) = omega arith
+even-cancelled_by r s call Waits = omega arith
+even-cancelled_by r s call (Granted answer new) = cancel-all r (cancelled s call) s.parked
 
 -- an event: its own call is told or waits, and what leaves the list is told
 pub even-step : (r : ℕ) (s : State) (e : Event) → IsLegalAt s e → AreApart s.parked → waits_of r (step s e).state.parked + (own_told r e.client (step s e).own + ends_of r (step s e).ended) ≡ waits_of r s.parked + cond (e.client == r) 1 0
@@ -124,8 +124,8 @@ even-step r s e legal apart =
     let both = ends-append r early (m.ended ++ (settled m.state).ended) in
     omega (arith, expires, first, rest, both)
 
-abbrev pub tolds_of : ℕ → List Told → ℕ
-tolds_of r ts = length (filter (λ (t : Told). t.client == r) ts)
+abbrev pub tolds_of : ℕ → List ReplyTo → ℕ
+tolds_of r ts = length (filter (λ (t : ReplyTo). t.client == r) ts)
 
 pub length-filter_if : {X : Type 0} (b : Bool) (x : X) (xs : List X) → length (cond b (x ∷ xs) xs) ≡ cond b 1 0 + length xs
 length-filter_if true x xs = omega arith
@@ -139,22 +139,22 @@ filter-append {X} p (x ∷ a) b = ap (λ (l : List X). cond (p x) (x ∷ l) l) (
     behind true l k = refl
     behind false l k = refl
 
-tolds-own : (r client place : ℕ) (o : Option Outcome) → tolds_of r (told_own client place o) ≡ own_told r client o
+tolds-own : (r client place : ℕ) (o : Option Outcome) → tolds_of r (reply_to_own client place o) ≡ own_told r client o
 tolds-own r client place None = refl
-tolds-own r client place (Some o) = let one = length-filter_if {X = Told} (client == r) (record { client = client; place = place; turn = 0; outcome = o }) [] in omega (arith, one)
+tolds-own r client place (Some o) = let one = length-filter_if {X = ReplyTo} (client == r) (record { client = client; place = place; turn = 0; outcome = o }) [] in omega (arith, one)
 
-tolds-ended : (r place turn : ℕ) (es : List Ended) → tolds_of r (told_ended place turn es) ≡ ends_of r es
+tolds-ended : (r place turn : ℕ) (es : List Completion) → tolds_of r (replies_to_ended place turn es) ≡ ends_of r es
 tolds-ended r place turn [] = refl
 tolds-ended r place turn (e ∷ es) =
-    let one = length-filter_if {X = Told} (e.client == r) (record { client = e.client; place = place; turn = turn; outcome = e.outcome }) (filter (λ (t : Told). t.client == r) (told_ended place (turn + 1) es)) in
+    let one = length-filter_if {X = ReplyTo} (e.client == r) (record { client = e.client; place = place; turn = turn; outcome = e.outcome }) (filter (λ (t : ReplyTo). t.client == r) (replies_to_ended place (turn + 1) es)) in
     let rest = tolds-ended r place (turn + 1) es in omega (arith, one, rest)
 
-pub tolds-append : (r : ℕ) (a b : List Told) → tolds_of r (a ++ b) ≡ tolds_of r a + tolds_of r b
-tolds-append r a b = ap length (filter-append (λ (t : Told). t.client == r) a b) ∙ length-append (filter (λ (t : Told). t.client == r) a) (filter (λ (t : Told). t.client == r) b)
+pub tolds-append : (r : ℕ) (a b : List ReplyTo) → tolds_of r (a ++ b) ≡ tolds_of r a + tolds_of r b
+tolds-append r a b = ap length (filter-append (λ (t : ReplyTo). t.client == r) a b) ∙ length-append (filter (λ (t : ReplyTo). t.client == r) a) (filter (λ (t : ReplyTo). t.client == r) b)
 
-pub tolds-by : (r client place : ℕ) (m : Stepped) → tolds_of r (told_by client place m) ≡ own_told r client m.own + ends_of r m.ended
+pub tolds-by : (r client place : ℕ) (m : Stepped) → tolds_of r (replies_by client place m) ≡ own_told r client m.own + ends_of r m.ended
 tolds-by r client place m =
-    let both = tolds-append r (told_own client place m.own) (told_ended place 1 m.ended) in
+    let both = tolds-append r (reply_to_own client place m.own) (replies_to_ended place 1 m.ended) in
     let one = tolds-own r client place m.own in
     let rest = tolds-ended r place 1 m.ended in omega (arith, both, one, rest)
 
@@ -168,7 +168,7 @@ even-run_from r place s (e ∷ es) legal apart =
     let calls = length-filter_if (e.client == r) e (events_of r es) in
     let one = even-step r s e legal.0 apart in
     let told = tolds-by r e.client place (step s e) in
-    let both = tolds-append r (told_by e.client place (step s e)) (answers_from (place + 1) later es) in
+    let both = tolds-append r (replies_by e.client place (step s e)) (answers_from (place + 1) later es) in
     let rest = even-run_from r (place + 1) later es legal.1 (apart-step s e legal.0 apart) in
     omega (arith, calls, one, told, both, rest)
 
@@ -177,7 +177,7 @@ pub even_run : (h : History) (r : ℕ) → IsLegal h → length (own h r) ≡ le
 even_run h r legal =
     let even = even-run_from r 1 (opening h.limits h.clients) h.events legal none_apart in
     let calls = length-map {B = ℕ × Call} (events_of r h.events) (λ (e : Event). (e.now, e.call)) in
-    let told = length-map (filter (λ (t : Told). t.client == r) (answers h)) reply_of in
+    let told = length-map (filter (λ (t : ReplyTo). t.client == r) (answers h)) reply_of in
     omega (arith, even, calls, told)
 
 -- who doesn't wait has no call that waits
@@ -224,20 +224,20 @@ map_if : {X Y : Type 0} (f : X → Y) (b : Bool) (x : X) (xs : List X) → map f
 map_if f true x xs = refl
 map_if f false x xs = refl
 
-in-told : (r : ℕ) (ts : List Told) → replies_in (map told_to ts) r ≡ map reply_of (filter (λ (t : Told). t.client == r) ts)
+in-told : (r : ℕ) (ts : List ReplyTo) → replies_in (map addressed ts) r ≡ map reply_of (filter (λ (t : ReplyTo). t.client == r) ts)
 in-told r [] = refl
 in-told r (t ∷ ts) =
-    map_if {X = ℕ × Reply} (λ x. x.1) (t.client == r) (told_to t) (filter (λ x. x.0 == r) (map told_to ts))
+    map_if {X = ℕ × Reply} (λ x. x.1) (t.client == r) (addressed t) (filter (λ x. x.0 == r) (map addressed ts))
     ∙ ap (λ l. cond (t.client == r) (reply_of t ∷ l) l) (in-told r ts)
-    ∙ sym (map_if reply_of (t.client == r) t (filter (λ (t : Told). t.client == r) ts))
+    ∙ sym (map_if reply_of (t.client == r) t (filter (λ (t : ReplyTo). t.client == r) ts))
 
-told_count : (h : History) (e : Event) (r : ℕ) → length (replies_in (told_of h e) r) ≡ own_told r e.client (next_step h e).own + ends_of r (next_step h e).ended
+told_count : (h : History) (e : Event) (r : ℕ) → length (replies_in (replies_of h e) r) ≡ own_told r e.client (next_step h e).own + ends_of r (next_step h e).ended
 told_count h e r =
-    let ts = told_by e.client (length h.events + 1) (next_step h e) in
-    ap length (in-told r ts) ∙ length-map {B = Reply} (filter (λ (t : Told). t.client == r) ts) reply_of ∙ tolds-by r e.client (length h.events + 1) (next_step h e)
+    let ts = replies_by e.client (length h.events + 1) (next_step h e) in
+    ap length (in-told r ts) ∙ length-map {B = Reply} (filter (λ (t : ReplyTo). t.client == r) ts) reply_of ∙ tolds-by r e.client (length h.events + 1) (next_step h e)
 
 -- it tells a client one thing at most
-pub told_once : (h : History) (e : Event) (r : ℕ) → IsLegal (with_event h e) → length (replies_in (told_of h e) r) ≤ 1
+pub told_once : (h : History) (e : Event) (r : ℕ) → IsLegal (with_event h e) → length (replies_in (replies_of h e) r) ≤ 1
 told_once h e r legal =
     let before = legal_before h e legal in
     let few = few-run r (opening h.limits h.clients) h.events before.0 none_apart (omega arith) in
@@ -266,9 +266,9 @@ none_of (x ∷ l) few = absurd (omega (arith, few))
 pub caller-apart : (h : History) (e : Event) (place : ℕ) → IsLegal (with_event h e) → replies_in (other_replies place (next_step h e).ended) e.client ≡ []
 caller-apart h e place legal =
     let ended = (next_step h e).ended in
-    let told = told_ended place 1 ended in
+    let told = replies_to_ended place 1 ended in
     let few : tolds_of e.client told ≡ 0 = tolds-ended e.client place 1 ended ∙ caller-ends h e (next_step h e).own legal refl in
-    in-told e.client told ∙ ap (map reply_of) (none_of (filter (λ (t : Told). t.client == e.client) told) few)
+    in-told e.client told ∙ ap (map reply_of) (none_of (filter (λ (t : ReplyTo). t.client == e.client) told) few)
 
 -- and none but clients of the namespace
 abbrev NoneWait : ℕ → State → Type 0
@@ -299,13 +299,13 @@ all_known n (t ∷ l) none = All-cons (λ (t : ℕ × Reply). t.0 < n) t l
     shorter r true none = absurd (omega (arith, none))
     shorter r false none = none
 
-pub told_known : (h : History) (e : Event) → IsLegal (with_event h e) → All (λ t. t.0 < length h.clients) (told_of h e)
+pub told_known : (h : History) (e : Event) → IsLegal (with_event h e) → All (λ t. t.0 < length h.clients) (replies_of h e)
 told_known h e legal =
     let before = legal_before h e legal in
     let start = opening h.limits h.clients in
     let same = clients-run start h.events in
     let known = before.1.known in
-    all_known (length h.clients) (told_of h e) (λ r above. let now = none-step (length h.clients) (run h) e (omega (arith, same, known)) before.1 (apart-run h before.0) (none-run start h.events before.0 none_apart (λ q far. refl)) r above in let count = told_count h e r in omega (arith, now, count))
+    all_known (length h.clients) (replies_of h e) (λ r above. let now = none-step (length h.clients) (run h) e (omega (arith, same, known)) before.1 (apart-run h before.0) (none-run start h.events before.0 none_apart (λ q far. refl)) r above in let count = told_count h e r in omega (arith, now, count))
 
 -- what one more event adds to a client's calls and replies
 pub own_push : (h : History) (e : Event) (r : ℕ) → own (with_event h e) r ≡ own h r ++ cond (e.client == r) ((e.now, e.call) ∷ []) []
@@ -314,22 +314,22 @@ own_push h e r =
     ∙ map-append (λ (x : Event). (x.now, x.call)) (filter (λ (x : Event). x.client == r) h.events) (filter (λ (x : Event). x.client == r) (e ∷ []))
     ∙ ap (λ l. own h r ++ l) (map_if {X = Event} (λ (x : Event). (x.now, x.call)) (e.client == r) e [])
 
-answers-push : (place : ℕ) (s : State) (es : List Event) (e : Event) → answers_from place s (es ++ e ∷ []) ≡ answers_from place s es ++ told_by e.client (length es + place) (step (run_from s es) e)
+answers-push : (place : ℕ) (s : State) (es : List Event) (e : Event) → answers_from place s (es ++ e ∷ []) ≡ answers_from place s es ++ replies_by e.client (length es + place) (step (run_from s es) e)
 answers-push place s [] e =
     let same : place ≡ 0 + place = omega arith in
-    append-nil (told_by e.client place (step s e)) ∙ ap (λ n. told_by e.client n (step s e)) same
+    append-nil (replies_by e.client place (step s e)) ∙ ap (λ n. replies_by e.client n (step s e)) same
 answers-push place s (x ∷ es) e =
     let later = (step s x).state in
     let same : length es + (place + 1) ≡ suc (length es) + place = omega arith in
-    ap (λ l. told_by x.client place (step s x) ++ l) (answers-push (place + 1) later es e ∙ ap (λ n. answers_from (place + 1) later es ++ told_by e.client n (step (run_from later es) e)) same)
-    ∙ sym (append_assoc (told_by x.client place (step s x)) (answers_from (place + 1) later es) (told_by e.client (suc (length es) + place) (step (run_from later es) e)))
+    ap (λ l. replies_by x.client place (step s x) ++ l) (answers-push (place + 1) later es e ∙ ap (λ n. answers_from (place + 1) later es ++ replies_by e.client n (step (run_from later es) e)) same)
+    ∙ sym (append_assoc (replies_by x.client place (step s x)) (answers_from (place + 1) later es) (replies_by e.client (suc (length es) + place) (step (run_from later es) e)))
 
-pub replies_push : (h : History) (e : Event) (r : ℕ) → replies (with_event h e) r ≡ replies h r ++ replies_in (told_of h e) r
+pub replies_push : (h : History) (e : Event) (r : ℕ) → replies (with_event h e) r ≡ replies h r ++ replies_in (replies_of h e) r
 replies_push h e r =
-    let more = told_by e.client (length h.events + 1) (next_step h e) in
-    ap (λ (l : List Told). map reply_of (filter (λ (t : Told). t.client == r) l)) (answers-push 1 (opening h.limits h.clients) h.events e)
-    ∙ ap (λ (l : List Told). map reply_of l) (filter-append (λ (t : Told). t.client == r) (answers h) more)
-    ∙ map-append reply_of (filter (λ (t : Told). t.client == r) (answers h)) (filter (λ (t : Told). t.client == r) more)
+    let more = replies_by e.client (length h.events + 1) (next_step h e) in
+    ap (λ (l : List ReplyTo). map reply_of (filter (λ (t : ReplyTo). t.client == r) l)) (answers-push 1 (opening h.limits h.clients) h.events e)
+    ∙ ap (λ (l : List ReplyTo). map reply_of l) (filter-append (λ (t : ReplyTo). t.client == r) (answers h) more)
+    ∙ map-append reply_of (filter (λ (t : ReplyTo). t.client == r) (answers h)) (filter (λ (t : ReplyTo). t.client == r) more)
     ∙ ap (λ l. replies h r ++ l) (sym (in-told r more))
 
 pub no_more_replies : (h : History) (r : ℕ) → IsLegal h → length (replies h r) ≤ length (own h r)

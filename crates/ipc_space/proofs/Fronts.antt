@@ -7,7 +7,7 @@ use Rattle.std.proofs.lemmas.Option.{get_or_from_slice_get, none-some, same_Some
 use Rattle.ipc_call.specs.declared.replies.JournalRow.{JournalRow}
 use Rattle.ipc_model.specs.State.{State}
 use Rattle.ipc_model.specs.Step.{Event, step}
-use Rattle.ipc_history.specs.History.{AreLegalFrom, Told, answered_row, rows_from, run_from, told_by}
+use Rattle.ipc_history.specs.History.{AreLegalFrom, ReplyTo, answered_row, rows_from, run_from, replies_by}
 use Rattle.ipc_space.specs.Following.{IsAnswered, call_row}
 
 module _ {X : Type 0} where
@@ -65,7 +65,7 @@ event_of e f same =
 
 -- the rows of an event behind its call
 abbrev pub answer_rows : ℕ → State → Event → List JournalRow
-answer_rows place s e = map answered_row (told_by e.client place (step s e))
+answer_rows place s e = map answered_row (replies_by e.client place (step s e))
 
 pub fronts : (place : ℕ) (s : State) (es fs : List Event) (zs : List JournalRow) → rows_from place s fs ≡ rows_from place s es ++ zs → (gs : List Event) × (fs ≡ es ++ gs)
 unfolding tail head_or
@@ -83,13 +83,13 @@ pub legal-append : (s : State) (es fs : List Event) → AreLegalFrom s (es ++ fs
 legal-append s [] fs legal = legal
 legal-append s (e ∷ es) fs legal = legal-append (step s e).state es fs legal.1
 
-all-answers : (ts : List Told) (k : ℕ) → IfSome (slice_get (map answered_row ts) k) (λ row. IsAnswered row)
+all-answers : (ts : List ReplyTo) (k : ℕ) → IfSome (slice_get (map answered_row ts) k) (λ row. IsAnswered row)
 all-answers [] k = tt
 all-answers (t ∷ ts) zero = tt
 all-answers (t ∷ ts) (suc k) = all-answers ts k
 
 -- what stands behind a call at the end of the rows is an answer
-pub behind-call : (front : List JournalRow) (row : JournalRow) (ts : List Told) (k : ℕ) → length front < k → IfSome (slice_get (front ++ row ∷ map answered_row ts) k) (λ r. IsAnswered r)
+pub behind-call : (front : List JournalRow) (row : JournalRow) (ts : List ReplyTo) (k : ℕ) → length front < k → IfSome (slice_get (front ++ row ∷ map answered_row ts) k) (λ r. IsAnswered r)
 behind-call [] row ts zero above = absurd (omega (arith, above))
 behind-call [] row ts (suc k) above = all-answers ts k
 behind-call (x ∷ front) row ts zero above = absurd (omega (arith, above))

@@ -7,7 +7,7 @@ use Rattle.ipc_creds.specs.Credentials.{Credentials}
 use Rattle.ipc_model.specs.State.{State, opening}
 use Rattle.ipc_model.specs.Step.{Event, Stepped, step}
 use Rattle.ipc_model.proofs.Keeping.{Follows-step}
-use Rattle.ipc_history.specs.History.{AreLegalFrom, History, IsLegal, IsLegalAt, Told, answered_row, rows_by, rows_from, rows_of, run, run_from, told_by, told_ended, told_own, with_event}
+use Rattle.ipc_history.specs.History.{AreLegalFrom, History, IsLegal, IsLegalAt, ReplyTo, answered_row, rows_by, rows_from, rows_of, run, run_from, replies_by, replies_to_ended, reply_to_own, with_event}
 use Rattle.ipc_space.specs.Spaces.{IsOfHistory, events_in, history_in}
 
 run_from-push : (s : State) (es : List Event) (e : Event) → run_from s (es ++ e ∷ []) ≡ (step (run_from s es) e).state
@@ -43,7 +43,7 @@ events_in-append [] b = refl
 events_in-append (Called client now call ∷ a) b = ap (λ es. record { client = client; now = now; call = call } ∷ es) (events_in-append a b)
 events_in-append (Answered client place turn rule ∷ a) b = events_in-append a b
 
-events_in-answered : (ts : List Told) → events_in (map answered_row ts) ≡ []
+events_in-answered : (ts : List ReplyTo) → events_in (map answered_row ts) ≡ []
 events_in-answered [] = refl
 events_in-answered (t ∷ ts) = events_in-answered ts
 
@@ -55,10 +55,10 @@ length-events_in (Answered client place turn rule ∷ rows) = omega (arith, leng
 
 -- the rows as the code enters them: the call, its own answer, the other answers
 pub rows_by-entered : (rows : List JournalRow) (place : ℕ) (e : Event) (stepped : Stepped)
-    → ((rows ++ Called e.client e.now e.call ∷ []) ++ map answered_row (told_own e.client place stepped.own)) ++ map answered_row (told_ended place 1 stepped.ended) ≡ rows ++ rows_by place e stepped
+    → ((rows ++ Called e.client e.now e.call ∷ []) ++ map answered_row (reply_to_own e.client place stepped.own)) ++ map answered_row (replies_to_ended place 1 stepped.ended) ≡ rows ++ rows_by place e stepped
 rows_by-entered rows place e stepped =
-    let own = told_own e.client place stepped.own in
-    let others = told_ended place 1 stepped.ended in
+    let own = reply_to_own e.client place stepped.own in
+    let others = replies_to_ended place 1 stepped.ended in
     let call = Called e.client e.now e.call ∷ [] in
     append_assoc (rows ++ call) (map answered_row own) (map answered_row others)
     ∙ append_assoc rows call (map answered_row own ++ map answered_row others)
@@ -72,7 +72,7 @@ IsOfHistory-push s clients journal longer count e stepped is legal steps limits 
     let h = history_in s.limits clients journal in
     let start = opening h.limits h.clients in
     let events : events_in longer ≡ h.events ++ e ∷ [] =
-    ap events_in rows ∙ events_in-append journal (rows_by (count + 1) e stepped) ∙ ap (λ es. h.events ++ (e ∷ es)) (events_in-answered (told_by e.client (count + 1) stepped)) in
+    ap events_in rows ∙ events_in-append journal (rows_by (count + 1) e stepped) ∙ ap (λ es. h.events ++ (e ∷ es)) (events_in-answered (replies_by e.client (count + 1) stepped)) in
     let longer_now : history_in stepped.state.limits clients longer ≡ with_event h e = λ i. record { limits = limits i; clients = clients; events = events i } in
     let runs : step (run h) e ≡ stepped = ap (λ (x : State). step x e) (sym is.state) ∙ steps in
     let reached : stepped.state ≡ run (with_event h e) = sym (ap (λ (x : Stepped). x.state) runs) ∙ sym (run_from-push start h.events e) in

@@ -11,7 +11,7 @@ use Rattle.ipc_call.specs.declared.replies.JournalRow.{JournalRow}
 use Rattle.ipc_creds.specs.Credentials.{Credentials}
 use Rattle.ipc_model.specs.State.{State, opening}
 use Rattle.ipc_model.specs.Step.{Event, step}
-use Rattle.ipc_history.specs.History.{AreLegalFrom, History, IsLegalAt, rows_by, rows_from, rows_of, run, told_by, with_event}
+use Rattle.ipc_history.specs.History.{AreLegalFrom, History, IsLegalAt, rows_by, rows_from, rows_of, run, replies_by, with_event}
 use Rattle.ipc_space.specs.Replays.{AreNoJournal, IsHistoryOf, IsPrefix}
 use Rattle.ipc_space.specs.Following.{Enters, IsAnswered, call_row}
 use Rattle.ipc_space.proofs.Fronts.{answer_rows, append-one, behind-call, event_of, fronts, get-append, get-take, head-cons, head_or, legal-append, nil≢cons, take-longer, take-next, take-one_more}
@@ -110,7 +110,7 @@ module _ (limits : Limits) (clients : List Credentials) (journal : List JournalR
     answers_behind k above =
         let front = taken in
         subst (λ (l : List JournalRow). IfSome (slice_get l k) (λ row. IsAnswered row)) (sym longer-rows)
-        (behind-call (take n journal) (call_row e) (told_by e.client (length h.events + 1) (step (run h) e)) k (omega (arith, above, front)))
+        (behind-call (take n journal) (call_row e) (replies_by e.client (length h.events + 1) (step (run h) e)) k (omega (arith, above, front)))
 
     pub long_enough : n + 1 ≤ length (rows_of longer)
     long_enough =

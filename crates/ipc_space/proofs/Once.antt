@@ -5,7 +5,7 @@ use Rattle.std.specs.List.{IsDistinct}
 use Rattle.ipc_call.specs.declared.calls.Call.{Call}
 use Rattle.ipc_call.specs.declared.replies.Waiting.{Waiting}
 use Rattle.ipc_model.specs.State.{State, opening, is_waiting}
-use Rattle.ipc_model.specs.Decision.{Decision, Refuse, Wait, Grant}
+use Rattle.ipc_model.specs.Decision.{Decision, Refused, Waits, Granted}
 use Rattle.ipc_model.specs.Decide.{decide, decide_call}
 use Rattle.ipc_model.specs.Cancelled.{cancelled}
 use Rattle.ipc_history.specs.History.{AreLegalFrom, History, IsLegal, IsLegalAt, run, run_from}
@@ -17,9 +17,9 @@ use Rattle.ipc_namespace.proofs.Parked.{apart-filter, apart-push, distinct, list
 use Rattle.ipc_model.proofs.Late.{Keeps-call}
 
 apart-ended_by : (s : State) (client : ℕ) (d : Decision State) → Keeps s d → AreApart s.parked → AreApart (ended_by s client d).state.parked
-apart-ended_by s client (Refuse rule) keeps apart = apart
-apart-ended_by s client Wait keeps apart = apart
-apart-ended_by s client (Grant answer new) keeps apart = subst AreApart (sym keeps.0) apart
+apart-ended_by s client (Refused rule) keeps apart = apart
+apart-ended_by s client Waits keeps apart = apart
+apart-ended_by s client (Granted answer new) keeps apart = subst AreApart (sym keeps.0) apart
 
 pub apart-end_waiting : (s : State) (w : Waiting) → AreApart s.parked → AreApart (end_waiting s w).state.parked
 apart-end_waiting s w apart =
@@ -35,14 +35,14 @@ apart-settle zero s apart = apart
 apart-settle (suc n) s apart = apart-settle_from n (apart-settle n) s (first_ready s) apart
 
 pub apart-state_by : (s : State) (client : ℕ) (call : Call) (d : Decision State) → Keeps s d → is_waiting s client ≡ false → AreApart s.parked → AreApart (state_by s client call d).parked
-apart-state_by s client call (Refuse rule) keeps free apart = apart
-apart-state_by s client call Wait keeps free apart = apart-push s.parked (waiting_as s client call) apart free
-apart-state_by s client call (Grant answer new) keeps free apart = subst AreApart (sym keeps.0) apart
+apart-state_by s client call (Refused rule) keeps free apart = apart
+apart-state_by s client call Waits keeps free apart = apart-push s.parked (waiting_as s client call) apart free
+apart-state_by s client call (Granted answer new) keeps free apart = subst AreApart (sym keeps.0) apart
 
 pub apart-cancelled_by : (s : State) (call : Call) (d : Decision State) → AreApart s.parked → AreApart (cancelled_by s call d).state.parked
-apart-cancelled_by s call (Refuse rule) apart = apart
-apart-cancelled_by s call Wait apart = apart
-apart-cancelled_by s call (Grant answer new) apart = apart-filter (λ w. is_none (cancelled s call w)) s.parked apart
+apart-cancelled_by s call (Refused rule) apart = apart
+apart-cancelled_by s call Waits apart = apart
+apart-cancelled_by s call (Granted answer new) apart = apart-filter (λ w. is_none (cancelled s call w)) s.parked apart
 
 pub apart-step : (s : State) (e : Event) → IsLegalAt s e → AreApart s.parked → AreApart (step s e).state.parked
 apart-step s e legal apart =

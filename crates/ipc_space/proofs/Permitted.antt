@@ -12,8 +12,8 @@ use Rattle.ipc_call.specs.declared.rules.Rule.{Rule}
 use Rattle.ipc_call.specs.declared.rules.Rule.TheVariants.{BadType, Ended, NoOperations, TextTooLong, TooManyOperations}
 use Rattle.ipc_creds.specs.Credentials.{Credentials}
 use Rattle.ipc_perm.specs.Access.{Permission, denial, to_alter, to_read}
-use Rattle.ipc_model.specs.State.{Caller, Queue, Queues, SemSet, Sems, State, caller, creds_at, has_ended}
-use Rattle.ipc_model.specs.Decision.{Decision, Refuse, proceeds}
+use Rattle.ipc_model.specs.State.{Caller, Queue, Queues, SemSet, Sems, State, caller, creds_at, has_exited}
+use Rattle.ipc_model.specs.Decision.{Decision, Refused, proceeds}
 use Rattle.ipc_model.specs.Plan.{decision, unless}
 use Rattle.ipc_model.specs.Messages.{queue_at, receive_found, receive_message, send_found, send_message, Send}
 use Rattle.ipc_model.specs.Semaphores.{operate, operate_found, set_at, wanted_by}
@@ -32,7 +32,7 @@ use Rattle.ipc_namespace.proofs.Own.{found-none}
 use Rattle.ipc_space.proofs.Quiet.{IsQuiet, quiet-run}
 use Rattle.ipc_laws.proofs.Deadlines.{in-time-run}
 
-passes-waits : {X : Type 0} (b : Bool) (rule : Rule) (d : Decision X) → proceeds (cond b d (Refuse rule)) ≡ false → proceeds d ≡ false
+passes-waits : {X : Type 0} (b : Bool) (rule : Rule) (d : Decision X) → proceeds (cond b d (Refused rule)) ≡ false → proceeds d ≡ false
 passes-waits true rule d waits = waits
 passes-waits false rule d waits = absurd (true≢false waits)
 
@@ -66,7 +66,7 @@ permitted-alive s client (MsgSnd id mtype text flags) can waits =
     let here = sym (proceeds-on c (λ queues. record s { queues = queues }) p) ∙ waits in
     ap (λ ns. first_denial c ns) (sender-needs s client id mtype text flags)
     ∙ sender-permitted s.queues who c id asked (queue_at s.queues id)
-    (passes-waits (nat_le (length text) s.limits.msg_max) TextTooLong rest (passes-waits (int_le (pos 1) mtype) BadType (cond (nat_le (length text) s.limits.msg_max) rest (Refuse TextTooLong)) here))
+    (passes-waits (nat_le (length text) s.limits.msg_max) TextTooLong rest (passes-waits (int_le (pos 1) mtype) BadType (cond (nat_le (length text) s.limits.msg_max) rest (Refused TextTooLong)) here))
 permitted-alive s client (MsgRcv id size msgtyp flags) can waits =
     let asked : Receive = record { size = size; msgtyp = msgtyp; flags = flags } in
     let c = creds_at s client in
@@ -82,7 +82,7 @@ permitted-alive s client (SemOp id ops) can waits =
     let few = nat_le (length ops) s.limits.sem_opm in
     ap (λ ns. first_denial c ns) (operator-needs s client id ops)
     ∙ operator-permitted s.sems who c id ops (set_at s.sems id)
-    (passes-waits few TooManyOperations rest (passes-waits (nat_lt 0 (length ops)) NoOperations (cond few rest (Refuse TooManyOperations))
+    (passes-waits few TooManyOperations rest (passes-waits (nat_lt 0 (length ops)) NoOperations (cond few rest (Refused TooManyOperations))
     (sym (proceeds-on c (λ sems. record s { sems = sems }) p) ∙ waits)))
 permitted-alive s client (SemTimedOp id ops timeout) can waits =
     let c = creds_at s client in
@@ -92,12 +92,12 @@ permitted-alive s client (SemTimedOp id ops timeout) can waits =
     let few = nat_le (length ops) s.limits.sem_opm in
     ap (λ ns. first_denial c ns) (timed-needs s client id ops timeout)
     ∙ operator-permitted s.sems who c id ops (set_at s.sems id)
-    (passes-waits few TooManyOperations rest (passes-waits (nat_lt 0 (length ops)) NoOperations (cond few rest (Refuse TooManyOperations))
+    (passes-waits few TooManyOperations rest (passes-waits (nat_lt 0 (length ops)) NoOperations (cond few rest (Refused TooManyOperations))
     (sym (proceeds-on c (λ sems. record s { sems = sems }) p) ∙ waits)))
 permitted-alive s client call can waits = absurd (true≢false (sym can))
 
 permitted : (s : State) (client : ℕ) (call : Call) → can_wait call ≡ true → proceeds (decide s client call) ≡ false → first_denial (creds_at s client) (needs s client call) ≡ None
-permitted s client call can waits = permitted-alive s client call can (passes-waits (not (has_ended s client)) Ended (decide_alive s client call) waits)
+permitted s client call can waits = permitted-alive s client call can (passes-waits (not (has_exited s client)) Ended (decide_alive s client call) waits)
 
 not_ready : (s : State) → IsQuiet s → AreNotReady s
 not_ready s quiet = found-none (is_ready s) s.parked quiet

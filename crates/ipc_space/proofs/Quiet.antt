@@ -8,7 +8,7 @@ use Rattle.ipc_call.specs.declared.calls.Call.{Call}
 use Rattle.ipc_call.specs.declared.replies.Waiting.{Waiting}
 use Rattle.ipc_call.specs.declared.rules.Rule.{Rule}
 use Rattle.ipc_model.specs.State.{State, opening}
-use Rattle.ipc_model.specs.Decision.{Decision, Refuse, Wait, Grant}
+use Rattle.ipc_model.specs.Decision.{Decision, Refused, Waits, Granted}
 use Rattle.ipc_model.specs.Decide.{decide}
 use Rattle.ipc_model.specs.Step.{Event, at_time, begun, expire, after, end_waiting, ended_by, entered, first_ready, is_ready, settle, settle_from, settled, step, without}
 use Rattle.ipc_model.specs.Decision.{outcome_of}
@@ -25,9 +25,9 @@ abbrev pub IsQuiet : State → Type 0
 IsQuiet s = first_ready s ≡ None
 
 pub kept-ended_by : (s : State) (client : ℕ) (d : Decision State) → Keeps s d → (ended_by s client d).state.parked ≡ s.parked
-kept-ended_by s client (Refuse rule) keeps = refl
-kept-ended_by s client Wait keeps = refl
-kept-ended_by s client (Grant answer new) keeps = keeps.0
+kept-ended_by s client (Refused rule) keeps = refl
+kept-ended_by s client Waits keeps = refl
+kept-ended_by s client (Granted answer new) keeps = keeps.0
 
 no-longer : (test : Waiting → Bool) (ws : List Waiting) → length (filter test ws) ≤ length ws
 no-longer test [] = omega arith
@@ -92,9 +92,9 @@ quiet-run h = quiet-run_from (opening h.limits h.clients) h.events refl
 -- a call that is refused, in a quiet state: nothing else changes
 refused-entered : (s : State) (client : ℕ) (call : Call) (d : Decision State) (rule : Rule) → IsQuiet s → outcome_of d ≡ Some (Err rule)
     → entered s client call d ≡ record { state = s; own = Some (Err rule); ended = [] }
-refused-entered s client call (Refuse other) rule quiet own = λ i. record { state = (settled-none s quiet i).state; own = own i; ended = (settled-none s quiet i).ended }
-refused-entered s client call Wait rule quiet own = absurd (none-some _ own)
-refused-entered s client call (Grant answer new) rule quiet own = cc
+refused-entered s client call (Refused other) rule quiet own = λ i. record { state = (settled-none s quiet i).state; own = own i; ended = (settled-none s quiet i).ended }
+refused-entered s client call Waits rule quiet own = absurd (none-some _ own)
+refused-entered s client call (Granted answer new) rule quiet own = cc
 
 -- where an event begins, none is ready
 pub quiet-begun : (h : History) (now : ℕ) → IsQuiet (begun (run h) now)

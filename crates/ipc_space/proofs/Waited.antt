@@ -7,16 +7,16 @@ use Rattle.std.proofs.lemmas.List.Elements.{All-nil, All-cons}
 use Rattle.std.proofs.lemmas.Option.{none-some, same_Some}
 use Rattle.ipc_call.specs.declared.calls.Call.{Call}
 use Rattle.ipc_call.specs.declared.replies.Answer.{Answer}
-use Rattle.ipc_call.specs.declared.replies.Ended.{Ended}
+use Rattle.ipc_call.specs.declared.replies.Completion.{Completion}
 use Rattle.ipc_call.specs.declared.replies.Waiting.{Waiting}
 use Rattle.ipc_call.specs.declared.rules.Rule.{Rule}
 use Rattle.ipc_call.specs.declared.rules.Rule.TheVariants.{TimedOut}
 use Rattle.ipc_model.specs.State.{State}
-use Rattle.ipc_model.specs.Decision.{Decision, Outcome, Refuse, Wait, Grant, outcome_of}
+use Rattle.ipc_model.specs.Decision.{Decision, Outcome, Refused, Waits, Granted, outcome_of}
 use Rattle.ipc_model.specs.Plan.{is_denial}
 use Rattle.ipc_model.specs.Decide.{can_wait, decide, decide_call}
 use Rattle.ipc_model.specs.Cancelled.{cancelled}
-use Rattle.ipc_model.specs.Step.{Event, at_time, begun, cancel, end_waiting, ended_by, entered, expire, expired, first_ready, is_ready, settle, settle_from, settled, told_cancelled, without}
+use Rattle.ipc_model.specs.Step.{Event, at_time, begun, cancel, end_waiting, ended_by, entered, expire, expired, first_ready, is_ready, settle, settle_from, settled, ended_by_rule, without}
 use Rattle.ipc_model.proofs.Calls.{Keeps-decide, only_parkable}
 use Rattle.ipc_model.proofs.Growing.{Keeps}
 use Rattle.ipc_model.proofs.Late.{Keeps-call}
@@ -69,9 +69,9 @@ module _ (was : State) where
 
   -- a completion changes no rights
   rights-by : (s : State) (client : ℕ) (d : Decision State) → IfGranted (λ answer new. rights_of new ≡ rights_of s) d → rights_of (ended_by s client d).state ≡ rights_of s
-  rights-by s client (Refuse rule) kept = refl
-  rights-by s client Wait kept = refl
-  rights-by s client (Grant answer new) kept = kept
+  rights-by s client (Refused rule) kept = refl
+  rights-by s client Waits kept = refl
+  rights-by s client (Granted answer new) kept = kept
 
   rights-end : (s : State) (w : Waiting) → Waited w → rights_of (end_waiting s w).state ≡ rights_of s
   rights-end s w waited = let rest = without s w.client in rights-by rest w.client (decide rest w.client w.call) (rights-kept rest w.client w.call waited.1)
@@ -85,10 +85,10 @@ module _ (was : State) where
   rights-settle (suc n) s have = rights-settle_from n (rights-settle n) s (first_ready s) refl have
 
   module _ (final : State) where
-    abbrev AreByRights : List Ended → Type 0
+    abbrev AreByRights : List Completion → Type 0
     AreByRights es = AllByRecursion (λ told. EndedByRights was final told) es
 
-    by-append : (es fs : List Ended) → AreByRights es → AreByRights fs → AreByRights (es ++ fs)
+    by-append : (es fs : List Completion) → AreByRights es → AreByRights fs → AreByRights (es ++ fs)
     by-append [] fs first second = second
     by-append (e ∷ es) fs first second = (first.0, by-append es fs first.1 second)
 
@@ -96,9 +96,9 @@ module _ (was : State) where
     by-told w outcome waited by = record { call = w; waited = waited.0; by_rights = by }
 
     by-decided : (s : State) (w : Waiting) (d : Decision State) → Waited w → ((outcome : Outcome) → outcome_of d ≡ Some outcome → IsByRights final w outcome) → AreByRights (ended_by s w.client d).ended
-    by-decided s w (Refuse rule) waited by = (by-told w (Err rule) waited (by (Err rule) refl), tt)
-    by-decided s w Wait waited by = tt
-    by-decided s w (Grant answer new) waited by = (by-told w (Ok answer) waited (by (Ok answer) refl), tt)
+    by-decided s w (Refused rule) waited by = (by-told w (Err rule) waited (by (Err rule) refl), tt)
+    by-decided s w Waits waited by = tt
+    by-decided s w (Granted answer new) waited by = (by-told w (Ok answer) waited (by (Ok answer) refl), tt)
 
     by-end : (s : State) (w : Waiting) → rights_of s ≡ rights_of final → Waited w → AreByRights (end_waiting s w).ended
     by-end s w same waited = let rest = without s w.client in by-decided rest w (decide rest w.client w.call) waited (decided-there rest final same w waited.1)
@@ -114,18 +114,18 @@ module _ (was : State) where
     by-settle zero s have same = tt
     by-settle (suc n) s have same = by-settle_from n (by-settle n) s (first_ready s) refl have same
 
-    by-one : (w : Waiting) (o : Option Rule) (es : List Ended) → Waited w → ((rule : Rule) → o ≡ Some rule → IsByRights final w (Err rule)) → AreByRights es → AreByRights (told_cancelled w.client o ++ es)
+    by-one : (w : Waiting) (o : Option Rule) (es : List Completion) → Waited w → ((rule : Rule) → o ≡ Some rule → IsByRights final w (Err rule)) → AreByRights es → AreByRights (ended_by_rule w.client o ++ es)
     by-one w None es waited by rest = rest
     by-one w (Some rule) es waited by rest = (by-told w (Err rule) waited (by rule refl), rest)
 
     -- those that leave by a rule
-    by-leaving : (f : Waiting → Option Rule) (ws : List Waiting) → AllByRecursion (λ w. Waited w × ((rule : Rule) → f w ≡ Some rule → IsByRights final w (Err rule))) ws → AreByRights (flat_map (λ w. told_cancelled w.client (f w)) ws)
+    by-leaving : (f : Waiting → Option Rule) (ws : List Waiting) → AllByRecursion (λ w. Waited w × ((rule : Rule) → f w ≡ Some rule → IsByRights final w (Err rule))) ws → AreByRights (flat_map (λ w. ended_by_rule w.client (f w)) ws)
     by-leaving f [] all = tt
-    by-leaving f (w ∷ ws) all = by-one w (f w) (flat_map (λ w. told_cancelled w.client (f w)) ws) all.0.0 all.0.1 (by-leaving f ws all.1)
+    by-leaving f (w ∷ ws) all = by-one w (f w) (flat_map (λ w. ended_by_rule w.client (f w)) ws) all.0.0 all.0.1 (by-leaving f ws all.1)
 
   -- the call is decided where none of those that wait is ready
   module _ (s : State) (client : ℕ) (call : Call) (have : HaveWaited s) (quiet : IsQuiet s) where
-    by-granted : (answer : Answer) (new : State) → decide_call s client call ≡ Grant answer new → new.parked ≡ s.parked → AreByRights (settled (cancel new call).state).state ((cancel new call).ended ++ (settled (cancel new call).state).ended)
+    by-granted : (answer : Answer) (new : State) → decide_call s client call ≡ Granted answer new → new.parked ≡ s.parked → AreByRights (settled (cancel new call).state).state ((cancel new call).ended ++ (settled (cancel new call).state).ended)
     by-granted answer new granted kept =
         let m = cancel new call in
         let final = (settled m.state).state in
@@ -139,15 +139,15 @@ module _ (was : State) where
         (by-settle final (length m.state.parked) m.state left same)
 
     by-entered : (d : Decision State) → decide_call s client call ≡ d → Keeps s d → AreByRights (entered s client call d).state (entered s client call d).ended
-    by-entered (Refuse rule) is keeps = by-settle (settled s).state (length s.parked) s have (sym (rights-settle (length s.parked) s have))
-    by-entered Wait is keeps = subst (AreByRights (entered s client call Wait).state) (sym (ends_none s client call Wait (sym is) quiet refl)) tt
-    by-entered (Grant answer new) is keeps = by-granted answer new is keeps.0
+    by-entered (Refused rule) is keeps = by-settle (settled s).state (length s.parked) s have (sym (rights-settle (length s.parked) s have))
+    by-entered Waits is keeps = subst (AreByRights (entered s client call Waits).state) (sym (ends_none s client call Waits (sym is) quiet refl)) tt
+    by-entered (Granted answer new) is keeps = by-granted answer new is keeps.0
 
 expired-timed : (b : Bool) (rule : Rule) → (if b then Some TimedOut else None) ≡ Some rule → is_denial rule ≡ true → ⊥
 expired-timed true rule is denies = true≢false (sym denies ∙ ap is_denial (sym (same_Some TimedOut rule is)))
 expired-timed false rule is denies = none-some rule is
 
-all-told : (before after : State) (es : List Ended) → AllByRecursion (λ told. EndedByRights before after told) es → All (λ told. EndedByRights before after told) es
+all-told : (before after : State) (es : List Completion) → AllByRecursion (λ told. EndedByRights before after told) es → All (λ told. EndedByRights before after told) es
 all-told before after [] by = All-nil (λ told. EndedByRights before after told)
 all-told before after (e ∷ es) by = All-cons (λ told. EndedByRights before after told) e es by.0 (all-told before after es by.1)
 

@@ -1,4 +1,4 @@
--- How each call can end: with which answer it can be granted, and at which waiting call an end is told.
+-- How each call can end: with which answer it can be granted, and which waiting call a completion ends.
 use Rattle.std.specs.Prelude.{◌==◌, Bool, true, false, ◌&&◌, List, Ok, Err}
 use Rattle.std.specs.List.{list_any}
 use Rattle.ipc_call.specs.declared.calls.Call.{Call}
@@ -8,7 +8,7 @@ use Rattle.ipc_call.specs.declared.calls.Kind.{Kind}
 use Rattle.ipc_call.specs.declared.calls.Kind.TheVariants as kinds
 use Rattle.ipc_call.specs.declared.replies.Answer.{Answer}
 use Rattle.ipc_call.specs.declared.replies.Answer.TheVariants.{Id, Done, Message, Status as StatusAnswer, Value, Values, Attached, Bytes, Rows}
-use Rattle.ipc_call.specs.declared.replies.Ended.{Ended}
+use Rattle.ipc_call.specs.declared.replies.Completion.{Completion}
 use Rattle.ipc_call.specs.declared.replies.Status.{Status}
 use Rattle.ipc_call.specs.declared.replies.Status.TheVariants as statuses
 use Rattle.ipc_call.specs.declared.replies.Waiting.{Waiting}
@@ -55,6 +55,6 @@ abbrev pub can_end : Call → Outcome → Bool
 can_end call (Ok answer) = can_give call answer
 can_end call (Err rule) = true
 
--- one of these calls that wait is of the client that is told, and can end so
-abbrev pub is_end_of : List Waiting → Ended → Bool
-is_end_of waiting told = list_any (λ w. w.client == told.client && can_end w.call told.outcome) waiting
+-- one of these calls that wait is of the client that it names, and can end so
+abbrev pub is_end_of : List Waiting → Completion → Bool
+is_end_of waiting completion = list_any (λ w. w.client == completion.client && can_end w.call completion.outcome) waiting

@@ -1,7 +1,7 @@
 -- The history that a state and a journal mean, and the replies of one event.
 use Rattle.std.specs.Prelude.{◌≡◌, ℕ, List, [], ◌∷◌, length, map, Option, option_map}
 use Rattle.ipc_call.specs.declared.limits.Limits.{Limits}
-use Rattle.ipc_call.specs.declared.replies.Ended.{Ended}
+use Rattle.ipc_call.specs.declared.replies.Completion.{Completion}
 use Rattle.ipc_call.specs.declared.replies.JournalRow.{JournalRow}
 use Rattle.ipc_call.specs.declared.replies.JournalRow.TheVariants.{Called, Answered}
 use Rattle.ipc_call.specs.declared.replies.Reply.{Reply}
@@ -10,7 +10,7 @@ use Rattle.ipc_creds.specs.Credentials.{Credentials}
 use Rattle.ipc_model.specs.State.{State}
 use Rattle.ipc_model.specs.Step.{Event}
 use Rattle.ipc_model.specs.Decision.{Outcome}
-use Rattle.ipc_history.specs.History.{History, IsLegal, run, rows_of, told_ended, reply_of}
+use Rattle.ipc_history.specs.History.{History, IsLegal, run, rows_of, replies_to_ended, reply_of}
 
 abbrev pub event_in : JournalRow → List Event → List Event
 event_in (Called client now call) events = record { client = client; now = now; call = call } ∷ events
@@ -37,5 +37,5 @@ abbrev pub own_reply : ℕ → Option Outcome → Option Reply
 own_reply place own = option_map (λ outcome. Entered place 0 outcome) own
 
 -- the replies to the waiting calls that an event ended, each with its client, by turn
-abbrev pub other_replies : ℕ → List Ended → List (ℕ × Reply)
-other_replies place ended = map (λ told. (told.client, reply_of told)) (told_ended place 1 ended)
+abbrev pub other_replies : ℕ → List Completion → List (ℕ × Reply)
+other_replies place ended = map (λ reply. (reply.client, reply_of reply)) (replies_to_ended place 1 ended)

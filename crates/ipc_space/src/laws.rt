@@ -14,7 +14,7 @@ ghost use Rattle.ipc_model.specs.Step.{Event, Stepped, at_time, begun, expire};
 ghost use Rattle.ipc_model.specs.State.{is_waiting};
 ghost use Rattle.ipc_history.specs.History.{History, IsLegal, run, own, replies, with_event, next_step};
 ghost use Rattle.ipc_space.specs.Answers.{can_give, is_end_of};
-ghost use Rattle.ipc_space.specs.Telling.{told_of, replies_in};
+ghost use Rattle.ipc_space.specs.Telling.{replies_of, replies_in};
 ghost use Rattle.ipc_history.specs.Made.{made};
 ghost use Rattle.ipc_model.specs.Segments.{AreAttached};
 ghost use Rattle.ipc_history.specs.Waits.{AreNotReady, ArePermitted, WaitOnce};
@@ -59,7 +59,7 @@ pub fn marked_segments_are_attached()
 pub fn access()
     ensures granted { (h : History) (e : Event) (answer : AnswerOf) → IsLegal h → (next_step h e).own ≡ Some (Ok answer) → AreMet (caller_of h e) (needs_of h e) }
     ensures denied { (h : History) (e : Event) (rule : RuleOf) → IsLegal h → is_denial rule ≡ true → ((next_step h e).own ≡ Some (Err rule)) ↔ IsDenied (caller_of h e) (checks_of h e) rule }
-    ensures waited { (h : History) (e : Event) → IsLegal h → All (λ told. EndedByRights (run h) (next_step h e).state told) (next_step h e).ended }
+    ensures waited { (h : History) (e : Event) → IsLegal h → All (λ completion. EndedByRights (run h) (next_step h e).state completion) (next_step h e).ended }
 {}
 
 /// A client has as many calls as it has replies, and one more where its last call waits.
@@ -73,13 +73,13 @@ pub fn calls_have_replies_or_wait()
 pub fn calls_end_with_their_answers()
     ensures own { (h : History) (e : Event) (answer : AnswerOf) → (next_step h e).own ≡ Some (Ok answer) → can_give e.call answer ≡ true }
     ensures waits { (h : History) (e : Event) → (next_step h e).own ≡ None → can_wait e.call ≡ true }
-    ensures others { (h : History) (e : Event) → All (λ told. is_end_of (run h).parked told ≡ true) (next_step h e).ended }
+    ensures others { (h : History) (e : Event) → All (λ completion. is_end_of (run h).parked completion ≡ true) (next_step h e).ended }
 {}
 
 /// An event tells a client one thing at most, and tells none but clients of the namespace.
 pub fn an_event_tells_each_client_once()
-    ensures once { (h : History) (e : Event) (client : ℕ) → IsLegal (with_event h e) → length (replies_in (told_of h e) client) ≤ 1 }
-    ensures known { (h : History) (e : Event) → IsLegal (with_event h e) → All (λ told. told.0 < length h.clients) (told_of h e) }
+    ensures once { (h : History) (e : Event) (client : ℕ) → IsLegal (with_event h e) → length (replies_in (replies_of h e) client) ≤ 1 }
+    ensures known { (h : History) (e : Event) → IsLegal (with_event h e) → All (λ reply. reply.0 < length h.clients) (replies_of h e) }
 {}
 
 /// An event whose own call waits ends no call but those whose deadline it reaches.

@@ -5,7 +5,7 @@
 
 pub mod laws;
 mod replaying;
-mod spaces;
+mod space;
 
 pub use bitflags::Flags;
 pub use ipc_call::{
@@ -15,4 +15,4 @@ pub use ipc_call::{
 };
 pub use ipc_creds::{Caps, Creds, GROUPS_MAX};
 pub use replaying::{Replayed, replay};
-pub use spaces::{Effects, Space};
+pub use space::{Effects, Space};

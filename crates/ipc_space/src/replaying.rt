@@ -7,7 +7,7 @@ ghost use Rattle.ipc_history.specs.History.{run};
 ghost use Rattle.ipc_space.specs.Following.{IsAnswered, Enters, Followed};
 ghost use Rattle.ipc_space.specs.Replays.{Replays};
 
-use crate::spaces::Space;
+use crate::space::Space;
 use ipc_call::{JournalRow, Limits, Memory};
 use ipc_creds::Creds;
 

@@ -10,8 +10,8 @@ abbrev pub Table : Type 0
 Table = List (List ℕ × (List (List ℕ) → Option Call))
 
 -- msgget(2), msgop(2)
-abbrev pub queue_calls : Table
-queue_calls = (codes "msgget", msgget_of) ∷ (codes "msgsnd", msgsnd_of) ∷ (codes "msgrcv", msgrcv_of) ∷ []
+abbrev pub msg_calls : Table
+msg_calls = (codes "msgget", msgget_of) ∷ (codes "msgsnd", msgsnd_of) ∷ (codes "msgrcv", msgrcv_of) ∷ []
 
 -- msgctl(2), semctl(2), shmctl(2), of an object of any kind
 abbrev pub controls : Table
@@ -21,8 +21,8 @@ abbrev pub process_calls : Table
 process_calls = (codes "interrupt", interrupt_of) ∷ (codes "setcreds", setcreds_of) ∷ (codes "exit", exit_of) ∷ []
 
 -- shmget(2), shmop(2)
-abbrev pub segment_calls : Table
-segment_calls =
+abbrev pub shm_calls : Table
+shm_calls =
     (codes "shmget", shmget_of)
     ∷ (codes "shmat", shmat_of)
     ∷ (codes "shmdt", shmdt_of)
@@ -31,8 +31,8 @@ segment_calls =
     ∷ []
 
 -- semget(2), semop(2)
-abbrev pub set_calls : Table
-set_calls = (codes "semget", semget_of) ∷ (codes "semop", semop_of) ∷ (codes "semtimedop", semtimedop_of) ∷ []
+abbrev pub sem_calls : Table
+sem_calls = (codes "semget", semget_of) ∷ (codes "semop", semop_of) ∷ (codes "semtimedop", semtimedop_of) ∷ []
 
 -- semctl(2)
 abbrev pub value_calls : Table
@@ -55,4 +55,4 @@ read_by (row ∷ rows) word words = if bytes_eq word row.0 then row.1 words else
 unfoldable pub call_of : List (List ℕ) → Option Call
 call_of [] = None
 call_of (word ∷ words) =
-    read_by (queue_calls ++ controls ++ process_calls ++ segment_calls ++ set_calls ++ value_calls) word words
+    read_by (msg_calls ++ controls ++ process_calls ++ shm_calls ++ sem_calls ++ value_calls) word words

@@ -1,7 +1,7 @@
 // The calls on shared memory segments that words make.
 
 ghost use Rattle.std.specs.Prelude.{◌≡◌, ◌++◌, IfOk};
-ghost use Rattle.ipc_text.specs.CallWords.{read_by, segment_calls, set_calls, value_calls};
+ghost use Rattle.ipc_text.specs.CallWords.{read_by, shm_calls, sem_calls, value_calls};
 ghost use Rattle.ipc_text.specs.Segments.{shmat_of as shmat_words, shmdt_of as shmdt_line};
 ghost use Rattle.ipc_text.specs.Segments.{shmget_of as shmget_line, shmget_words as shmget_parts, shmread_of as shmread_line, shmread_words as shmread_parts, shmwrite_of as shmwrite_line, shmwrite_words as shmwrite_parts};
 ghost use Rattle.ipc_words.specs.Words.{words_of};
@@ -21,7 +21,7 @@ pub(crate) fn segment_call_of(
     words: &[u8],
 ) -> Result<Option<Call>, AllocError>
     ensures { IfOk result (λ call. call
-        ≡ read_by (segment_calls ++ set_calls ++ value_calls) word.now (words_of words.now)) }
+        ≡ read_by (shm_calls ++ sem_calls ++ value_calls) word.now (words_of words.now)) }
 {
     if word == b"shmget".as_slice() {
         Ok(shmget_of(words))

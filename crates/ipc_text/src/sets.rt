@@ -1,7 +1,7 @@
 // The calls on semaphore sets that words make.
 
 ghost use Rattle.std.specs.Prelude.{◌≡◌, ◌++◌, IfOk};
-ghost use Rattle.ipc_text.specs.CallWords.{read_by, set_calls, value_calls};
+ghost use Rattle.ipc_text.specs.CallWords.{read_by, sem_calls, value_calls};
 ghost use Rattle.ipc_text.specs.Sets.{getall_of as getall_words, oper_flags as flags_fields, oper_of as oper_word, semaphore_of as semaphore_words};
 ghost use Rattle.ipc_text.specs.Sets.{semget_of as semget_line, semget_words as semget_parts, semop_of as semop_words, semtimedop_of as semtimedop_words, setall_of as setall_words, setval_of as setval_line, setval_words as setval_parts};
 ghost use Rattle.ipc_words.specs.Words.{fields_of, words_of};
@@ -20,7 +20,7 @@ pub(crate) fn set_call_of(
     words: &[u8],
 ) -> Result<Option<Call>, AllocError>
     ensures { IfOk result (λ call. call
-        ≡ read_by (set_calls ++ value_calls) word.now (words_of words.now)) }
+        ≡ read_by (sem_calls ++ value_calls) word.now (words_of words.now)) }
 {
     if word == b"semget".as_slice() {
         Ok(semget_of(words))

@@ -7,7 +7,7 @@ use Rattle.ipc_call.specs.declared.calls.Call.TheVariants.{IpcRmid}
 use Rattle.ipc_call.specs.declared.calls.Kind.{Kind}
 use Rattle.ipc_commands.specs.declared.parts.Part.{Part}
 use Rattle.ipc_commands.specs.declared.parts.Part.TheVariants.{Plain, RemoveByKey}
-use Rattle.ipcsh.specs.Commands.{Progress, called, id_told, made, part_made, parts_made, removed}
+use Rattle.ipcsh.specs.Commands.{Progress, called, id_answered, made, part_made, parts_made, removed}
 use Rattle.ipc_commands.specs.Removals.{get_of}
 use Rattle.ipcsh.specs.Leading.{Leads}
 use Rattle.ipcsh.specs.Output.{CarriesOut}
@@ -55,7 +55,7 @@ pub Leads-called : (client : ℕ) (call : Call) (refused : Bool) (old new : Sess
     → waits old client ≡ false
     → new ≡ (called old client call (history_of old) refused).session
     → new_rows ≡ old_rows ++ (called old client call (history_of old) refused).rows
-    → id ≡ id_told (called old client call (history_of old) refused).reply
+    → id ≡ id_answered (called old client call (history_of old) refused).reply
     → Leads (made client call) (λ p. (p, id)) old new old_rows new_rows
 unfolding made
 Leads-called client call refused old new old_rows new_rows id free session rows is =

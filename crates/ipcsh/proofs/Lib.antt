@@ -1,5 +1,5 @@
 pub mod CommandLemmas
 pub mod InputLemmas
 pub mod PieceLemmas
-pub mod PlanLemmas
+pub mod ScriptLemmas
 pub mod RunLemmas

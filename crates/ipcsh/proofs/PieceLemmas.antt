@@ -6,7 +6,7 @@ use Rattle.std.proofs.KnownBytes.{Consumes-kept, Consumes-trans}
 use Rattle.std.proofs.lemmas.List.{length-append}
 use Rattle.ipcsh.specs.declared.runs.Fault.{Fault}
 use Rattle.ipcsh.specs.declared.runs.Fault.TheVariants as faults
-use Rattle.ipcsh.specs.Plans.{ReadsText, StopsReading}
+use Rattle.ipcsh.specs.Scripts.{ReadsText, StopsReading}
 
 pub ends_by : {A : Type 0} (before after : Option (List ℕ)) (result : Result A Fault) (fault : Fault) → result ≡ Err fault → StopsReading before after fault → IfErr result (StopsReading before after)
 ends_by before after result fault is h = subst (λ r. IfErr r (StopsReading before after)) (sym is) h

@@ -57,12 +57,12 @@ later [] = []
 later (refused ∷ refusals) = refusals
 
 -- the identifier that a call is answered, where it has its reply
-abbrev pub id_told : Option Reply → Option ℕ
-id_told reply = option_and_then id_in reply
+abbrev pub id_answered : Option Reply → Option ℕ
+id_answered reply = option_and_then id_in reply
 
 -- where a call leads to, and the identifier that it is answered, if any
 abbrev pub after_call : Progress → Called → Progress × Option ℕ
-after_call p c = (record { session = c.session; rows = p.rows ++ c.rows; refusals = later p.refusals }, id_told c.reply)
+after_call p c = (record { session = c.session; rows = p.rows ++ c.rows; refusals = later p.refusals }, id_answered c.reply)
 
 -- a call of a line; where the client waits, none is made any more
 unfoldable pub made : ℕ → Call → Progress → Progress × Option ℕ

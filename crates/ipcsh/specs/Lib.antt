@@ -3,8 +3,8 @@ pub mod Inputs
 pub mod Inside
 pub mod Leading
 pub mod Output
-pub mod Plans
-pub mod PlansInside
+pub mod Scripts
+pub mod ScriptsInside
 pub mod Readings
 pub mod Runs
 pub mod Session

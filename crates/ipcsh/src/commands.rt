@@ -1,7 +1,7 @@
 // The calls of a line, one after another.
 
 ghost use Rattle.std.specs.Prelude.{◌≡◌, ◌<◌, IfOk, OnOk, length, string_bytes};
-ghost use Rattle.ipcsh.specs.Commands.{id_told, made, part_made};
+ghost use Rattle.ipcsh.specs.Commands.{id_answered, made, part_made};
 ghost use Rattle.ipcsh.specs.Leading.{Leads};
 ghost use Rattle.ipcsh.specs.Output.{CarriesOut};
 
@@ -92,7 +92,7 @@ impl Session {
 
 /// The identifier that an event's own call is answered.
 fn id_of(effects: &Effects) -> Option<u32>
-    ensures { result ≡ id_told effects.now.own }
+    ensures { result ≡ id_answered effects.now.own }
 {
     match &effects.own {
         Some(reply) => answered_id(reply),

@@ -7,12 +7,12 @@ mod input;
 mod listeners;
 mod output;
 mod pieces;
-mod plans;
+mod scripts;
 mod readings;
 mod runs;
 mod session;
 
 pub use listeners::Listener;
 pub use output::write_bytes;
-pub use plans::{Plan, read_plan, read_plan_with};
+pub use scripts::{Script, read_script, read_script_with};
 pub use runs::{Fault, Summary, run, run_with};

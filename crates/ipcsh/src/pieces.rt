@@ -2,7 +2,7 @@
 
 ghost use Rattle.std.specs.Prelude.{◌≡◌, ◌+◌, ◌<◌, ◌≤◌, IfOk, IfErr, OnErr, length, take};
 ghost use Rattle.std.specs.Io.KnownBytes.{Consumes, IsAtEnd, Keeps};
-ghost use Rattle.ipcsh.specs.Plans.{ReadsText, StopsReading};
+ghost use Rattle.ipcsh.specs.Scripts.{ReadsText, StopsReading};
 
 use crate::runs::Fault;
 use std::alloc::Global;

@@ -10,11 +10,11 @@ use Rattle.ipc_jobs.specs.Courses.{AreCounts, HaveGone}
 use Rattle.ipc_history.specs.History.{History, IsLegal, run}
 use Rattle.ipc_model.specs.Listings.{lines_of as lines_in}
 use Rattle.ipc_words.specs.Lines.{lines_of}
-use Rattle.ipcsh.specs.declared.plans.Plan.{Plan}
+use Rattle.ipcsh.specs.declared.scripts.Script.{Script}
 use Rattle.ipcsh.specs.declared.runs.Fault.{Fault}
 use Rattle.ipcsh.specs.declared.runs.Fault.TheVariants as faults
 use Rattle.ipcsh.specs.declared.runs.Summary.{Summary}
-use Rattle.ipcsh.specs.Plans.{Planned, ReadsText, StopsReading, planned}
+use Rattle.ipcsh.specs.Scripts.{Planned, ReadsText, StopsReading, planned}
 use Rattle.ipcsh.specs.Runs.{Transfer, longest_input}
 use Rattle.ipcsh.specs.Session.{has_started}
 use Rattle.ipcsh_threads.specs.declared.running.Ending.{Ending}
@@ -27,25 +27,25 @@ pub record Setup : Type 0 where
   pub limits : Limits
   pub jobs : List (List Job)
 
-abbrev pub setup_of : Plan → Setup
-setup_of plan = record {
-  names = plan.names.items;
-  clients = plan.clients.items;
-  limits = plan.limits;
-  jobs = map (λ own. own.items) plan.jobs.items;
+abbrev pub setup_of : Script → Setup
+setup_of script = record {
+  names = script.names.items;
+  clients = script.clients.items;
+  limits = script.limits;
+  jobs = map (λ own. own.items) script.jobs.items;
 }
 
 abbrev pub setup_in : Planned → Setup
 setup_in p =
     record { names = p.session.names; clients = p.session.clients; limits = p.session.limits; jobs = p.jobs }
 
--- a plan whose threads may start
-pub record CanRun (plan : Plan) : Type 0 where
-  pub limits : are_in_range plan.limits ≡ true
-  pub some : 1 ≤ length plan.clients.items
-  pub few : length plan.clients.items ≤ 64
-  pub jobs : length plan.jobs.items ≡ length plan.clients.items
-  pub names : length plan.names.items ≡ length plan.clients.items
+-- a script whose threads may start
+pub record CanRun (script : Script) : Type 0 where
+  pub limits : are_in_range script.limits ≡ true
+  pub some : 1 ≤ length script.clients.items
+  pub few : length script.clients.items ≤ 64
+  pub jobs : length script.jobs.items ≡ length script.clients.items
+  pub names : length script.names.items ≡ length script.clients.items
 
 -- The clients made the calls of their jobs, each all of its own in their order, and the history is legal. It has all of
 -- them but those for which an allocation failed, and these are counted

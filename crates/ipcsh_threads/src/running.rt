@@ -11,7 +11,7 @@ use crate::rows::{print_counts, print_objects};
 use ipc_call::Memory;
 use ipc_jobs::{OpenGate, ThreadsEnd, run_threads};
 use ipc_text::Name;
-use ipcsh::{Fault, Listener, Plan, Summary, read_plan_with, write_bytes};
+use ipcsh::{Fault, Listener, Script, Summary, read_script_with, write_bytes};
 use std::alloc::Global;
 use std::io::{Read, Write};
 use std::sync::Wait;
@@ -53,18 +53,18 @@ pub fn threads_with<R: Threads + Sync + Wait, I: Read, W: Write, L: Listener>(
         (I.remaining reader.old) (I.remaining reader.new)
         (W.contents writer.old) (W.contents writer.new))) }
 {
-    let plan = read_plan_with(alloc, reader, listener)?;
-    write_bytes(writer, plan.rows.as_bytes())?;
+    let script = read_script_with(alloc, reader, listener)?;
+    write_bytes(writer, script.rows.as_bytes())?;
     listener.written();
-    let (lines, bad) = (plan.lines, plan.bad);
-    if !plan.has_jobs {
+    let (lines, bad) = (script.lines, script.bad);
+    if !script.has_jobs {
         return Ok(Summary {
             lines,
             bad,
             events: 0,
         });
     }
-    let ending = run_plan(rt, alloc, plan)?;
+    let ending = run_script(rt, alloc, script)?;
     write_bytes(writer, ending.rows.as_bytes())?;
     Ok(Summary {
         lines,
@@ -82,18 +82,18 @@ struct Ending {
     events: u64,
 }
 
-/// Makes the calls of a plan.
-fn run_plan<R: Threads + Sync + Wait>(rt: &R, alloc: Global, plan: Plan) -> Result<Ending, Memory>
-    requires { CanRun plan }
-    ensures { IfOk result (EndsSo (setup_of plan)) }
+/// Makes the calls of a script.
+fn run_script<R: Threads + Sync + Wait>(rt: &R, alloc: Global, script: Script) -> Result<Ending, Memory>
+    requires { CanRun script }
+    ensures { IfOk result (EndsSo (setup_of script)) }
 {
-    let Plan {
+    let Script {
         names,
         clients,
         limits,
         jobs,
         ..
-    } = plan;
+    } = script;
     let end = run_threads(rt, alloc, limits, clients, jobs, &OpenGate)?;
     ending_of(alloc, names.as_slice(), &end)
 }

@@ -7,7 +7,7 @@ use ipc_call::{
 };
 use ipc_creds::{Caps, Creds};
 use object_calls::Caller;
-use queue_calls::{Queues, status};
+use msg_calls::{Queues, status};
 use std::process::Abort;
 use std::test::Fail;
 

@@ -5,7 +5,7 @@ use Rattle.pub_rule.specs.declared.walk.View.{View}
 use Rattle.pub_rule.specs.declared.work.Work.{Work}
 use Rattle.pub_list.specs.declared.fresh.Fresh.{Fresh}
 use Rattle.pub_list.specs.declared.joined.Joined.{Joined}
-use Rattle.pub_list.specs.declared.lists.List.{List as Listing}
+use Rattle.pub_list.specs.declared.list.List.{List as Listing}
 use Rattle.pub_list.specs.Joined as seats
 
 -- What a client knows, and how it is left by a call.

@@ -4,7 +4,7 @@ ghost use Rattle.pub_list.specs.Clients.{view, work, BelongsTo, IsSame};
 ghost use Rattle.pub_list.specs.Asking.{IsIdle, IsPosted, IsCollected};
 
 use crate::joined::Joined;
-use crate::lists::{List, drop_empty};
+use crate::list::{List, drop_empty};
 use crate::records::{WordState, state_of};
 use pub_rule::{ANSWERED, CollectReply, FREE, POSTED, PostCall, Served, Slot, state_word};
 

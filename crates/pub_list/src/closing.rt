@@ -8,7 +8,7 @@ ghost use Rattle.pub_list.specs.Closing.{told_at_close, IsCloser, last_words, Ar
 use crate::combining::state_in;
 use crate::fresh::Fresh;
 use crate::joined::Joined;
-use crate::lists::{List, Records, Seat};
+use crate::list::{List, Records, Seat};
 use pub_rule::{EnterCloser, GiveSlot, MergeClient, Served, head_word, state_word};
 
 /// A list that is closed: no thread shares it any more. It is the project's own.

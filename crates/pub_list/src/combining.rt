@@ -23,7 +23,7 @@ ghost use Rattle.pub_list.specs.Combining.{
 
 use crate::asking::Answer;
 use crate::joined::Joined;
-use crate::lists::{List, Record, drop_empty};
+use crate::list::{List, Record, drop_empty};
 use crate::records::WordState;
 use pub_rule::{
     ANSWERED, AnswerCall, PARKED, POSTED, ParkCall, PeekAt, PeekLock, RefuseCall, ReleaseState,

@@ -2,7 +2,7 @@
 ghost use Rattle.std.specs.Prelude.{◌≡◌};
 ghost use Rattle.pub_list.specs.Joined.{IsJoined};
 
-use crate::lists::Seat;
+use crate::list::Seat;
 use pub_rule::Served;
 
 /// A client that has joined the list: its publication record (flat combining: Hendler, Incze, Shavit, Tzafrir

@@ -7,7 +7,7 @@ ghost use Rattle.pub_rule.specs.declared.work.Stage.TheVariants.{Free};
 
 use crate::fresh::Fresh;
 use crate::joined::Joined;
-use crate::lists::List;
+use crate::list::List;
 use pub_rule::{
     ExchangeHead, FetchSlot, LoadHead, Served, StoreNext, head_word, next_word, state_word,
 };

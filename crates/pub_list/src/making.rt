@@ -7,7 +7,7 @@ ghost use Rattle.pub_list.specs.Lists.{IsSized, IsMaker};
 ghost use Rattle.pub_list.specs.Opening.{opening_of};
 
 use crate::fresh::Fresh;
-use crate::lists::{List, Records, Seat};
+use crate::list::{List, Records, Seat};
 use atomic_table::Table;
 use pub_rule::{Served, Slot, SplitClient, word_count};
 use std::alloc::{AllocError, Global};

@@ -6,7 +6,7 @@ ghost use Rattle.pub_list.specs.Passing.{IsAsFar, HasDealt, KeepsMarks, HasPasse
 
 use crate::combining::Took;
 use crate::joined::Joined;
-use crate::lists::List;
+use crate::list::List;
 use crate::records::WordState;
 use pub_rule::Served;
 

@@ -4,7 +4,7 @@ ghost use Rattle.pub_list.specs.Clients.{view, BelongsTo, IsSame};
 ghost use Rattle.pub_list.specs.Records.{state_at, IsLooked};
 
 use crate::joined::Joined;
-use crate::lists::List;
+use crate::list::List;
 use pub_rule::{FREE, LookAt, LookOwn, PARKED, POSTED, Served, TAKEN, state_word};
 use std::hint;
 

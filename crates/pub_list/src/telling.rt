@@ -5,7 +5,7 @@ ghost use Rattle.pub_list.specs.Clients.{view, work, BelongsTo, IsSame};
 ghost use Rattle.pub_list.specs.Learning.{Learns};
 
 use crate::joined::Joined;
-use crate::lists::List;
+use crate::list::List;
 use pub_rule::{MergeToken, Served, SplitToken};
 
 impl<S: Served> Joined<S> {

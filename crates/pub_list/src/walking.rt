@@ -6,7 +6,7 @@ ghost use Rattle.pub_list.specs.Clients.{view, seen, BelongsTo, IsStill, SeesAll
 ghost use Rattle.pub_list.specs.Joined.{client_at};
 
 use crate::joined::Joined;
-use crate::lists::List;
+use crate::list::List;
 use pub_rule::{LoadHead, LoadNext, Served, head_word, next_word};
 
 impl<S: Served> Joined<S> {

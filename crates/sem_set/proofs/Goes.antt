@@ -4,7 +4,7 @@ use Rattle.std.specs.Prelude.{unwrap_or, Some, None, int_lt, ◌||◌, if◌then
 use Rattle.std.proofs.lemmas.Int.{ints}
 use Rattle.ipc_call.specs.declared.calls.SemOper.{SemOper}
 use Rattle.ipc_call.specs.declared.rules.Rule.TheVariants.{ValueRange, WouldWait, UndoRange}
-use Rattle.sem_set.specs.declared.sets.Semaphore.{Semaphore}
+use Rattle.sem_set.specs.declared.set.Semaphore.{Semaphore}
 use Rattle.sem_set.specs.declared.trials.Trial.{Trial}
 use Rattle.sem_set.specs.declared.trials.Trial.TheVariants.{Go, Wait, Refuse}
 use Rattle.sem_set.specs.Sets.{semvmx, value_of}

@@ -8,7 +8,7 @@ use Rattle.std.proofs.lemmas.Bool.{cases_eq}
 use Rattle.std.proofs.lemmas.List.{get_or-set_same, get_or-set_other, take_more}
 use Rattle.std.proofs.lemmas.List.Folds.{list_any-append}
 use Rattle.ipc_call.specs.declared.calls.SemOper.{SemOper}
-use Rattle.sem_set.specs.declared.sets.Semaphore.{Semaphore}
+use Rattle.sem_set.specs.declared.set.Semaphore.{Semaphore}
 use Rattle.sem_set.specs.Sets.{pid_of, set_to, value_of, zeroed}
 use Rattle.sem_set.specs.Trials.{committed, is_on, left_at, left_from, sum_of}
 use Rattle.sem_set.proofs.Running.{no_oper, part_here, part_elsewhere, sum_more, sum_none, sum_step}

@@ -6,7 +6,7 @@ use Rattle.std.proofs.lemmas.Bool.{cases_lt, le-ltb}
 use Rattle.std.proofs.lemmas.List.Folds.{list_all_at}
 use Rattle.std.proofs.lemmas.Int.{ints}
 use Rattle.ipc_call.specs.declared.calls.SemOper.{SemOper}
-use Rattle.sem_set.specs.declared.sets.Semaphore.{Semaphore}
+use Rattle.sem_set.specs.declared.set.Semaphore.{Semaphore}
 use Rattle.sem_set.specs.declared.trials.Met.{Met}
 use Rattle.sem_set.specs.Sets.{value_of}
 use Rattle.sem_set.specs.Trials.{are_in, is_on, part_of, sum_of, undoes, undoes_on}

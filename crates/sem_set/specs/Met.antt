@@ -1,7 +1,7 @@
 -- What the operations of a trial meet, as the trial keeps it.
 use Rattle.std.specs.Prelude.{ℕ, ℤ, pos, ◌+ℤ◌, ◌-ℤ◌, List, if◌then◌else◌}
 use Rattle.ipc_call.specs.declared.calls.SemOper.{SemOper}
-use Rattle.sem_set.specs.declared.sets.Semaphore.{Semaphore}
+use Rattle.sem_set.specs.declared.set.Semaphore.{Semaphore}
 use Rattle.sem_set.specs.declared.trials.Met.{Met}
 use Rattle.sem_set.specs.Sets.{value_of}
 use Rattle.sem_set.specs.Trials.{is_on, sum_of, undoes, undoes_on}

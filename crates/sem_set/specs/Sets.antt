@@ -1,6 +1,6 @@
 -- The semaphores of a set, and their values (semctl(2)).
 use Rattle.std.specs.Prelude.{ℕ, ℤ, pos, int_le, nat_abs, Bool, ◌&&◌, List, slice_index_or}
-use Rattle.sem_set.specs.declared.sets.Semaphore.{Semaphore}
+use Rattle.sem_set.specs.declared.set.Semaphore.{Semaphore}
 
 -- SEMVMX, the greatest value
 abbrev pub semvmx : ℤ

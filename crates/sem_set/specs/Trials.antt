@@ -7,7 +7,7 @@ use Rattle.std.specs.Ordering.{int_eq}
 use Rattle.ipc_call.specs.declared.calls.SemOper.{SemOper}
 use Rattle.ipc_call.specs.declared.rules.Rule.TheVariants.{ValueRange, WouldWait, UndoRange}
 use Rattle.ipc_call.specs.Flags.{has_flag, ipc_nowait, sem_undo}
-use Rattle.sem_set.specs.declared.sets.Semaphore.{Semaphore}
+use Rattle.sem_set.specs.declared.set.Semaphore.{Semaphore}
 use Rattle.sem_set.specs.declared.trials.Trial.{Trial}
 use Rattle.sem_set.specs.declared.trials.Trial.TheVariants.{Go, Wait, Refuse}
 use Rattle.sem_set.specs.Sets.{semvmx, set_to, value_of}

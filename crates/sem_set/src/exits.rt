@@ -4,7 +4,7 @@ ghost use Rattle.std.specs.Prelude.{◌≡◌};
 ghost use Rattle.sem_set.specs.Exits.{any_from, brought as brought_in, undone as undone_by, undone_from};
 ghost use Rattle.sem_set.specs.Trials.{adj_in};
 
-use crate::sets::Semaphore;
+use crate::set::Semaphore;
 use crate::trials::{SEMVMX, adj_at};
 
 /// Adds to each value the semadj of its number in a row. Whether one wasn't 0.

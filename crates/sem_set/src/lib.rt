@@ -4,8 +4,8 @@
 #![tactic(auto)]
 
 mod exits;
-mod sets;
+mod set;
 mod trials;
 
-pub use sets::{SemSet, Semaphore, is_value};
+pub use set::{SemSet, Semaphore, is_value};
 pub use trials::Trial;

@@ -17,7 +17,7 @@ ghost use Rattle.sem_set.specs.Trials.{
 ghost use Rattle.sem_set.specs.Sets.{semvmx, set_to};
 ghost use Rattle.sem_set.specs.Met.{met_after, met_at};
 
-use crate::sets::Semaphore;
+use crate::set::Semaphore;
 use ipc_call::{Rule, SemOper, may_wait, undoes};
 
 /// The greatest value of a semaphore.

@@ -1,6 +1,6 @@
 -- Why a read gives no bytes.
-use Rattle.shm_seg.specs.declared.segments.ReadFault.{ReadFault}
-use Rattle.shm_seg.specs.declared.segments.ReadFault.TheVariants.{Refused, Memory}
+use Rattle.shm_seg.specs.declared.segment.ReadFault.{ReadFault}
+use Rattle.shm_seg.specs.declared.segment.ReadFault.TheVariants.{Refused, Memory}
 
 -- an allocation failed
 abbrev pub IsMemory : ReadFault → Type 0

@@ -6,7 +6,7 @@
 #![tactic(auto)]
 
 mod attachments;
-mod segments;
+mod segment;
 
 pub use attachments::{Attachment, Attachments};
-pub use segments::{ReadFault, Segment};
+pub use segment::{ReadFault, Segment};

@@ -1,5 +1,5 @@
 use Rattle.std.proofs.Common.{◌+◌, length, sym, ap, subst, ◌∙◌}
-use Rattle.queue_calls.specs.Held.{one_if, room}
+use Rattle.msg_calls.specs.WithRoom.{one_if, room}
 use Rattle.ipc_model.specs.State.{State, is_waiting}
 use Rattle.ipc_model.specs.Step.{without}
 use Rattle.ipc_parked.specs.Parked.{waiting}
@@ -30,7 +30,7 @@ invariant_of-self c =
       c.self.invariant.0,
       (left b).parked,
       λ id. (left b).room id _ _ (ap (λ q. room c.release_in.new.queues id + one_if (is_at id q)) (sym c.sent_to.ensures) ∙ c.release_in.ensures.room id) (c.self.invariant.2 id),
-      subst (λ ws. AreHeld c.self.inside.sets c.self.inside.ended.items ws) (sym (left b).rest) (held-filter c.self.inside.sets c.self.inside.ended.items (λ w. not (w.client == c.args.client)) (waiting c.self.inside.parked) c.self.invariant.3),
+      subst (λ ws. AreHeld c.self.inside.sets c.self.inside.exited.items ws) (sym (left b).rest) (held-filter c.self.inside.sets c.self.inside.exited.items (λ w. not (w.client == c.args.client)) (waiting c.self.inside.parked) c.self.invariant.3),
     )
 
 pub returns-clause-state : goal.returns-clause-state

@@ -5,12 +5,12 @@ use Rattle.std.proofs.lemmas.Bool.{eq-eqb}
 use Rattle.std.proofs.lemmas.Int.{to_z-of_z}
 use Rattle.ipc_call.specs.declared.calls.Call.{Call}
 use Rattle.ipc_call.specs.declared.replies.Answer.TheVariants.{Done}
-use Rattle.ipc_call.specs.declared.replies.Ended.{Ended}
+use Rattle.ipc_call.specs.declared.replies.Completion.{Completion}
 use Rattle.ipc_call.specs.declared.replies.Waiting.{Waiting}
 use Rattle.ipc_call.specs.declared.rules.Rule.{Rule}
-use Rattle.queue_calls.specs.Calls.{sending}
+use Rattle.msg_calls.specs.Calls.{sending}
 use Rattle.ipc_model.specs.Decision.{without_answer}
-use Rattle.queue_calls.specs.Held.{one_if, queues_of, room}
+use Rattle.msg_calls.specs.WithRoom.{one_if, queues_of, room}
 use Rattle.ipc_model.specs.State.{State, caller, is_waiting, waiting_of}
 use Rattle.ipc_model.specs.Decision.{left_by, outcome_of}
 use Rattle.ipc_model.specs.Decide.{decide_alive as decide}
@@ -40,7 +40,7 @@ returns-in-Err-clause-ended c =
     let refused = answered-refused d c.in-Err.rule (IfSome-at (waiting_of s client) _ (λ (w : Waiting). without_answer (decide (without s client) client w.call) ≡ Some c.args.decided) own c.requires.decided ∙ ap (λ (r : Result ⊤ Rule). Some r) c.in-Err.is) in
     subst (λ o. IfSome o (λ (w : Waiting). end_waiting s w ≡ record { state = c.end_as.new.self; ended = c.end_as.result ∷ [] })) (sym own)
     (ends-so s c.end_as.new.self client call until (Err c.in-Err.rule) c.requires.alive refused.0 (c.end_as.ensures.state ∙ sym (refused.1 (without s client)))
-    ∙ ap (λ (e : Ended). record { state = c.end_as.new.self; ended = e ∷ [] }) (sym c.end_as.ensures.ended))
+    ∙ ap (λ (e : Completion). record { state = c.end_as.new.self; ended = e ∷ [] }) (sym c.end_as.ensures.ended))
 
 pub finish-requires : goal.finish-requires
 finish-requires c = sym (any_waiting c.args.client c.self.inside.parked) ∙ ap (λ (s : State). is_waiting s c.args.client) c.self.view_is ∙ c.requires.waits
@@ -105,7 +105,7 @@ invariant_of-self c =
       c.self.invariant.0,
       (left b).parked,
       λ id. (left b).room id _ _ (ap (λ (call : Call). room c.send_reserved.new.self id + one_if (is_send_to id call)) c.in-MsgSnd.is ∙ c.send_reserved.ensures.room id) (c.self.invariant.2 id),
-      subst (λ ws. AreHeld c.self.inside.sets c.self.inside.ended.items ws) (sym (left b).rest) (held-filter c.self.inside.sets c.self.inside.ended.items (λ w. not (w.client == c.args.client)) (waiting c.self.inside.parked) c.self.invariant.3),
+      subst (λ ws. AreHeld c.self.inside.sets c.self.inside.exited.items ws) (sym (left b).rest) (held-filter c.self.inside.sets c.self.inside.exited.items (λ w. not (w.client == c.args.client)) (waiting c.self.inside.parked) c.self.invariant.3),
     )
 
 pub returns-clause-ended : goal.returns-clause-ended

@@ -1,6 +1,6 @@
 use Rattle.std.proofs.Common.{◌≡◌, ◌++◌, true, false, append_assoc, refl, sym, ap, subst, ◌∙◌}
 use Rattle.std.specs.Prelude.{◌==◌, is_none}
-use Rattle.ipc_call.specs.declared.replies.Ended.{Ended}
+use Rattle.ipc_call.specs.declared.replies.Completion.{Completion}
 use Rattle.std.proofs.Common.{Vec, Global}
 use Rattle.ipc_model.specs.State.{State, is_waiting}
 use Rattle.ipc_model.specs.Decision.{outcome_of}
@@ -31,7 +31,7 @@ returns-clause-ok c =
     let first = (expire s).ended in
     let client = c.args.client in
     let call = c.args.call.now in
-    let u = c.act.new.self in
+    let u = c.carry_out.new.self in
     let own = c.in_ok-own.own in
     let cancels = (moved_by t client call).ended in
     let final = c.if-is_granted.ended.items in
@@ -39,11 +39,11 @@ returns-clause-ok c =
       | then-is_granted p ↦
           let rest = (settled u).ended in
           let told : final ≡ first ++ (cancels ++ rest) =
-          ap (λ (v : Vec Ended Global). v.items) p.ended-is ∙ p.settle.ensures.ended ∙ ap (λ es. es ++ rest) c.in_ok-own.ensures.ended ∙ append_assoc first cancels rest in
+          ap (λ (v : Vec Completion Global). v.items) p.ended-is ∙ p.settle.ensures.ended ∙ ap (λ es. es ++ rest) c.in_ok-own.ensures.ended ∙ append_assoc first cancels rest in
           ap (after first) (entered-granted t u c.if-is_granted.self client call own cancels (cancels ++ rest) c.in_ok-own.ensures.state refl (sym c.in_ok-own.ensures.own) (p.self-is ∙ p.settle.ensures.state) refl)
           ∙ (λ i. record { state = c.if-is_granted.self; own = own; ended = sym told i })
       | else-is_granted p ↦
-          let told : final ≡ first ++ cancels = ap (λ (v : Vec Ended Global). v.items) p.ended-is ∙ c.in_ok-own.ensures.ended in
+          let told : final ≡ first ++ cancels = ap (λ (v : Vec Completion Global). v.items) p.ended-is ∙ c.in_ok-own.ensures.ended in
           ap (after first) (entered-still t c.if-is_granted.self client call own cancels (quiet-expire s c.requires.quiet) (sym c.is_granted.ensures ∙ p.if-is_granted.false) c.in_ok-own.ensures.own (p.self-is ∙ c.in_ok-own.ensures.state) refl)
           ∙ (λ i. record { state = c.if-is_granted.self; own = own; ended = sym told i })
     ]

@@ -8,7 +8,7 @@ use Rattle.ipc_call.specs.declared.rules.Rule.{Rule}
 use Rattle.ipc_creds.specs.Credentials.{Credentials, groups_max}
 use Rattle.ipc_perm.specs.Access.{BecomeGroup, BecomeUser, SetGroups, becoming, denial}
 use Rattle.ipc_model.specs.State.{State, caller, creds_at}
-use Rattle.ipc_model.specs.Decision.{Grant, without_answer}
+use Rattle.ipc_model.specs.Decision.{Granted, without_answer}
 use Rattle.ipc_model.specs.Plan.{decision, unless}
 use Rattle.ipc_model.specs.Processes.{set_creds}
 use Rattle.ipc_namespace.proofs.Moving.{creds-read}
@@ -23,13 +23,13 @@ told (Ok x) = refl
 told (Err rule) = refl
 
 -- three needs in order, and two
-three : (user group sets : Option Rule) (new : State) → without_answer (unless user (unless group (unless sets (Grant Done new)))) ≡ Some (verdict (option_or user (option_or group sets)))
+three : (user group sets : Option Rule) (new : State) → without_answer (unless user (unless group (unless sets (Granted Done new)))) ≡ Some (verdict (option_or user (option_or group sets)))
 three (Some rule) group sets new = refl
 three None (Some rule) sets new = refl
 three None None (Some rule) new = refl
 three None None None new = refl
 
-two : (user group : Option Rule) (new : State) → without_answer (unless user (unless group (Grant Done new))) ≡ Some (verdict (option_or user (option_or group None)))
+two : (user group : Option Rule) (new : State) → without_answer (unless user (unless group (Granted Done new))) ≡ Some (verdict (option_or user (option_or group None)))
 two (Some rule) group new = refl
 two None (Some rule) new = refl
 two None None new = refl

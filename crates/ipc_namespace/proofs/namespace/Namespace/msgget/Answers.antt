@@ -1,8 +1,8 @@
 use Rattle.std.proofs.Common.{◌≡◌, sym, ◌∙◌}
 use Rattle.std.proofs.lemmas.Result.{on_ok_weaker}
-use Rattle.queue_calls.specs.Held.{queues_of}
+use Rattle.msg_calls.specs.WithRoom.{queues_of}
 use Rattle.ipc_model.specs.State.{caller}
-use Rattle.queue_calls.proofs.Holding.{IfOk-map}
+use Rattle.msg_calls.proofs.Holding.{IfOk-map}
 use Rattle.ipc_namespace.specs.contracts.namespace.Namespace.{the_view}
 use Rattle.ipc_namespace.proofs.Calling.{get-left, get-outcome}
 use Rattle.ipc_namespace.proofs.namespace.Namespace.msgget.Goals as goal

@@ -1,5 +1,5 @@
 use Rattle.std.proofs.Common.{◌≡◌, refl, ◌∙◌}
-use Rattle.queue_calls.specs.Held.{queues_of}
+use Rattle.msg_calls.specs.WithRoom.{queues_of}
 use Rattle.ipc_model.specs.State.{caller}
 use Rattle.ipc_namespace.specs.contracts.namespace.Namespace.{the_view}
 use Rattle.ipc_namespace.proofs.Calling.{receive-left, receive-outcome}

@@ -6,8 +6,8 @@ use Rattle.ipc_call.specs.declared.calls.Call.{Call}
 use Rattle.ipc_call.specs.declared.calls.Call.TheVariants.{MsgSnd}
 use Rattle.ipc_call.specs.declared.replies.Answer.TheVariants.{Done}
 use Rattle.ipc_call.specs.declared.rules.Rule.{Rule}
-use Rattle.queue_calls.specs.Held.{queues_of}
-use Rattle.queue_calls.specs.Calls.{sending}
+use Rattle.msg_calls.specs.WithRoom.{queues_of}
+use Rattle.msg_calls.specs.Calls.{sending}
 use Rattle.ipc_model.specs.Decision.{Decision, left_by, outcome_of, without_answer}
 use Rattle.ipc_model.specs.State.{Queues, caller}
 use Rattle.ipc_model.specs.Decide.{decide_alive as decide}

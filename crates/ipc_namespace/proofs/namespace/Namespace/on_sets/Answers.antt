@@ -6,7 +6,7 @@ use Rattle.std.proofs.lemmas.Result.{on_ok_weaker}
 use Rattle.ipc_call.specs.declared.calls.Call.{Call}
 use Rattle.ipc_call.specs.declared.calls.Call.TheVariants.{SemGet, GetVal, GetPid, GetAll, SetVal, SetAll}
 use Rattle.ipc_parked.specs.Parked.{waiting}
-use Rattle.set_calls.specs.Held.{sems_of}
+use Rattle.sem_calls.specs.WithRows.{sems_of}
 use Rattle.ipc_model.specs.State.{Caller, Sems, State, caller}
 use Rattle.ipc_model.specs.Decision.{Outcome, left_by, outcome_of}
 use Rattle.ipc_model.specs.Gets.{get_set}
@@ -134,14 +134,14 @@ returns-in-SetAll-clause-state c =
 pub invariant_of-self : goal.invariant_of-self
 invariant_of-self c =
     let n = c.self.inside in
-    (c.self.invariant.0, c.self.invariant.1, c.self.invariant.2, held-same n.sets c.semget.new.self n.ended.items (λ client set. ap (λ (u : Undone). row_len u client set) c.semget.ensures.undone) (waiting n.parked) c.self.invariant.3)
+    (c.self.invariant.0, c.self.invariant.1, c.self.invariant.2, held-same n.sets c.semget.new.self n.exited.items (λ client set. ap (λ (u : Undone). row_len u client set) c.semget.ensures.undone) (waiting n.parked) c.self.invariant.3)
 
 pub invariant_of-self-in-SetVal : goal.invariant_of-self-in-SetVal
 invariant_of-self-in-SetVal c =
     let n = c.self.inside in
-    (c.self.invariant.0, c.self.invariant.1, c.self.invariant.2, held-same n.sets c.setval.new.self n.ended.items c.setval.ensures.rows (waiting n.parked) c.self.invariant.3)
+    (c.self.invariant.0, c.self.invariant.1, c.self.invariant.2, held-same n.sets c.setval.new.self n.exited.items c.setval.ensures.rows (waiting n.parked) c.self.invariant.3)
 
 pub invariant_of-self-in-SetAll : goal.invariant_of-self-in-SetAll
 invariant_of-self-in-SetAll c =
     let n = c.self.inside in
-    (c.self.invariant.0, c.self.invariant.1, c.self.invariant.2, held-same n.sets c.setall.new.self n.ended.items c.setall.ensures.rows (waiting n.parked) c.self.invariant.3)
+    (c.self.invariant.0, c.self.invariant.1, c.self.invariant.2, held-same n.sets c.setall.new.self n.exited.items c.setall.ensures.rows (waiting n.parked) c.self.invariant.3)

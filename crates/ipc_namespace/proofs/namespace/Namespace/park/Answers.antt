@@ -3,12 +3,12 @@ use Rattle.std.specs.Prelude.{◌==◌, is_err, is_some, OnErr, OnOk, Result, Ok
 use Rattle.std.specs.List.{list_any}
 use Rattle.std.proofs.lemmas.Bool.{true≢false}
 use Rattle.ipc_call.specs.declared.replies.Waiting.{Waiting}
-use Rattle.queue_calls.specs.Held.{one_if, room}
-use Rattle.ipc_model.specs.State.{State, has_ended}
+use Rattle.msg_calls.specs.WithRoom.{one_if, room}
+use Rattle.ipc_model.specs.State.{State, has_exited}
 use Rattle.ipc_parked.specs.Parked.{waiting}
 use Rattle.ipc_parked.proofs.Listed.{any_waiting, waiting-push}
 use Rattle.ipc_namespace.specs.Namespace.{AreHeld, AreParked, is_at, is_send_to, sends_on}
-use Rattle.ipc_model.specs.Decision.{Decision, Refuse, Wait, Grant, outcome_of, proceeds}
+use Rattle.ipc_model.specs.Decision.{Decision, Refused, Waits, Granted, outcome_of, proceeds}
 use Rattle.std.proofs.lemmas.Option.{none-some}
 use Rattle.ipc_namespace.proofs.Calling.{operator-there, sender-there}
 use Rattle.ipc_namespace.specs.Namespace.{MayReserve}
@@ -24,9 +24,9 @@ park-parked-requires c =
     record { free = sym (any_waiting c.args.client n.parked) ∙ ap (λ (s : State). list_any (λ w. w.client == c.args.client) s.parked) c.self.view_is ∙ c.requires.free }
 
 stays : (d : Decision State) → outcome_of d ≡ None → proceeds d ≡ false
-stays (Refuse rule) is = absurd (none-some (Err rule) (sym is))
-stays Wait is = refl
-stays (Grant answer new) is = absurd (none-some (Ok answer) (sym is))
+stays (Refused rule) is = absurd (none-some (Err rule) (sym is))
+stays Waits is = refl
+stays (Granted answer new) is = absurd (none-some (Ok answer) (sym is))
 
 went_well : {T E : Type 0} (r : Result T E) (P : Type 0) → is_err r ≡ false → OnOk r P → P
 went_well (Ok x) P good p = p
@@ -45,10 +45,10 @@ invariant_of-self-else-is_err c =
       subst (λ ws. AreParked (length n.clients.items) ws) (sym longer) (AreParked-push (length n.clients.items) (waiting n.parked) w c.self.invariant.1 known may free),
       λ id. c.in_ok-reserve_in.ensures.room id ∙ ap (λ q. room n.queues id + one_if (is_at id q)) c.sent_to-queue.ensures ∙ ap (λ k. k + one_if (is_send_to id c.args.call)) (c.self.invariant.2 id)
           ∙ sym (sends_on-push id (waiting n.parked) w) ∙ ap (λ ws. sends_on id ws) (sym longer),
-      subst (λ ws. AreHeld c.reserve_row.new.sets n.ended.items ws) (sym longer)
-          (held-push c.reserve_row.new.sets n.ended.items (waiting n.parked) w
-          (held-longer n.sets c.reserve_row.new.sets n.ended.items c.in_ok-reserve_row.ensures.rows (waiting n.parked) c.self.invariant.3)
-          (subst (λ (s : State). has_ended s c.args.client ≡ false) (sym c.self.view_is) c.requires.alive, c.in_ok-reserve_row.ensures.row)),
+      subst (λ ws. AreHeld c.reserve_row.new.sets n.exited.items ws) (sym longer)
+          (held-push c.reserve_row.new.sets n.exited.items (waiting n.parked) w
+          (held-longer n.sets c.reserve_row.new.sets n.exited.items c.in_ok-reserve_row.ensures.rows (waiting n.parked) c.self.invariant.3)
+          (subst (λ (s : State). has_exited s c.args.client ≡ false) (sym c.self.view_is) c.requires.alive, c.in_ok-reserve_row.ensures.row)),
     )
 
 pub reserve_in-requires : goal.reserve_in-requires
@@ -69,7 +69,7 @@ invariant_of-self-in_err-reserve_in c =
       c.self.invariant.0,
       c.self.invariant.1,
       λ id. ap (λ q. room q id) c.in_err-reserve_in.ensures.err ∙ c.self.invariant.2 id,
-      held-longer n.sets c.reserve_row.new.sets n.ended.items c.in_ok-reserve_row.ensures.rows (waiting n.parked) c.self.invariant.3,
+      held-longer n.sets c.reserve_row.new.sets n.exited.items c.in_ok-reserve_row.ensures.rows (waiting n.parked) c.self.invariant.3,
     )
 
 pub invariant_of-self-then-is_err : goal.invariant_of-self-then-is_err
@@ -80,5 +80,5 @@ invariant_of-self-then-is_err c =
       c.self.invariant.0,
       subst (λ ws. AreParked (length n.clients.items) ws) (sym same) c.self.invariant.1,
       λ id. (let one = c.in_ok-reserve_in.ensures.room id in let less = c.release_in.ensures.room id in omega (arith, one, less)) ∙ c.self.invariant.2 id ∙ ap (λ ws. sends_on id ws) (sym same),
-      subst (λ ws. AreHeld c.reserve_row.new.sets n.ended.items ws) (sym same) (held-longer n.sets c.reserve_row.new.sets n.ended.items c.in_ok-reserve_row.ensures.rows (waiting n.parked) c.self.invariant.3),
+      subst (λ ws. AreHeld c.reserve_row.new.sets n.exited.items ws) (sym same) (held-longer n.sets c.reserve_row.new.sets n.exited.items c.in_ok-reserve_row.ensures.rows (waiting n.parked) c.self.invariant.3),
     )

@@ -1,10 +1,10 @@
 use Rattle.std.proofs.Common.{ap}
 use Rattle.ipc_parked.specs.Parked.{waiting}
-use Rattle.set_calls.specs.Held.{Held, row_at}
+use Rattle.sem_calls.specs.WithRows.{SetsWithRows, row_at}
 use Rattle.ipc_namespace.proofs.Held.{held-same}
 use Rattle.ipc_namespace.proofs.namespace.Namespace.put_settings.Goals as goal
 
 pub invariant_of-self-in-Sems : goal.invariant_of-self-in-Sems
 invariant_of-self-in-Sems c =
     let n = c.self.inside in
-    (c.self.invariant.0, c.self.invariant.1, c.self.invariant.2, held-same n.sets c.set-in-Sems.new.self n.ended.items (λ client set. ap (λ (h : Held). row_at h client set) c.set-in-Sems.ensures) (waiting n.parked) c.self.invariant.3)
+    (c.self.invariant.0, c.self.invariant.1, c.self.invariant.2, held-same n.sets c.set-in-Sems.new.self n.exited.items (λ client set. ap (λ (h : SetsWithRows). row_at h client set) c.set-in-Sems.ensures) (waiting n.parked) c.self.invariant.3)

@@ -4,13 +4,13 @@ use Rattle.ipc_call.specs.declared.calls.Call.{Call}
 use Rattle.ipc_call.specs.declared.calls.Call.TheVariants.{SemOp}
 use Rattle.ipc_call.specs.declared.calls.SemOper.{SemOper}
 use Rattle.ipc_parked.specs.Parked.{waiting}
-use Rattle.set_calls.specs.Held.{sems_of}
-use Rattle.set_calls.specs.Operations.{operating}
+use Rattle.sem_calls.specs.WithRows.{sems_of}
+use Rattle.sem_calls.specs.Operations.{operating}
 use Rattle.ipc_model.specs.State.{Caller, Sems, State, caller}
 use Rattle.ipc_model.specs.Decision.{left_by, outcome_of}
 use Rattle.ipc_model.specs.Semaphores.{operate}
 use Rattle.ipc_model.specs.Decide.{decide_alive as decide, part_plan}
-use Rattle.queue_calls.proofs.Holding.{IfOk-map}
+use Rattle.msg_calls.proofs.Holding.{IfOk-map}
 use Rattle.ipc_namespace.specs.contracts.namespace.Namespace.{the_view}
 use Rattle.ipc_namespace.proofs.Calling.{put_sems, sets-left, sets-outcome}
 use Rattle.ipc_namespace.proofs.Held.{held-longer}
@@ -56,4 +56,4 @@ returns-clause-state c =
 pub invariant_of-self : goal.invariant_of-self
 invariant_of-self c =
     let n = c.self.inside in
-    (c.self.invariant.0, c.self.invariant.1, c.self.invariant.2, held-longer n.sets c.semop.new.self n.ended.items c.semop.ensures.rows (waiting n.parked) c.self.invariant.3)
+    (c.self.invariant.0, c.self.invariant.1, c.self.invariant.2, held-longer n.sets c.semop.new.self n.exited.items c.semop.ensures.rows (waiting n.parked) c.self.invariant.3)

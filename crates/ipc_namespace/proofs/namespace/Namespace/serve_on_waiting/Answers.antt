@@ -2,9 +2,9 @@ use Rattle.std.proofs.Common.{◌≡◌, ℕ, List, refl, sym, ap, ◌∙◌}
 use Rattle.ipc_call.specs.declared.calls.Call.{Call}
 use Rattle.ipc_call.specs.declared.calls.Call.TheVariants.{GetNcnt, GetZcnt}
 use Rattle.ipc_call.specs.declared.rules.Rule.TheVariants.{BadId}
-use Rattle.sem_set.specs.declared.sets.Semaphore.{Semaphore}
+use Rattle.sem_set.specs.declared.set.Semaphore.{Semaphore}
 use Rattle.ipc_model.specs.State.{Sems, State, caller, creds_at}
-use Rattle.ipc_model.specs.Decision.{Decision, Grant, Refuse, Wait, left_by, outcome_of}
+use Rattle.ipc_model.specs.Decision.{Decision, Granted, Refused, Waits, left_by, outcome_of}
 use Rattle.ipc_model.specs.Plan.{Plan, decision}
 use Rattle.ipc_model.specs.Semaphores.{look, set_at}
 use Rattle.ipc_model.proofs.Plans.{Ends, Ends-decision, Ends-found, IfGranted, decision-on, on_whole, outcome-on}
@@ -34,9 +34,9 @@ module _ (s : State) (client id num : ℕ) where
 
 -- what is granted with the part unchanged leaves the whole unchanged
 kept : (s : State) (d : Decision Sems) → IfGranted (λ answer new. new ≡ s.sems) d → left_by s (on_whole (put_sems s) d) ≡ s
-kept s (Refuse rule) same = refl
-kept s Wait same = refl
-kept s (Grant answer new) same = ap (λ u. put_sems s u) same
+kept s (Refused rule) same = refl
+kept s Waits same = refl
+kept s (Granted answer new) same = ap (λ u. put_sems s u) same
 
 left-same : (s : State) (client : ℕ) (call : Call) (p : Plan Sems) → part_plan s (caller s client) call ≡ OnSems p → Ends (λ answer new. new ≡ s.sems) p → left_by s (decide s client call) ≡ s
 left-same s client call p planned ends =

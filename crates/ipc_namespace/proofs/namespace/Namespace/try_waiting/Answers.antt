@@ -6,12 +6,12 @@ use Rattle.std.proofs.lemmas.Int.{to_z-of_z}
 use Rattle.ipc_call.specs.declared.calls.Call.{Call}
 use Rattle.ipc_call.specs.declared.calls.Call.TheVariants.{SemOp}
 use Rattle.ipc_call.specs.declared.calls.SemOper.{SemOper}
-use Rattle.ipc_call.specs.declared.replies.Ended.{Ended}
+use Rattle.ipc_call.specs.declared.replies.Completion.{Completion}
 use Rattle.ipc_call.specs.declared.replies.Waiting.{Waiting}
 use Rattle.ipc_model.specs.Decision.{without_answer}
-use Rattle.set_calls.specs.Held.{HasRow, sems_of}
-use Rattle.queue_calls.specs.Held.{queues_of}
-use Rattle.ipc_model.specs.State.{Caller, Queues, Sems, State, caller, has_ended, is_waiting, waiting_of}
+use Rattle.sem_calls.specs.WithRows.{HasRow, sems_of}
+use Rattle.msg_calls.specs.WithRoom.{queues_of}
+use Rattle.ipc_model.specs.State.{Caller, Queues, Sems, State, caller, has_exited, is_waiting, waiting_of}
 use Rattle.ipc_model.specs.Plan.{Plan, decision}
 use Rattle.ipc_model.specs.Semaphores.{operate}
 use Rattle.ipc_model.specs.Decision.{Outcome, left_by, outcome_of, proceeds}
@@ -47,11 +47,11 @@ is_own c = sym (ap (λ (s : State). waiting_of s c.args.client) c.self.view_is) 
 pub call_of-call-requires : goal.call_of-call-requires
 call_of-call-requires c = sym (any_waiting c.args.client c.self.inside.parked) ∙ ap (λ (s : State). is_waiting s c.args.client) c.self.view_is ∙ c.requires
 
-is_held : (c : After-deref) → IsHeld c.self.inside.sets c.self.inside.ended.items (tried c)
-is_held c = held-found c.self.inside.sets c.self.inside.ended.items (λ w. w.client == c.args.client) (waiting c.self.inside.parked) (tried c) c.self.invariant.3 (own c)
+is_held : (c : After-deref) → IsHeld c.self.inside.sets c.self.inside.exited.items (tried c)
+is_held c = held-found c.self.inside.sets c.self.inside.exited.items (λ w. w.client == c.args.client) (waiting c.self.inside.parked) (tried c) c.self.invariant.3 (own c)
 
-alive : (c : After-deref) → has_ended c.args.self.now c.args.client ≡ false
-alive c = subst (λ (s : State). has_ended s c.args.client ≡ false) c.self.view_is (is_held c).0
+alive : (c : After-deref) → has_exited c.args.self.now c.args.client ≡ false
+alive c = subst (λ (s : State). has_exited s c.args.client ≡ false) c.self.view_is (is_held c).0
 
 -- what is decided of the call, its client being alive
 as-decided : (c : After-deref) → proceeds (decide c.args.self.now c.args.client c.call_of-call.result.now) ≡ is_ready c.args.self.now (tried c)
@@ -110,7 +110,7 @@ returns-in_err-decided-in-MsgSnd-clause-ready c =
     let client = c.args.client in
     let fits : SFits w64 n.mtype = search rules in
     subst (λ o. IfSome o (λ (w : Waiting). is_some c.from_residual.result ≡ is_ready s w)) (sym (is_own b))
-    (ap (λ (o : Option Ended). is_some o) c.from_residual.ensures ∙ ap (λ o. is_some o) (c.in_err-decided-in-MsgSnd.ensures n.text (sym c.len.ensures)) ∙ answered-some _
+    (ap (λ (o : Option Completion). is_some o) c.from_residual.ensures ∙ ap (λ o. is_some o) (c.in_err-decided-in-MsgSnd.ensures n.text (sym c.len.ensures)) ∙ answered-some _
     ∙ send-proceeds (the_view k.self.inside) s client c.caller_of-who.result c.self.view_is (called k) n.id n.flags _ n.mtype n.text (to_z-of_z w64 n.mtype fits)
     ∙ ap (λ (call : Call). proceeds (decide s client call)) (sym n.is) ∙ as-decided b)
 
@@ -123,7 +123,7 @@ returns-in_err-outcome-in-MsgRcv-clause-ready c =
     let client = c.args.client in
     let fits : SFits w64 n.msgtyp = search rules in
     subst (λ o. IfSome o (λ (w : Waiting). is_some c.from_residual-in_err-outcome-in-MsgRcv.result ≡ is_ready s w)) (sym (is_own b))
-    (ap (λ (o : Option Ended). is_some o) c.from_residual-in_err-outcome-in-MsgRcv.ensures ∙ ap (λ (o : Option Outcome). is_some o) c.in_err-outcome-in-MsgRcv.ensures.outcome ∙ outcome-some _
+    (ap (λ (o : Option Completion). is_some o) c.from_residual-in_err-outcome-in-MsgRcv.ensures ∙ ap (λ (o : Option Outcome). is_some o) c.in_err-outcome-in-MsgRcv.ensures.outcome ∙ outcome-some _
     ∙ receive-proceeds (the_view k.self.inside) s client c.caller_of-who.result c.self.view_is (called k) n.id n.size n.flags _ n.msgtyp (to_z-of_z w64 n.msgtyp fits)
     ∙ ap (λ (call : Call). proceeds (decide s client call)) (sym n.is) ∙ as-decided b)
 
@@ -143,7 +143,7 @@ invariant_of-self-in-SemOp c = (
   c.self.invariant.0,
   c.self.invariant.1,
   c.self.invariant.2,
-  held-same c.self.inside.sets c.semop_reserved.new.self c.self.inside.ended.items c.semop_reserved.ensures.rows (waiting c.self.inside.parked) c.self.invariant.3,
+  held-same c.self.inside.sets c.semop_reserved.new.self c.self.inside.exited.items c.semop_reserved.ensures.rows (waiting c.self.inside.parked) c.self.invariant.3,
 )
 
 pub invariant_of-self-in_err-outcome-in-SemOp : goal.invariant_of-self-in_err-outcome-in-SemOp
@@ -151,7 +151,7 @@ invariant_of-self-in_err-outcome-in-SemOp c = (
   c.self.invariant.0,
   c.self.invariant.1,
   c.self.invariant.2,
-  held-same c.self.inside.sets c.semop_reserved.new.self c.self.inside.ended.items c.semop_reserved.ensures.rows (waiting c.self.inside.parked) c.self.invariant.3,
+  held-same c.self.inside.sets c.semop_reserved.new.self c.self.inside.exited.items c.semop_reserved.ensures.rows (waiting c.self.inside.parked) c.self.invariant.3,
 )
 
 pub semop_reserved-requires : goal.semop_reserved-requires
@@ -204,7 +204,7 @@ returns-in_ok-outcome-in-MsgRcv-clause-ended c =
     (c.end_as.ensures.state
     ∙ receive-left (without (the_view k.self.inside) client) t client c.caller_of-who.result (rest_is k) (called k) n.id n.size n.flags _ n.msgtyp back (queues_of c.msgrcv.new.self) c.msgrcv.ensures.queues
     ∙ ap (λ (call : Call). left_by t (decide t client call)) (sym n.is))
-    ∙ ap (λ (e : Ended). record { state = new; ended = e ∷ [] }) (sym c.end_as.ensures.ended))
+    ∙ ap (λ (e : Completion). record { state = new; ended = e ∷ [] }) (sym c.end_as.ensures.ended))
 
 -- a semop, as the code reads it
 module _ (c : After-caller_of-who) (id : ℕ) (ops : List SemOper) (is : c.call_of-call.result.now ≡ SemOp id ops) where
@@ -238,7 +238,7 @@ returns-in_err-outcome-in-SemOp-clause-ready c =
     let s = c.args.self.now in
     let is : c.call_of-call.result.now ≡ SemOp n.id c.as_slice.result.now = n.is ∙ ap (λ (ops : List SemOper). SemOp n.id ops) (sym c.as_slice.ensures) in
     subst (λ o. IfSome o (λ (w : Waiting). is_some c.from_residual-in_err-outcome-in-SemOp.result ≡ is_ready s w)) (sym (is_own b))
-    (ap (λ (o : Option Ended). is_some o) c.from_residual-in_err-outcome-in-SemOp.ensures ∙ ap (λ (o : Option Outcome). is_some o) c.in_err-outcome-in-SemOp.ensures.outcome
+    (ap (λ (o : Option Completion). is_some o) c.from_residual-in_err-outcome-in-SemOp.ensures ∙ ap (λ (o : Option Outcome). is_some o) c.in_err-outcome-in-SemOp.ensures.outcome
     ∙ ap (λ (o : Option Outcome). is_some o) (op-outcome k n.id c.as_slice.result.now is) ∙ outcome-some _ ∙ as-decided b)
 
 pub returns-in_err-outcome-in-SemOp-clause-none : goal.returns-in_err-outcome-in-SemOp-clause-none
@@ -270,4 +270,4 @@ returns-in_ok-outcome-in-SemOp-clause-ended c =
     (ends-so s new client c.call_of-call.result.now (there b).0 c.in_ok-outcome-in-SemOp.outcome (alive b)
     (sym (op-rest k n.id c.as_slice.result.now is) ∙ sym c.in_ok-outcome-in-SemOp.ensures.outcome)
     (c.end_as-in-SemOp.ensures.state ∙ op-left k n.id c.as_slice.result.now is (sems_of c.semop_reserved.new.self) c.semop_reserved.ensures.sems)
-    ∙ ap (λ (e : Ended). record { state = new; ended = e ∷ [] }) (sym c.end_as-in-SemOp.ensures.ended))
+    ∙ ap (λ (e : Completion). record { state = new; ended = e ∷ [] }) (sym c.end_as-in-SemOp.ensures.ended))

@@ -6,7 +6,7 @@ use Rattle.ipc_call.specs.declared.calls.Call.{Call}
 use Rattle.ipc_call.specs.declared.calls.Call.TheVariants.{MsgSnd, MsgRcv, SemOp, SemTimedOp}
 use Rattle.ipc_model.specs.State.{State, creds_at}
 use Rattle.ipc_model.specs.Plan.{decision}
-use Rattle.ipc_model.specs.Decision.{Decision, Grant, Refuse, Wait, outcome_of, proceeds}
+use Rattle.ipc_model.specs.Decision.{Decision, Granted, Refused, Waits, outcome_of, proceeds}
 use Rattle.ipc_model.specs.Decide.{can_wait, decide_alive as decide, part_plan, plan_alive, waits_as}
 use Rattle.ipc_model.proofs.Calls.{only_parkable_alive}
 use Rattle.ipc_namespace.proofs.namespace.Namespace.wait.Goals as goal
@@ -24,9 +24,9 @@ stands-as (SemTimedOp id ops timeout) can = refl
 stands-as call can = absurd (true≢false (sym can))
 
 stays : (d : Decision State) → outcome_of d ≡ None → proceeds d ≡ false
-stays (Refuse rule) is = absurd (none-some (Err rule) (sym is))
-stays Wait is = refl
-stays (Grant answer new) is = absurd (none-some (Ok answer) (sym is))
+stays (Refused rule) is = absurd (none-some (Err rule) (sym is))
+stays Waits is = refl
+stays (Granted answer new) is = absurd (none-some (Ok answer) (sym is))
 
 pub park-requires-clause-waits : goal.park-requires-clause-waits
 park-requires-clause-waits c =

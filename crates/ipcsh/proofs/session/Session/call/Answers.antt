@@ -4,7 +4,7 @@ use Rattle.ipc_call.specs.declared.replies.Reply.TheVariants.{Memory}
 use Rattle.ipc_history.specs.History.{next_step, with_event}
 use Rattle.ipc_space.specs.Spaces.{other_replies, own_reply}
 use Rattle.ipc_text.specs.Rows.{effect_rows, name_at, reply_row}
-use Rattle.ipcsh.specs.Commands.{call_event, id_told}
+use Rattle.ipcsh.specs.Commands.{call_event, id_answered}
 use Rattle.ipcsh.specs.Session.{Session, events_of, history_of}
 use Rattle.ipcsh.proofs.CommandLemmas.{Leads-called, Leads-waits}
 use Rattle.ipcsh.proofs.session.Session.call.Goals as goal
@@ -32,7 +32,7 @@ returns-in_ok-print_effects-in-Ok-clause-does c =
     (sym c.is_waiting.ensures ∙ c.if-is_waiting.false)
     session
     (c.in_ok-print_effects-in-Ok.ensures ∙ (λ i. string_bytes c.args.rows.now ++ effect_rows (names i) client (place i) (own i) (others i)))
-    (c.id_of.ensures ∙ ap id_told own)
+    (c.id_of.ensures ∙ ap id_answered own)
 
 -- memory was refused, and nothing else has changed
 pub returns-in_ok-print_reply-in-Err-clause-does : goal.returns-in_ok-print_reply-in-Err-clause-does

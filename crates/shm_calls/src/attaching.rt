@@ -1,0 +1,131 @@
+//! shmat and shmdt (shmop(2)), and what an exit detaches.
+
+ghost use Rattle.std.specs.Prelude.{◌≡◌, ◌<◌, Some, None, IfOk, OnOk, OnErr, IfSome, IsSome};
+ghost use Rattle.ipc_model.specs.Decision.{left_by, outcome_of};
+ghost use Rattle.ipc_model.specs.Segments.{after_detaches, attachment_to, detached, detached_by, left_segment};
+ghost use Rattle.ipc_model.specs.Segments.{segment_at, wanted_to_attach, with_attached};
+ghost use Rattle.ipc_objects.specs.Objects.{with_contents};
+ghost use Rattle.shm_calls.specs.Calls.{attaching, detaching};
+ghost use Rattle.shm_seg.specs.Attachments.{attachment_at};
+
+use crate::segments::Segments;
+use ipc_call::{Answer, Memory, Outcome, Rule, is_read_only};
+use ipc_perm::{Verdict, Want, decide};
+use object_calls::Caller;
+use shm_seg::Attachment;
+
+impl Segments {
+    /// Attaches the segment of an identifier under the least number that the caller has free, with `SHM_RDONLY` in the
+    /// flags for reading alone (shmat of shmop(2)). Memory comes where a growth was refused, and then nothing has
+    /// changed.
+    pub fn shmat(&mut self, who: &Caller, id: u32, flags: u32) -> Result<Outcome, Memory>
+        ensures outcome { IfOk result (λ outcome.
+            outcome_of (attaching self.old who.entry.now id flags) ≡ Some outcome) }
+        ensures shared { OnOk result (self.new ≡ left_by self.old (attaching self.old who.entry.now id flags)) }
+        ensures err { OnErr result (self.new ≡ self.old) }
+    {
+        let Some(segment) = self.get(id) else {
+            return Ok(Err(Rule::BadId));
+        };
+        if let Verdict::Denied(rule) = decide(who.creds(), &segment.perm, wanted_by(flags)) {
+            return Ok(Err(rule));
+        }
+        let Some(number) = self.attached.free_number(who.client()) else {
+            return Ok(Err(Rule::TooManyAttached));
+        };
+        self.attach(who, id, flags, number)?;
+        Ok(Ok(Answer::Attached(number)))
+    }
+
+    /// shmat, which was decided, under a number that is free.
+    fn attach(&mut self, who: &Caller, id: u32, flags: u32, number: u32) -> Result<(), Memory>
+        requires there { IsSome (segment_at self.old id) }
+        requires number { number < 4096 }
+        requires free { attachment_at self.old.attached who.now.client number ≡ None }
+        ensures ok { OnOk result (IfSome (segment_at self.old id) (λ segment.
+            self.new ≡ with_attached self.old who.entry.now number (attachment_to id flags) segment.contents)) }
+        ensures err { OnErr result (self.new ≡ self.old) }
+    {
+        let attachment = Attachment {
+            segment: id,
+            is_read_only: is_read_only(flags),
+        };
+        self.attached.attach(who.client(), number, attachment)?;
+        let Some(segment) = self.segments.contents_mut(id) else {
+            unreachable!()
+        };
+        segment.last = who.pid();
+        segment.attach_time = who.now();
+        Ok(())
+    }
+
+    /// Detaches what the caller has attached under a number (shmdt of shmop(2)). A segment that is marked for removal
+    /// goes with its last attachment (IPC_RMID of shmctl(2)). It takes no memory.
+    pub fn shmdt(&mut self, who: &Caller, att: u32) -> Outcome
+        ensures outcome { outcome_of (detaching self.old who.entry.now att) ≡ Some result }
+        ensures shared { self.new ≡ left_by self.old (detaching self.old who.entry.now att) }
+    {
+        if self.attached.get(who.client(), att).is_none() {
+            return Err(Rule::NotAttached);
+        }
+        self.detach(who, att);
+        Ok(Answer::Done)
+    }
+
+    /// Detaches all that the caller has attached, as its exit does, the least number first (shmop(2); POSIX XSH _Exit).
+    /// It takes no memory.
+    pub fn exit(&mut self, who: &Caller)
+        ensures { self.new ≡ after_detaches self.old who.entry.now }
+    {
+        while let Some(number) = self.attached.first(who.client()) {
+            self.detach(who, number);
+        }
+    }
+
+    /// Detaches what the caller has attached under a number, where there is anything.
+    fn detach(&mut self, who: &Caller, number: u32)
+        ensures { self.new ≡ detached self.old who.entry.now number }
+    {
+        if let Some(attachment) = self.attached.detach(who.client(), number) {
+            self.leave(who, attachment.segment);
+        }
+    }
+
+    /// What the detach of one of its attachments leaves of the segment of an identifier, where there is one.
+    fn leave(&mut self, who: &Caller, id: u32)
+        ensures { self.new ≡ left_segment self.old who.entry.now id (segment_at self.old id) }
+    {
+        let Some(segment) = self.get(id) else {
+            return;
+        };
+        if segment.contents.memory.is_marked() && self.nattch(id) == 0 {
+            self.segments.remove(id);
+        } else {
+            self.note_detach(who, id);
+        }
+    }
+
+    /// Sets who detached the segment of an identifier last, which there is, and when.
+    fn note_detach(&mut self, who: &Caller, id: u32)
+        requires { IsSome (segment_at self.old id) }
+        ensures { IfSome (segment_at self.old id) (λ segment. self.new ≡ record self.old {
+          segments = with_contents self.old.segments id (detached_by who.entry.now segment.contents);
+        }) }
+    {
+        let Some(segment) = self.segments.contents_mut(id) else {
+            unreachable!()
+        };
+        segment.last = who.pid();
+        segment.detach_time = who.now();
+    }
+}
+
+/// The rights that shmat needs with these flags: to read, and without `SHM_RDONLY` to write (shmop(2)).
+fn wanted_by(flags: u32) -> Want
+    ensures { result ≡ wanted_to_attach flags }
+{
+    Want {
+        read: true,
+        alter: !is_read_only(flags),
+    }
+}
