@@ -32,4 +32,4 @@ pub use replies::{
     Status, Waiting,
 };
 pub use rules::{Rule, errno};
-pub use settings::{Receive, Settings};
+pub use settings::{Get, GetSegment, GetSet, Receive, Sending, Settings};

@@ -2,23 +2,11 @@
 
 use ipc_arguments::{Argument, Quoted, Told, explain_comment, explain_word, nearest};
 use ipc_call::{Limit, Memory};
+use ipc_text::limit_named;
 use std::fmt::Write;
 
 /// The limits, by name.
 const LIMITS: &str = "slots first-seq msgmax msgmnb semmsl semopm shmmax";
-
-fn limit_named(word: &[u8]) -> Option<Limit> {
-    match word {
-        b"slots" => Some(Limit::Slots),
-        b"first-seq" => Some(Limit::FirstSeq),
-        b"msgmax" => Some(Limit::MsgMax),
-        b"msgmnb" => Some(Limit::MsgMnb),
-        b"semmsl" => Some(Limit::SemMsl),
-        b"semopm" => Some(Limit::SemOpm),
-        b"shmmax" => Some(Limit::ShmMax),
-        _ => None,
-    }
-}
 
 /// Appends what is wrong with the words after `limit`.
 pub(crate) fn explain_limit(out: &mut String, words: &[&[u8]]) -> Told {

@@ -5,6 +5,7 @@ use Rattle.std.specs.Prelude.{ℕ, ◌%◌, ◌==◌, nat_le, nat_lt, false, not
 use Rattle.ipc_call.specs.Flags.{has_flag, ipc_creat, ipc_excl}
 use Rattle.ipc_call.specs.declared.rules.Rule.TheVariants.{NoKey, KeyExists, NoSlot, BadSize}
 use Rattle.ipc_call.specs.declared.replies.Answer.TheVariants.{Id}
+pub use Rattle.ipc_call.specs.declared.settings.Get.{Get}
 use Rattle.ipc_perm.specs.Access.{Permission, asked_of}
 use Rattle.ipc_ids.specs.Table.{Table, find_object, next_id, with_object}
 use Rattle.ipc_objects.specs.Objects.{has_key}
@@ -23,11 +24,6 @@ new_object who key flags contents =
 
 abbrev pub make_object : {X : Type 0} → Table (Object X) → Object X → Plan (Table (Object X))
 make_object t object = found (next_id t) NoSlot _ (λ id. Grant (Id id) (with_object t id object))
-
--- what a get asks for
-pub record Get : Type 0 where
-  pub key : ℕ
-  pub flags : ℕ
 
 -- what a get of a kind has of its own: what a new object holds, the checks before one is made, and those on one that is
 -- found

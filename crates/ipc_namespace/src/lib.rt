@@ -6,11 +6,11 @@ mod callers;
 mod cancelling;
 mod control_calls;
 mod listings;
-mod segment_calls;
 mod message_calls;
 mod namespace;
 mod process_calls;
 mod reserving;
+mod segment_calls;
 mod semaphore_calls;
 
 pub use namespace::Namespace;

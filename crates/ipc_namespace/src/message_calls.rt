@@ -6,20 +6,20 @@ ghost use Rattle.ipc_model.specs.Decide.{decide_alive as decision_on};
 
 use crate::callers::caller_of;
 use crate::namespace::Namespace;
-use ipc_call::{Answer, Call, Items, Memory, Outcome, Receive};
+use ipc_call::{Answer, Call, Get, Items, Memory, Outcome, Receive, Sending};
 
 impl Namespace {
     /// msgget. The error comes only where an allocation fails, and then nothing has changed.
     #[tactic(auto, unfolding(ipc_model::specs::Decide::part_plan))]
-    pub(super) fn msgget(&mut self, client: u32, key: u32, flags: u32) -> Result<Outcome, Memory>
+    pub(super) fn msgget(&mut self, client: u32, asked: Get) -> Result<Outcome, Memory>
         requires known { client < length self.old.clients }
-        ensures outcome { IfOk result (λ outcome. outcome_of (decision_on self.old client (Call.MsgGet key flags)) ≡ Some outcome) }
-        ensures state { OnOk result (self.new ≡ left_by self.old (decision_on self.old client (Call.MsgGet key flags))) }
+        ensures outcome { IfOk result (λ outcome. outcome_of (decision_on self.old client (Call.MsgGet asked.key asked.flags)) ≡ Some outcome) }
+        ensures state { OnOk result (self.new ≡ left_by self.old (decision_on self.old client (Call.MsgGet asked.key asked.flags))) }
         ensures parked { self.new.parked ≡ self.old.parked }
         ensures err { OnErr result (self.new ≡ self.old) }
     {
         let who = caller_of(&self.clients, client, self.clock);
-        self.queues.msgget(&self.limits, &who, key, flags)
+        self.queues.msgget(&self.limits, &who, asked)
     }
 
     /// msgrcv: None where it is to wait, and then nothing has changed. It takes no memory.
@@ -52,10 +52,12 @@ impl Namespace {
         ensures err { OnErr result (self.new ≡ self.old) }
     {
         let who = caller_of(&self.clients, client, self.clock);
-        match self
-            .queues
-            .decide_send(&self.limits, &who, id, mtype, text.len(), flags)
-        {
+        let asked = Sending {
+            mtype,
+            len: text.len(),
+            flags,
+        };
+        match self.queues.decide_send(&self.limits, &who, id, asked) {
             None => Ok(None),
             Some(Err(rule)) => Ok(Some(Err(rule))),
             Some(Ok(())) => {

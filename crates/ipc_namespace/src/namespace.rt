@@ -1,31 +1,6 @@
 // The state of a namespace, and how one event changes it.
 
-ghost use Rattle.std.specs.Prelude.{
-  ◌≡◌,
-  ◌+◌,
-  ◌<◌,
-  ◌≤◌,
-  true,
-  false,
-  [],
-  ◌∷◌,
-  ◌++◌,
-  length,
-  vec_len,
-  vec_capacity,
-  IsTrue,
-  IfOk,
-  IfSome,
-  IfNone,
-  IsSome,
-  OnOk,
-  OnErr,
-  Err,
-  is_some,
-  option_map,
-  Some,
-  None,
-};
+ghost use Rattle.std.specs.Prelude.{◌≡◌, ◌+◌, ◌<◌, ◌≤◌, true, false, [], ◌∷◌, ◌++◌, length, vec_len, vec_capacity, IsTrue, IfOk, IfSome, IfNone, IsSome, OnOk, OnErr, Err, is_some, option_map, Some, None};
 ghost use Rattle.ipc_call.specs.Limits.{are_in_range};
 ghost use Rattle.ipc_model.specs.State.{opening, has_exited as exited_before, is_waiting as waits, waiting_of};
 ghost use Rattle.ipc_model.specs.Decision.{left_by, outcome_of};
@@ -33,31 +8,21 @@ ghost use Rattle.ipc_model.specs.Decide.{decide_alive as decision_alive, decide_
 ghost use Rattle.std.specs.List.{AllByRecursion, find};
 ghost use Rattle.ipc_parked.specs.Parked.{AreApart};
 ghost use Rattle.ipc_parked.specs.Touched.{is_touched};
-ghost use Rattle.ipc_model.specs.Step.{
-  Moved as MovedTo,
-  after,
-  expire,
-  is_ready,
-  first_ready as first_that_is_ready,
-  end_waiting,
-  enter as enters,
-  moved_by,
-  settled,
-  step,
-  without,
-};
+ghost use Rattle.ipc_model.specs.Step.{Moved as MovedTo, after, expire, is_ready, first_ready as first_that_is_ready, end_waiting, enter as enters, moved_by, settled, step, without};
 ghost use Rattle.ipc_namespace.specs.Namespace.{decide_made, is_grant, is_on_waiting as is_on_waiting_by, left_alive, left_made, sent_to as call_sent_to, stands, AreQuietBut};
 ghost use Rattle.ipc_model.specs.Decision.{without_answer};
 
 use crate::callers::caller_of;
 use crate::reserving::{release_in, reserve_in, reserve_row, sent_to};
 use crate::semaphore_calls::Awaited;
-use ipc_call::{Answer, Call, Completion, Limits, Memory, Outcome, Receive, Rule, Settings};
+use ipc_call::{
+    Answer, Call, Completion, Get, Limits, Memory, Outcome, Receive, Rule, Sending, Settings,
+};
 use ipc_creds::Creds;
-use ipc_parked::{Parked, Touched};
+use ipc_parked::{Arrival, Parked, Touched};
 use msg_calls::Queues;
-use shm_calls::Segments;
 use sem_calls::Sets;
+use shm_calls::Segments;
 use std::marker::Model;
 
 /// The state of a namespace: its objects, its clients, its clock in seconds, and the calls that wait
@@ -259,7 +224,12 @@ impl Namespace {
     }
 
     /// Serves a call that ends no waiting call and doesn't look at them, of a client that hasn't ended.
-    fn carry_out_alone(&mut self, client: u32, place: u64, call: &Call) -> Result<Option<Outcome>, Memory>
+    fn carry_out_alone(
+        &mut self,
+        client: u32,
+        place: u64,
+        call: &Call,
+    ) -> Result<Option<Outcome>, Memory>
         requires known { client < length self.old.clients }
         requires free { waits self.old client ≡ false }
         requires alive { exited_before self.old client ≡ false }
@@ -288,7 +258,12 @@ impl Namespace {
         if deadline.is_some_and(|deadline| deadline <= self.clock) {
             return Ok(Some(Err(Rule::TimedOut)));
         }
-        self.park(client, place, as_it_waits(call)?, deadline)?;
+        let arrival = Arrival {
+            place,
+            call: as_it_waits(call)?,
+            deadline,
+        };
+        self.park(client, arrival)?;
         Ok(None)
     }
 
@@ -341,7 +316,13 @@ impl Namespace {
         ensures err { OnErr result (self.new ≡ self.old) }
     {
         match call {
-            Call::MsgGet { key, flags } => Ok(Some(self.msgget(client, *key, *flags)?)),
+            Call::MsgGet { key, flags } => {
+                let asked = Get {
+                    key: *key,
+                    flags: *flags,
+                };
+                Ok(Some(self.msgget(client, asked)?))
+            }
             Call::MsgSnd {
                 id,
                 mtype,
@@ -412,25 +393,21 @@ impl Namespace {
 
     /// Makes the call wait, as the last, on which that was decided. What its completion needs is made here. Memory
     /// comes where a growth was refused, and then nothing has changed.
-    pub(super) fn park(
-        &mut self,
-        client: u32,
-        place: u64,
-        call: Call,
-        deadline: Option<u64>,
-    ) -> Result<(), Memory>
+    pub(super) fn park(&mut self, client: u32, arrival: Arrival) -> Result<(), Memory>
         requires known { client < length self.old.clients }
         requires free { waits self.old client ≡ false }
         requires alive { exited_before self.old client ≡ false }
-        requires waits { outcome_of (decision_alive self.old client call) ≡ None }
-        requires as_semop { stands call ≡ true }
-        ensures ok { OnOk result (self.new ≡ record self.old { parked = self.old.parked ++ record { client = client; call = call; deadline = deadline } ∷ [] }) }
+        requires waits { outcome_of (decision_alive self.old client arrival.call) ≡ None }
+        requires as_semop { stands arrival.call ≡ true }
+        ensures ok { OnOk result (self.new ≡ record self.old { parked = self.old.parked ++ record { client = client; call = arrival.call; deadline = arrival.deadline } ∷ [] }) }
         ensures err { OnErr result (self.new ≡ self.old) }
     {
-        reserve_row(&mut self.sets, client, &call)?;
-        let queue = sent_to(&call);
+        reserve_row(&mut self.sets, client, &arrival.call)?;
+        let queue = sent_to(&arrival.call);
         reserve_in(&mut self.queues, queue)?;
-        let parked = self.parked.park(client, place, call, deadline);
+        let parked = self
+            .parked
+            .park(client, arrival.place, arrival.call, arrival.deadline);
         if parked.is_err() {
             release_in(&mut self.queues, queue);
         }
@@ -486,9 +463,12 @@ impl Namespace {
                 text,
                 flags,
             } => {
-                let decided = self
-                    .queues
-                    .decide_send(&self.limits, &who, *id, *mtype, text.len(), *flags)?;
+                let asked = Sending {
+                    mtype: *mtype,
+                    len: text.len(),
+                    flags: *flags,
+                };
+                let decided = self.queues.decide_send(&self.limits, &who, *id, asked)?;
                 Some(self.end_send(client, decided))
             }
             Call::MsgRcv {

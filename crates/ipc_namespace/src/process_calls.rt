@@ -21,7 +21,12 @@ impl Namespace {
     /// An interrupt of the client of a process: its waiting call ends; there is room for it in the list of those that
     /// ended.
     #[tactic(auto, unfolding(ipc_model::specs::Decide::part_plan))]
-    pub(super) fn interrupt(&mut self, client: u32, pid: u32, ended: &mut Vec<Completion>) -> Outcome
+    pub(super) fn interrupt(
+        &mut self,
+        client: u32,
+        pid: u32,
+        ended: &mut Vec<Completion>,
+    ) -> Outcome
         requires known { client < length self.old.clients }
         requires space { vec_len ended.old + length self.old.parked ≤ vec_capacity ended.old }
         ensures outcome { outcome_of (decision_on self.old client (Call.Interrupt pid)) ≡ Some result }

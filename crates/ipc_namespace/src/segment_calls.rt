@@ -7,7 +7,7 @@ ghost use Rattle.ipc_namespace.specs.Namespace.{is_on_segments};
 
 use crate::callers::caller_of;
 use crate::namespace::Namespace;
-use ipc_call::{Call, Memory, Outcome};
+use ipc_call::{Call, Get, GetSegment, Memory, Outcome};
 
 impl Namespace {
     /// A call on segments alone, of which none waits. The error comes only where an allocation fails, and then nothing
@@ -23,9 +23,14 @@ impl Namespace {
     {
         let who = caller_of(&self.clients, client, self.clock);
         match call {
-            Call::ShmGet { key, size, flags } => self
-                .segments
-                .shmget(&self.limits, &who, *key, *size, *flags),
+            Call::ShmGet { key, size, flags } => {
+                let get = Get {
+                    key: *key,
+                    flags: *flags,
+                };
+                let asked = GetSegment { get, size: *size };
+                self.segments.shmget(&self.limits, &who, asked)
+            }
             Call::ShmAt { id, flags } => self.segments.shmat(&who, *id, *flags),
             Call::ShmDt { att } => Ok(self.segments.shmdt(&who, *att)),
             Call::ShmRead { att, offset, len } => self.segments.shmread(&who, *att, *offset, *len),

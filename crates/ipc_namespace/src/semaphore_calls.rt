@@ -10,7 +10,7 @@ ghost use Rattle.ipc_namespace.specs.Namespace.{is_awaited, is_on_sets};
 
 use crate::callers::caller_of;
 use crate::namespace::Namespace;
-use ipc_call::{Answer, Call, Items, Memory, Outcome, SemOper};
+use ipc_call::{Answer, Call, Get, GetSet, Items, Memory, Outcome, SemOper};
 
 /// What a waiting semop waits for, at the operation where it stops.
 #[derive(Clone, Copy, Debug, PartialEq, Eq)]
@@ -113,9 +113,14 @@ impl Namespace {
     {
         let who = caller_of(&self.clients, client, self.clock);
         match call {
-            Call::SemGet { key, nsems, flags } => self
-                .sets
-                .semget(&self.limits, &who, *key, *nsems, *flags),
+            Call::SemGet { key, nsems, flags } => {
+                let get = Get {
+                    key: *key,
+                    flags: *flags,
+                };
+                let asked = GetSet { get, nsems: *nsems };
+                self.sets.semget(&self.limits, &who, asked)
+            }
             Call::GetVal { id, num } => Ok(self.sets.getval(&who, *id, *num)),
             Call::GetPid { id, num } => Ok(self.sets.getpid(&who, *id, *num)),
             Call::GetAll { id } => self.sets.getall(&who, *id),

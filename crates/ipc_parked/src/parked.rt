@@ -31,8 +31,7 @@ use ipc_call::{Call, Kind, Memory};
 use std::alloc::Global;
 use std::marker::Model;
 
-/// A call that waits, and when it came. That waiting calls are held in order of arrival is the project's
-/// own.
+/// A call that waits, and when it came.
 #[derive(Debug, Drop)]
 pub struct Arrival {
     /// The place, from 1, of the event that brought the call.

@@ -1,24 +1,6 @@
 // A namespace with its journal.
 
-ghost use Rattle.std.specs.Prelude.{
-  ◌≡◌,
-  ◌+◌,
-  ◌<◌,
-  ◌≤◌,
-  true,
-  false,
-  [],
-  ◌∷◌,
-  ◌++◌,
-  length,
-  map,
-  vec_len,
-  vec_capacity,
-  IsTrue,
-  IfOk,
-  OnOk,
-  OnErr,
-};
+ghost use Rattle.std.specs.Prelude.{◌≡◌, ◌+◌, ◌<◌, ◌≤◌, true, false, [], ◌∷◌, ◌++◌, length, map, vec_len, vec_capacity, IsTrue, IfOk, OnOk, OnErr};
 ghost use Rattle.ipc_call.specs.Limits.{are_in_range};
 ghost use Rattle.ipc_model.specs.State.{is_waiting as waits};
 ghost use Rattle.ipc_model.specs.Step.{Stepped};

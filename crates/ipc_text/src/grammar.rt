@@ -17,8 +17,7 @@ use ipc_words::{number, split_field, split_word};
 use std::alloc::{AllocError, Global};
 
 /// The client of `NAME EUID EGID [groups=G,G,..] [caps=C,C,..] [saved=SUID:SGID]`, the words behind `client`; `None`
-/// where they aren't of this form. `AllocError` comes only where a growth was refused. The directive is the project's
-/// own.
+/// where they aren't of this form. `AllocError` comes only where a growth was refused.
 #[tactic(auto, unfolding(crate::specs::Grammar::client_of))]
 pub fn client_of(alloc: Global, words: &[u8]) -> Result<Option<(Name, Creds)>, AllocError>
     ensures { IfOk result (λ client. client ≡ client_line (words_of words.now)) }
@@ -165,8 +164,8 @@ fn saved_pair(text: &[u8]) -> Option<(u32, u32)>
     }
 }
 
-/// The limit of `LIMIT N`, the words behind `limit`, and its value, in its range; `None` where they aren't of
-/// this form. The directive is the project's own.
+/// The limit of `LIMIT N`, the words behind `limit`, and its value, in its range; `None` where they aren't of this
+/// form.
 #[tactic(auto, unfolding(crate::specs::Grammar::limit_of))]
 pub fn limit_of(words: &[u8]) -> Option<(Limit, u32)>
     ensures value { result ≡ limit_words (words_of words.now) }
@@ -178,8 +177,7 @@ pub fn limit_of(words: &[u8]) -> Option<(Limit, u32)>
     Some((limit, value))
 }
 
-/// The time of `N`, the word behind `clock`, in seconds; `None` where it isn't a number of 64 bits. The
-/// directive is the project's own.
+/// The time of `N`, the word behind `clock`, in seconds; `None` where it isn't a number of 64 bits.
 #[tactic(auto, unfolding(crate::specs::Grammar::clock_of))]
 pub fn clock_of(words: &[u8]) -> Option<u64>
     ensures { result ≡ clock_words (words_of words.now) }

@@ -24,3 +24,4 @@ pub use ipc_words::{Line, Pending, is_plain, split_word};
 pub use names::Name;
 pub use reasons::Reason;
 pub use rows::{print_bad, print_object, print_reply, print_waits};
+pub use settings::limit_named;

@@ -11,7 +11,6 @@ use std::marker::Model;
 const LONGEST: usize = 16;
 
 /// The name of a client: 1 to 16 of `a` to `z` and `0` to `9`, beginning with a letter, and no directive.
-/// Names are the project's own.
 #[derive(Debug, Drop)]
 pub struct Name {
     text: String,
@@ -42,7 +41,7 @@ impl Name {
         }))
     }
 
-    /// The name as text (the project's own).
+    /// The name as text.
     pub fn as_str(&self) -> &str
         ensures text { result.now ≡ self.now }
         ensures name { IsTrue (names_client result.now) }

@@ -17,8 +17,8 @@ use std::fmt::Write;
 /// Of the mode of a segment: it is removed with its last attachment (shmctl(2)).
 const SHM_DEST: u16 = 0o1000;
 
-/// Appends the row of a bad line, by its number from 1. `Memory` comes where a growth was refused, and a part
-/// of the row may then stand in `rows`; so with each of the printers. The rows are the project's own.
+/// Appends the row of a bad line, by its number from 1. `Memory` comes where a growth was refused, and a part of the
+/// row may then stand in `rows`; so with each of the printers.
 pub fn print_bad(rows: &mut String, line: u64, reason: Reason) -> Result<(), Memory>
     ensures { OnOk result (string_bytes rows.new ≡ string_bytes rows.old ++ bad_row line reason) }
 {
@@ -26,8 +26,8 @@ pub fn print_bad(rows: &mut String, line: u64, reason: Reason) -> Result<(), Mem
     write!(rows, "line {line}: {reason}\n")
 }
 
-/// Appends the row of a reply to the client of this name: its place and turn, and its answer, or the error
-/// with its number, its name (errno(3)) and the rule that decided. The rows are the project's own.
+/// Appends the row of a reply to the client of this name: its place and turn, and its answer, or the error with its
+/// number, its name (errno(3)) and the rule that decided.
 pub fn print_reply(rows: &mut String, name: &str, reply: &Reply) -> Result<(), Memory>
     ensures { OnOk result (string_bytes rows.new ≡ string_bytes rows.old ++ reply_row name.now reply.now) }
 {
@@ -47,8 +47,7 @@ pub fn print_reply(rows: &mut String, name: &str, reply: &Reply) -> Result<(), M
     }
 }
 
-/// Appends the row of a call of the client of this name that waits, by the place of its event. The rows are
-/// the project's own.
+/// Appends the row of a call of the client of this name that waits, by the place of its event.
 pub fn print_waits(rows: &mut String, place: u64, name: &str) -> Result<(), Memory>
     ensures { OnOk result (string_bytes rows.new ≡ string_bytes rows.old ++ waits_row place name.now) }
 {

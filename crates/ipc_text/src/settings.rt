@@ -9,7 +9,7 @@ use ipc_words::number;
 
 /// The limit that the word names.
 #[tactic(auto, unfolding(crate::specs::Settings::limit_named))]
-pub(crate) fn limit_named(word: &[u8]) -> Option<Limit>
+pub fn limit_named(word: &[u8]) -> Option<Limit>
     ensures { result ≡ limit_of_word word.now }
 {
     match word {

@@ -14,7 +14,7 @@ const LONGEST: usize = 65536;
 /// end or not.
 const KEPT: usize = LONGEST + 2;
 
-/// What a line says. The length of a line is the project's own.
+/// What a line says.
 #[derive(Clone, Copy, Debug)]
 pub enum Line<'a> {
     /// These bytes, at most 65536 of them.
@@ -41,7 +41,7 @@ impl Model for Pending {
 }
 
 impl Pending {
-    /// A line of which nothing has come (the project's own).
+    /// A line of which nothing has come.
     pub fn new(alloc: Global) -> Pending
         ensures { result ≡ [] }
     {
@@ -50,8 +50,8 @@ impl Pending {
         }
     }
 
-    /// One more byte of the line, kept where it is needed. `AllocError` comes where memory was refused, and
-    /// leaves the line as it was. This is the project's own.
+    /// One more byte of the line, kept where it is needed. `AllocError` comes where memory was refused, and leaves the
+    /// line as it was.
     pub fn push(&mut self, byte: u8) -> Result<(), AllocError>
         ensures ok { OnOk result (self.new ≡ take 65538 (self.old ++ byte ∷ [])) }
         ensures err { OnErr result (self.new ≡ self.old) }
@@ -62,22 +62,21 @@ impl Pending {
         Ok(())
     }
 
-    /// Begins the next line (the project's own).
+    /// Begins the next line.
     pub fn clear(&mut self)
         ensures { self.new ≡ [] }
     {
         self.kept.clear();
     }
 
-    /// Whether nothing of the line has come (the project's own).
+    /// Whether nothing of the line has come.
     pub fn is_empty(&self) -> bool
         ensures { IsTrue result ↔ (self.now ≡ []) }
     {
         self.kept.is_empty()
     }
 
-    /// What the line says, where a line feed has ended it: a carriage return before it isn't part of the line
-    /// (the project's own).
+    /// What the line says, where a line feed has ended it: a carriage return before it isn't part of the line.
     pub fn whole(&self) -> Line<'_>
         ensures { content_of result ≡ whole_line self.now }
     {
@@ -87,8 +86,7 @@ impl Pending {
         }
     }
 
-    /// What the line says, where the script has ended: a carriage return at its end is part of it (the
-    /// project's own).
+    /// What the line says, where the script has ended: a carriage return at its end is part of it.
     pub fn last(&self) -> Line<'_>
         ensures { content_of result ≡ line_within_limit self.now }
     {

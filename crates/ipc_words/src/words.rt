@@ -10,7 +10,7 @@ fn is_blank(byte: u8) -> bool
     byte == b' ' || byte == b'\t'
 }
 
-/// Whether each byte is a tab or a printing character of ASCII: 9, or 32 to 126 (the project's own).
+/// Whether each byte is a tab or a printing character of ASCII: 9, or 32 to 126.
 pub fn is_plain(text: &[u8]) -> bool
     ensures { result ≡ plain_text text.now }
 {
@@ -18,8 +18,7 @@ pub fn is_plain(text: &[u8]) -> bool
         .all(|byte| *byte == b'\t' || (b' '..=b'~').contains(byte))
 }
 
-/// The first word, and what follows it; `None` where there is no word. Words are parted by blanks and tabs
-/// (the project's own).
+/// The first word, and what follows it; `None` where there is no word. Words are parted by blanks and tabs.
 pub fn split_word(text: &[u8]) -> Option<(&[u8], &[u8])>
     ensures { MatchOption result (words_of text.now ≡ []) (λ x. words_of text.now ≡ x.0.now ∷ words_of x.1.now) }
 {

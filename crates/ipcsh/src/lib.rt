@@ -7,12 +7,12 @@ mod input;
 mod listeners;
 mod output;
 mod pieces;
-mod scripts;
 mod readings;
 mod runs;
+mod scripts;
 mod session;
 
 pub use listeners::Listener;
 pub use output::write_bytes;
-pub use scripts::{Script, read_script, read_script_with};
 pub use runs::{Fault, Summary, run, run_with};
+pub use scripts::{Script, read_script, read_script_with};

@@ -83,7 +83,11 @@ struct Ending {
 }
 
 /// Makes the calls of a script.
-fn run_script<R: Threads + Sync + Wait>(rt: &R, alloc: Global, script: Script) -> Result<Ending, Memory>
+fn run_script<R: Threads + Sync + Wait>(
+    rt: &R,
+    alloc: Global,
+    script: Script,
+) -> Result<Ending, Memory>
     requires { CanRun script }
     ensures { IfOk result (EndsSo (setup_of script)) }
 {

@@ -8,18 +8,17 @@ use Rattle.ipc_objects.specs.declared.object.Object.{Object}
 use Rattle.msg_queue.specs.declared.messages.Message.{Message}
 use Rattle.ipc_model.specs.State.{Caller, Queue, Queues}
 use Rattle.ipc_model.specs.Decision.{Decision, left_by, without_answer}
-use Rattle.ipc_model.specs.Gets.{get_found, get_queue, getting_queue}
+use Rattle.ipc_model.specs.Gets.{Get, get_found, get_queue, getting_queue}
 use Rattle.ipc_model.specs.Plan.{decision, on_part}
 use Rattle.ipc_model.specs.Messages.{chosen, receive_message, send_message, take_chosen}
 
 -- the decision on msgget, and with what is found under the key
-abbrev pub getting : Limits → Queues → Caller → ℕ → ℕ → Decision Queues
-getting limits queues who key flags =
-    decision who.creds (get_queue limits queues who (record { key = key; flags = flags }))
+abbrev pub getting : Limits → Queues → Caller → Get → Decision Queues
+getting limits queues who asked = decision who.creds (get_queue limits queues who asked)
 
-abbrev pub getting_found : Limits → Queues → Caller → ℕ → ℕ → Option (ℕ × Object Queue) → Decision Queues
-getting_found limits queues who key flags there =
-    decision who.creds (get_found queues who (record { key = key; flags = flags }) (getting_queue limits) there)
+abbrev pub getting_found : Limits → Queues → Caller → Get → Option (ℕ × Object Queue) → Decision Queues
+getting_found limits queues who asked there =
+    decision who.creds (get_found queues who asked (getting_queue limits) there)
 
 -- the decision on msgsnd
 abbrev pub sending : Limits → Queues → Caller → ℕ → ℕ → Message → Decision Queues

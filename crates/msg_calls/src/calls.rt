@@ -26,7 +26,9 @@ ghost use Rattle.msg_calls.specs.WithRoom.{one_if, queue_of, queues_of, room};
 
 use crate::queue::Queue;
 use crate::queues::Queues;
-use ipc_call::{Answer, Items, Limits, Memory, Outcome, Receive, Rule, creates, may_wait};
+use ipc_call::{
+    Answer, Get, Items, Limits, Memory, Outcome, Receive, Rule, Sending, creates, may_wait,
+};
 use ipc_objects::Object;
 use ipc_perm::{Perm, TO_ALTER, TO_READ, Verdict, decide};
 use object_calls::{Caller, may_open, new_object};
@@ -35,49 +37,37 @@ use std::alloc::Global;
 impl Queues {
     /// The queue of a key, or a new one (msgget(2)). Memory comes where a growth was refused, and then nothing
     /// has changed.
-    pub fn msgget(
-        &mut self,
-        limits: &Limits,
-        who: &Caller,
-        key: u32,
-        flags: u32,
-    ) -> Result<Outcome, Memory>
+    pub fn msgget(&mut self, limits: &Limits, who: &Caller, asked: Get) -> Result<Outcome, Memory>
         ensures outcome { IfOk result (λ outcome.
-            outcome_of (getting limits.now (queues_of self.old) who.entry.now key flags) ≡ Some outcome) }
+            outcome_of (getting limits.now (queues_of self.old) who.entry.now asked) ≡ Some outcome) }
         ensures queues { OnOk result (queues_of self.new
-            ≡ left_by (queues_of self.old) (getting limits.now (queues_of self.old) who.entry.now key flags)) }
+            ≡ left_by (queues_of self.old) (getting limits.now (queues_of self.old) who.entry.now asked)) }
         ensures room { (j : ℕ) → room self.new j ≡ room self.old j }
         ensures err { OnErr result (self.new ≡ self.old) }
     {
-        match self.seek(key) {
-            None => self.make_queue(limits, who, key, flags),
-            Some((id, queue)) => Ok(found_queue(who, id, &queue.perm, flags)),
+        match self.seek(asked.key) {
+            None => self.make_queue(limits, who, asked),
+            Some((id, queue)) => Ok(found_queue(who, id, &queue.perm, asked.flags)),
         }
     }
 
     /// msgget with a key that no queue has.
-    fn make_queue(
-        &mut self,
-        limits: &Limits,
-        who: &Caller,
-        key: u32,
-        flags: u32,
-    ) -> Result<Outcome, Memory>
-        requires { object_of_key (queues_of self.old) key ≡ None }
+    fn make_queue(&mut self, limits: &Limits, who: &Caller, asked: Get) -> Result<Outcome, Memory>
+        requires { object_of_key (queues_of self.old) asked.key ≡ None }
         ensures outcome { IfOk result (λ outcome.
-            outcome_of (getting_found limits.now (queues_of self.old) who.entry.now key flags None) ≡ Some outcome) }
+            outcome_of (getting_found limits.now (queues_of self.old) who.entry.now asked None) ≡ Some outcome) }
         ensures queues { OnOk result (queues_of self.new ≡ left_by (queues_of self.old)
-            (getting_found limits.now (queues_of self.old) who.entry.now key flags None)) }
+            (getting_found limits.now (queues_of self.old) who.entry.now asked None)) }
         ensures room { (j : ℕ) → room self.new j ≡ room self.old j }
         ensures err { OnErr result (self.new ≡ self.old) }
     {
-        if key != 0 && !creates(flags) {
+        if asked.key != 0 && !creates(asked.flags) {
             return Ok(Err(Rule::NoKey));
         }
         if self.next_id().is_none() {
             return Ok(Err(Rule::NoSlot));
         }
-        let queue = new_queue(self.alloc(), limits, who, key, flags);
+        let queue = new_queue(self.alloc(), limits, who, asked);
         let id = self.insert(queue)?;
         Ok(Ok(Answer::Id(id)))
     }
@@ -98,24 +88,22 @@ impl Queues {
         self.take_chosen(who, id, asked)
     }
 
-    /// Whether a message with a text of `len` bytes may be sent (msgsnd of msgop(2)), or by which rule it is refused.
+    /// Whether such a message may be sent (msgsnd of msgop(2)), or by which rule it is refused.
     /// None where the call waits.
     pub fn decide_send(
         &self,
         limits: &Limits,
         who: &Caller,
         id: u32,
-        mtype: i64,
-        len: usize,
-        flags: u32,
+        asked: Sending,
     ) -> Option<Result<(), Rule>>
-        ensures { (text : List ℕ) → length text ≡ len → result ≡ without_answer
-            (sending limits.now (queues_of self.now) who.entry.now id flags (record { mtype = mtype; text = text })) }
+        ensures { (text : List ℕ) → length text ≡ asked.len → result ≡ without_answer
+            (sending limits.now (queues_of self.now) who.entry.now id asked.flags (record { mtype = asked.mtype; text = text })) }
     {
-        if mtype < 1 {
+        if asked.mtype < 1 {
             return Some(Err(Rule::BadType));
         }
-        if len as u64 > u64::from(limits.msg_max) {
+        if asked.len as u64 > u64::from(limits.msg_max) {
             return Some(Err(Rule::TextTooLong));
         }
         let Some(queue) = self.get(id) else {
@@ -124,9 +112,9 @@ impl Queues {
         if let Verdict::Denied(rule) = decide(who.creds(), &queue.perm, TO_ALTER) {
             return Some(Err(rule));
         }
-        if queue.contents.fits(len) {
+        if queue.contents.fits(asked.len) {
             Some(Ok(()))
-        } else if may_wait(flags) {
+        } else if may_wait(asked.flags) {
             None
         } else {
             Some(Err(Rule::QueueFull))
@@ -166,16 +154,21 @@ impl Queues {
 /// msgget with a key that a queue has.
 fn found_queue(who: &Caller, id: u32, perm: &Perm, flags: u32) -> Outcome
     ensures outcome { (t : Table) (key : ℕ) (limits : LimitsOf) (queue : Entry Contents) → queue.perm ≡ perm.now
-        → outcome_of (getting_found limits t who.entry.now key flags (Some (id, queue))) ≡ Some result }
+        → outcome_of (getting_found limits t who.entry.now (record { key = key; flags = flags }) (Some (id, queue))) ≡ Some result }
 {
     may_open(who, perm, flags)?;
     Ok(Answer::Id(id))
 }
 
 /// A queue that the caller owns and made, with the mode in the flags.
-fn new_queue(alloc: Global, limits: &Limits, who: &Caller, key: u32, flags: u32) -> Object<Queue>
-    ensures queue { seen queue_of result ≡ object_of who.entry.now key flags (new_contents limits.now) }
+fn new_queue(alloc: Global, limits: &Limits, who: &Caller, asked: Get) -> Object<Queue>
+    ensures queue { seen queue_of result ≡ object_of who.entry.now asked.key asked.flags (new_contents limits.now) }
     ensures reserved { result.contents.reserved ≡ 0 }
 {
-    new_object(who, key, flags, Queue::new(alloc, limits.msg_mnb))
+    new_object(
+        who,
+        asked.key,
+        asked.flags,
+        Queue::new(alloc, limits.msg_mnb),
+    )
 }

@@ -94,8 +94,7 @@ impl Queue {
         self.messages.fits(len)
     }
 
-    /// Reserves a place for a message to come. Memory comes where a growth was refused, and then nothing has
-    /// changed. Reserving is the project's own.
+    /// Reserves a place for a message to come. Memory comes where a growth was refused, and then nothing has changed.
     pub(super) fn reserve(&mut self) -> Result<(), Memory>
         ensures ok { OnOk result (self.new ≡ record self.old { reserved = self.old.reserved + 1 }) }
         ensures err { OnErr result (self.new ≡ self.old) }
@@ -103,7 +102,7 @@ impl Queue {
         self.messages.reserve_one()
     }
 
-    /// Gives a reserved place back, for which no message comes. It is the project's own.
+    /// Gives a reserved place back, for which no message comes.
     pub(super) fn release(&mut self)
         requires { 0 < self.old.reserved }
         ensures { self.new ≡ record self.old { reserved = self.old.reserved - 1 } }

@@ -145,7 +145,7 @@ impl Queues {
     }
 
     /// Reserves a place for a message to come in the queue of an identifier, which there is. Memory comes where a
-    /// growth was refused, and then nothing has changed. Reserving is the project's own.
+    /// growth was refused, and then nothing has changed.
     pub fn reserve(&mut self, id: u32) -> Result<(), Memory>
         requires { IsSome (queue_at (queues_of self.old) id) }
         ensures queues { OnOk result (queues_of self.new ≡ queues_of self.old) }
@@ -158,7 +158,7 @@ impl Queues {
         queue.reserve()
     }
 
-    /// Gives a reserved place of the queue of an identifier back. It is the project's own.
+    /// Gives a reserved place of the queue of an identifier back.
     pub fn release(&mut self, id: u32)
         requires { 0 < room self.old id }
         ensures queues { queues_of self.new ≡ queues_of self.old }

@@ -6,8 +6,8 @@ use ipc_call::{
     Status,
 };
 use ipc_creds::{Caps, Creds};
-use object_calls::Caller;
 use msg_calls::{Queues, status};
+use object_calls::Caller;
 use std::process::Abort;
 use std::test::Fail;
 

@@ -45,7 +45,7 @@ fn clear(undo: &mut Undo, step: Step) -> Option<i64> {
 fn told(alloc: Global, undo: &mut Undo, step: Step) -> Result<Option<i64>, Fail> {
     Ok(match step {
         Step::Ensure(client, set, len) if client < 64 => {
-            undo.ensure_row(alloc, client, set, len)?;
+            undo.ensure_row(client, set, len)?;
             Some(undo.row(client, set).len() as i64)
         }
         Step::Lower(client, set, num, by) => lower(undo, client, set, num, by),

@@ -5,7 +5,7 @@ ghost use Rattle.pub_counter.specs.Counter.{total, IsAdded};
 use pub_rule::Served;
 use std::alloc::Global;
 
-/// A client's turn: it added so much. It is the project's own.
+/// A client's turn: it added so much.
 #[derive(Drop)]
 pub struct Turn {
     /// The client's number.
@@ -14,8 +14,7 @@ pub struct Turn {
     pub amount: u64,
 }
 
-/// A counter to which clients add, with all turns so far. Its type is the project's own; that one state
-/// serves the calls of all clients follows flat combining (Hendler, Incze, Shavit, Tzafrir 2010).
+/// A counter to which clients add, with all turns so far.
 #[derive(Drop)]
 pub struct Counter {
     turns: Vec<Turn>,
@@ -24,7 +23,7 @@ pub struct Counter {
 }
 
 impl Counter {
-    /// A counter to which nobody has added. It takes no memory. It is the project's own.
+    /// A counter to which nobody has added. It takes no memory.
     pub fn new(alloc: Global) -> Counter
         ensures { result.turns.items ≡ [] }
     {
@@ -34,15 +33,15 @@ impl Counter {
         }
     }
 
-    /// All turns so far, in their order. It is the project's own.
+    /// All turns so far, in their order.
     pub fn turns(&self) -> &[Turn]
         ensures { result.now ≡ self.now.turns.items }
     {
         self.turns.as_slice()
     }
 
-    /// Adds `amount` for `client`, and returns the sum of all amounts. `None` comes where the sum would be
-    /// above `u64::MAX`, or memory was refused; the counter stays as it was. It is the project's own.
+    /// Adds `amount` for `client`, and returns the sum of all amounts. `None` comes where the sum would be above
+    /// `u64::MAX`, or memory was refused; the counter stays as it was.
     pub fn add(&mut self, client: u64, amount: u64) -> Option<u64>
         ensures none { IsNone result → self.new.turns.items ≡ self.old.turns.items }
         ensures some { IfSome result (λ sum. IsAdded client amount self.old.turns.items self.new.turns.items sum) }

@@ -1,4 +1,5 @@
-//! Two states that a publication list can serve, to test and to measure it: a counter, and one whose calls wait.
+//! Two states that a publication list can serve, to test and to measure it: a counter, and one whose calls wait. That
+//! one state serves the calls of all clients follows flat combining; all else is the project's own.
 #![tactic(auto)]
 
 mod counter;

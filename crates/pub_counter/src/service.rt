@@ -29,8 +29,7 @@ impl Serves for Counter {
     }
 }
 
-/// Collects the reply to the call of a client, where it is there (flat combining: Hendler, Incze, Shavit,
-/// Tzafrir 2010). An answer Memory is none. The client doesn't combine.
+/// Collects the reply to the call of a client, where it is there. An answer Memory is none. The client doesn't combine.
 pub fn reply_of(joined: &mut Joined<Counter>, list: &List<Counter>) -> Option<u64>
     requires list { BelongsTo list.now joined.old }
     requires unheld { (work joined.old).holds ≡ false }
@@ -45,8 +44,8 @@ pub fn reply_of(joined: &mut Joined<Counter>, list: &List<Counter>) -> Option<u6
     }
 }
 
-/// Posts `amount`, and serves what there is, or waits for another to do so, until the reply is there or the
-/// turns have run out (flat combining: Hendler, Incze, Shavit, Tzafrir 2010). `None` where they have.
+/// Posts `amount`, and serves what there is, or waits for another to do so, until the reply is there or the turns have
+/// run out. `None` where they have.
 pub fn ask(
     joined: &mut Joined<Counter>,
     list: &List<Counter>,

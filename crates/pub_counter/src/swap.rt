@@ -6,9 +6,7 @@ use crate::counter::Turn;
 use pub_rule::Served;
 use std::alloc::Global;
 
-/// Clients swap amounts in pairs: the first of two waits, and the second brings both the other's amount. Its
-/// type is the project's own; that one state serves the calls of all clients follows flat combining (Hendler,
-/// Incze, Shavit, Tzafrir 2010).
+/// Clients swap amounts in pairs: the first of two waits, and the second brings both the other's amount.
 #[derive(Drop)]
 pub struct Swap {
     turns: Vec<Turn>,
@@ -17,7 +15,7 @@ pub struct Swap {
 }
 
 impl Swap {
-    /// Nobody has called. It takes no memory. It is the project's own.
+    /// Nobody has called. It takes no memory.
     pub fn new(alloc: Global) -> Swap
         ensures { result.turns.items ≡ [] }
     {
@@ -27,21 +25,21 @@ impl Swap {
         }
     }
 
-    /// All turns so far, in their order. It is the project's own.
+    /// All turns so far, in their order.
     pub fn turns(&self) -> &[Turn]
         ensures { result.now ≡ self.now.turns.items }
     {
         self.turns.as_slice()
     }
 
-    /// Who waits for another, and its amount. It is the project's own.
+    /// Who waits for another, and its amount.
     pub fn waits(&self) -> Option<(u64, u64)>
         ensures { result ≡ alone self.now.turns.items }
     {
         self.waits
     }
 
-    /// Enters a call; false where memory was refused, and all is as it was. It is the project's own.
+    /// Enters a call; false where memory was refused, and all is as it was.
     pub fn enter(&mut self, client: u64, amount: u64) -> bool
         ensures entered { IsTrue result → self.new.turns.items ≡ self.old.turns.items ++ record { client = client; amount = amount } ∷ [] }
         ensures refused { IsFalse result → self.new.turns.items ≡ self.old.turns.items }

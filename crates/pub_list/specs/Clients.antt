@@ -50,6 +50,10 @@ module _ {S E C R : Type 0} {g : Ghosts S E C R} where
   abbrev pub IsStill : Joined S E C R g → Joined S E C R g → Type 0
   IsStill old new = (new.client ≡ old.client) × seats.IsStill old.seat new.seat
 
+  -- it is the same client, and knows just what it knew
+  abbrev pub IsAsItWas : Joined S E C R g → Joined S E C R g → Type 0
+  IsAsItWas old new = IsSame old new × (view new ≡ view old)
+
   -- the whole list was loaded: it has the client itself and all of whom it was told, and ends with the list as it was
   -- loaded before
   abbrev pub SeesAll : Joined S E C R g → Joined S E C R g → Type 0

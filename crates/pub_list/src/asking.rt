@@ -11,15 +11,14 @@ use pub_rule::{ANSWERED, CollectReply, FREE, POSTED, PostCall, Served, Slot, sta
 /// How a call was answered.
 #[derive(Drop)]
 pub enum Answer<R> {
-    /// By a reply (flat combining: Hendler, Incze, Shavit, Tzafrir 2010).
+    /// By a reply.
     Reply(R),
-    /// It was refused, as no memory was left, and is in no history. This is the project's own.
+    /// It was refused, as no memory was left, and is in no history.
     Memory,
 }
 
 impl<S: Served> Joined<S> {
-    /// Posts a call (flat combining: Hendler, Incze, Shavit, Tzafrir 2010): whoever combines may take it from
-    /// now on. The client asks nothing before, and doesn't combine.
+    /// Posts a call: whoever combines may take it from now on. The client asks nothing before, and doesn't combine.
     pub fn post(&mut self, list: &List<S>, call: S::Call)
         requires list { BelongsTo list.now self.old }
         requires idle { IsIdle self.old.client (view self.old) }
@@ -32,9 +31,8 @@ impl<S: Served> Joined<S> {
         table.store::<PostCall>(&mut self.seat, state_word(self.client), POSTED);
     }
 
-    /// Collects the answer to the call that was posted (flat combining: Hendler, Incze, Shavit, Tzafrir
-    /// 2010). The error is how far the record is where it has no answer: free, posted, taken or parked. The
-    /// client doesn't combine.
+    /// Collects the answer to the call that was posted. The error is how far the record is where it has no answer:
+    /// free, posted, taken or parked. The client doesn't combine.
     pub fn collect(&mut self, list: &List<S>) -> Result<Answer<S::Reply>, WordState>
         requires list { BelongsTo list.now self.old }
         requires unheld { (work self.old).holds ≡ false }

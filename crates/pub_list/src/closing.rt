@@ -11,7 +11,7 @@ use crate::joined::Joined;
 use crate::list::{List, Records, Seat};
 use pub_rule::{EnterCloser, GiveSlot, MergeClient, Served, head_word, state_word};
 
-/// A list that is closed: no thread shares it any more. It is the project's own.
+/// A list that is closed: no thread shares it any more.
 #[derive(Drop)]
 pub struct Closing<S: Served> {
     pub(crate) table: Records<S>,
@@ -20,7 +20,7 @@ pub struct Closing<S: Served> {
     ghost own: { IsCloser table.shared.table_id table.shared.key.0 clients closer },
 }
 
-/// A client that is handed in. It is the project's own.
+/// A client that is handed in.
 #[derive(Drop)]
 pub enum End<S: Served> {
     /// One that hasn't joined.
@@ -30,7 +30,7 @@ pub enum End<S: Served> {
 }
 
 impl<S: Served> List<S> {
-    /// Closes the list, to which its clients have to be handed in. It is the project's own.
+    /// Closes the list, to which its clients have to be handed in.
     pub fn closing(self) -> Closing<S>
         ensures clients { result.clients ≡ self.clients }
         ensures list { result.table.shared.table_id ≡ self.table.shared.table_id }
@@ -47,8 +47,7 @@ impl<S: Served> List<S> {
 }
 
 impl<S: Served> Closing<S> {
-    /// Hands in a client of the list, which doesn't combine; its call may be in flight. It is the project's
-    /// own.
+    /// Hands in a client of the list, which doesn't combine; its call may be in flight.
     pub fn add(&mut self, end: End<S>)
         requires list { list_of end ≡ self.old.table.shared.table_id }
         requires unheld { (work_of end).holds ≡ false }
@@ -85,8 +84,7 @@ impl<S: Served> Closing<S> {
             .join_seat::<MergeClient>(&mut self.closer, seat);
     }
 
-    /// The state, after each client of the list was handed in: its history is as they told. It is the
-    /// project's own.
+    /// The state, after each client of the list was handed in: its history is as they told.
     pub fn end(self) -> S
         requires { length (told_at_close self.closer) ≡ self.clients }
         ensures legal { S.legal (S.history result) }

@@ -33,17 +33,17 @@ use pub_rule::{
 /// What came of taking a record.
 #[derive(Drop)]
 pub enum Took<C> {
-    /// It was posted: its call (flat combining: Hendler, Incze, Shavit, Tzafrir 2010).
+    /// It was posted: its call.
     FromPosted(C),
-    /// It was parked, and its client is owed a reply. This is the project's own.
+    /// It was parked, and its client is owed a reply.
     FromParked,
     /// It was not taken: its word was another one.
     Not,
 }
 
 impl<S: Served> Joined<S> {
-    /// Seizes the state, to combine (flat combining: Hendler, Incze, Shavit, Tzafrir 2010). The error is the
-    /// client that combines, which is another one. The caller doesn't combine.
+    /// Seizes the state, to combine. The error is the client that combines, which is another one. The caller doesn't
+    /// combine.
     pub fn seize(&mut self, list: &List<S>) -> Result<S, u32>
         requires list { BelongsTo list.now self.old }
         requires unheld { (work self.old).holds ≡ false }
@@ -92,9 +92,9 @@ impl<S: Served> Joined<S> {
         }
     }
 
-    /// Whether the record of `client` is posted. Where it isn't, a combiner has dealt with each post of this
-    /// client that was heard of, as where a `take` fails. The caller combines, and has taken no record. This
-    /// load before the exchange leaves the record's cache line with its client; it is the project's own.
+    /// Whether the record of `client` is posted. Where it isn't, a combiner has dealt with each post of this client
+    /// that was heard of, as where a `take` fails. The caller combines, and has taken no record. This load before the
+    /// exchange leaves the record's cache line with its client.
     pub fn is_posted(&mut self, list: &List<S>, client: u32) -> bool
         requires list { BelongsTo list.now self.old }
         requires client { client < list.now.clients }
@@ -107,9 +107,8 @@ impl<S: Served> Joined<S> {
         table.load::<PeekAt>(&mut self.seat, state_word(client)) == POSTED
     }
 
-    /// Takes the record of `client`, if its word is `from` (flat combining: Hendler, Incze, Shavit, Tzafrir
-    /// 2010): posted, or parked where the client is owed a reply. The caller combines, and has taken no
-    /// other.
+    /// Takes the record of `client`, if its word is `from`: posted, or parked where the client is owed a reply. The
+    /// caller combines, and has taken no other.
     pub fn take(&mut self, list: &List<S>, client: u32, from: WordState) -> Took<S::Call>
         requires list { BelongsTo list.now self.old }
         requires client { client < list.now.clients }
@@ -162,10 +161,9 @@ impl<S: Served> Joined<S> {
         Took::FromParked
     }
 
-    /// Answers the record of `client`, which the caller took (flat combining: Hendler, Incze, Shavit, Tzafrir
-    /// 2010), and gives `state` back. To a posted call the state has one event more, that call, and the reply
-    /// is the one that it brings its client; or the answer is Memory, and the state has no event more. To a
-    /// parked call the reply is the last that its client has in the history.
+    /// Answers the record of `client`, which the caller took, and gives `state` back. To a posted call the state has
+    /// one event more, that call, and the reply is the one that it brings its client; or the answer is Memory, and the
+    /// state has no event more. To a parked call the reply is the last that its client has in the history.
     pub fn answer(&mut self, list: &List<S>, client: u32, answer: Answer<S::Reply>, state: S) -> S
         requires list { BelongsTo list.now self.old }
         requires combines { (work self.old).holds ≡ true }
@@ -215,8 +213,8 @@ impl<S: Served> Joined<S> {
         table.store::<RefuseCall>(&mut self.seat, state_word(client), ANSWERED);
     }
 
-    /// Leaves the record of `client` parked, which the caller took from posted, and gives `state` back: it
-    /// has one event more, that call, which brings its client no reply yet. This is the project's own.
+    /// Leaves the record of `client` parked, which the caller took from posted, and gives `state` back: it has one
+    /// event more, that call, which brings its client no reply yet.
     pub fn mark_parked(&mut self, list: &List<S>, client: u32, state: S) -> S
         requires list { BelongsTo list.now self.old }
         requires combines { (work self.old).holds ≡ true }
@@ -236,8 +234,7 @@ impl<S: Served> Joined<S> {
         state_in(announced)
     }
 
-    /// Gives the state back to the list (flat combining: Hendler, Incze, Shavit, Tzafrir 2010). The caller
-    /// combines, has taken no record, and owes nobody a reply.
+    /// Gives the state back to the list. The caller combines, has taken no record, and owes nobody a reply.
     pub fn release(&mut self, list: &List<S>, state: S)
         requires list { BelongsTo list.now self.old }
         requires combines { IsCombining (view self.old) }

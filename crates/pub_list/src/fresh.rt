@@ -5,8 +5,7 @@ ghost use Rattle.pub_list.specs.Fresh.{IsFresh};
 use crate::list::Seat;
 use pub_rule::Served;
 
-/// A client that hasn't joined the list: its publication record (flat combining: Hendler, Incze, Shavit,
-/// Tzafrir 2010) stands on no list.
+/// A client that hasn't joined the list: its publication record stands on no list.
 #[derive(Drop)]
 pub struct Fresh<S: Served> {
     pub(crate) seat: Seat<S>,
@@ -15,7 +14,7 @@ pub struct Fresh<S: Served> {
 }
 
 impl<S: Served> Fresh<S> {
-    /// The client's number, below that of the clients of its list. Numbers are the project's own.
+    /// The client's number, below that of the clients of its list.
     pub fn client(&self) -> u32
         ensures { result ≡ self.now.client }
     {

@@ -13,9 +13,8 @@ use pub_rule::{
 };
 
 impl<S: Served> Fresh<S> {
-    /// Joins the list at its head (flat combining: Hendler, Incze, Shavit, Tzafrir 2010). Each try that fails
-    /// means that another client has joined meanwhile, so there are at most as many tries as clients. The
-    /// client takes its own slot then, and asks nothing.
+    /// Joins the list at its head. Each try that fails means that another client has joined meanwhile, so there are at
+    /// most as many tries as clients. The client takes its own slot then, and asks nothing.
     pub fn join(self, list: &List<S>) -> Joined<S>
         requires { IsFreshOf list.now self }
         ensures client { (result.client ≡ self.client) × BelongsTo list.now result }

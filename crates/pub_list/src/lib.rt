@@ -2,7 +2,8 @@
 //!
 //! It follows flat combining (Hendler, Incze, Shavit, Tzafrir 2010) over the rule of `pub_rule`. No call
 //! waits for another thread, and only `List::new` can fail for want of memory. Of the others `combine_with`
-//! allocates where the state does as it serves a call.
+//! allocates where the state does as it serves a call. Numbers of clients and their bound, calls that are parked or
+//! refused for memory, what clients tell one another, gates and the closing of a list are the project's own.
 #![tactic(auto)]
 
 mod asking;

@@ -24,8 +24,8 @@ pub(crate) type Records<S> = Table<
 
 pub(crate) type Seat<S> = atomic_table::Seat<Record<S>, Knowledge<S>>;
 
-/// A publication list (flat combining: Hendler, Incze, Shavit, Tzafrir 2010) that serves the state `S`: a
-/// record for each client, the records that joined in a list, and the state. Threads share it by reference.
+/// A publication list that serves the state `S`: a record for each client, the records that joined in a list, and the
+/// state. Threads share it by reference.
 #[derive(Drop)]
 pub struct List<S: Served> {
     pub(crate) table: Records<S>,
@@ -34,7 +34,7 @@ pub struct List<S: Served> {
 }
 
 impl<S: Served> List<S> {
-    /// The number of clients, 1 to 64. They have the numbers below it. The bound is the project's own.
+    /// The number of clients, 1 to 64. They have the numbers below it.
     pub fn clients(&self) -> u32
         ensures { (result ≡ self.now.clients) × (1 ≤ result) × (result ≤ 64) }
     {

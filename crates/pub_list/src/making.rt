@@ -14,9 +14,9 @@ use std::alloc::{AllocError, Global};
 use std::snapshot::Snapshot;
 
 impl<S: Served> List<S> {
-    /// A list of `clients` clients, 1 to 64, none of which has joined, and each client's seat, by its number
-    /// from 0. In the state's history nobody has called; each client sees it from the start. `AllocError` comes
-    /// where memory was refused, and drops the state. That all records are made at once is the project's own.
+    /// A list of `clients` clients, 1 to 64, none of which has joined, and each client's seat, by its number from 0. In
+    /// the state's history nobody has called; each client sees it from the start. `AllocError` comes where memory was
+    /// refused, and drops the state.
     pub fn new(
         alloc: Global,
         clients: u32,

@@ -10,7 +10,7 @@ use crate::list::List;
 use crate::records::WordState;
 use pub_rule::Served;
 
-/// A state whose calls a combiner knows how to serve (flat combining: Hendler, Incze, Shavit, Tzafrir 2010).
+/// A state whose calls a combiner knows how to serve.
 pub trait Serves: Served {
     // what is known of a history of n clients; a pass asks it of the history that the combiner saw
     ghost admits: { ℕ → Sequence Self.Event → Type 0 };
@@ -58,8 +58,7 @@ impl PassGate for OpenGate {
 
 impl<S: Serves> Joined<S> {
     /// Tries once to seize the state; then serves each record on the list, with the gate between two of them, and
-    /// releases the state (flat combining: Hendler, Incze, Shavit, Tzafrir 2010). The error is the client that
-    /// combines. A program takes an `OpenGate`; gates are the project's own.
+    /// releases the state. The error is the client that combines. A program takes an `OpenGate`.
     pub fn combine_with<G: PassGate>(&mut self, list: &List<S>, gate: &G) -> Result<(), u32>
         requires list { BelongsTo list.now self.old }
         requires unheld { (work self.old).holds ≡ false }

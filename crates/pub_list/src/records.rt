@@ -8,8 +8,7 @@ use crate::list::List;
 use pub_rule::{FREE, LookAt, LookOwn, PARKED, POSTED, Served, TAKEN, state_word};
 use std::hint;
 
-/// How far a client's publication record is (flat combining: Hendler, Incze, Shavit, Tzafrir 2010). That a
-/// call may be parked is the project's own.
+/// How far a client's publication record is.
 #[derive(Drop)]
 pub enum WordState {
     /// The client asks nothing.
@@ -25,9 +24,8 @@ pub enum WordState {
 }
 
 impl<S: Served> Joined<S> {
-    /// How far the record of `client` is (flat combining: Hendler, Incze, Shavit, Tzafrir 2010). Another
-    /// client's may be further by the time that the caller reads this, so it tells nothing for sure. Of its
-    /// own the caller learns what the history has, and whether its call is answered.
+    /// How far the record of `client` is. Another client's may be further by the time that the caller reads this, so it
+    /// tells nothing for sure. Of its own the caller learns what the history has, and whether its call is answered.
     pub fn look(&mut self, list: &List<S>, client: u32) -> WordState
         requires list { BelongsTo list.now self.old }
         requires client { client < list.now.clients }
@@ -42,9 +40,8 @@ impl<S: Served> Joined<S> {
         }
     }
 
-    /// Looks at the own record, at most so many times, until its call is answered or parked: while another
-    /// client combines, it is that one which serves the call (flat combining: Hendler, Incze, Shavit, Tzafrir
-    /// 2010). It tells nothing, and leaves the lock's cache line alone.
+    /// Looks at the own record, at most so many times, until its call is answered or parked: while another client
+    /// combines, it is that one which serves the call. It tells nothing, and leaves the lock's cache line alone.
     pub fn linger(&self, list: &List<S>, looks: u32)
         requires { BelongsTo list.now self.now }
     {

@@ -10,8 +10,8 @@ use crate::list::List;
 use pub_rule::{LoadHead, LoadNext, Served, head_word, next_word};
 
 impl<S: Served> Joined<S> {
-    /// The client at the head of the list, where a walk begins (flat combining: Hendler, Incze, Shavit,
-    /// Tzafrir 2010). The whole list is then known: all that had joined when the head was read.
+    /// The client at the head of the list, where a walk begins. The whole list is then known: all that had joined when
+    /// the head was read.
     pub fn first(&mut self, list: &List<S>) -> Option<u32>
         requires { BelongsTo list.now self.old }
         ensures client { IsStill self.old self.new }
@@ -26,8 +26,8 @@ impl<S: Served> Joined<S> {
         client_of(link)
     }
 
-    /// The client that stands behind `client` (flat combining: Hendler, Incze, Shavit, Tzafrir 2010), which
-    /// is on the list as it was loaded or was told of by `learn`; `None` where it is the last.
+    /// The client that stands behind `client`, which is on the list as it was loaded or was told of by `learn`; `None`
+    /// where it is the last.
     pub fn next(&mut self, list: &List<S>, client: u32) -> Option<u32>
         requires list { BelongsTo list.now self.old }
         requires known { IsKnown client (view self.old).walk }

@@ -1,10 +1,9 @@
 //! One law for each kind of step on the list: the rule before it and the step's change give the rule after
 //! it.
 //!
-//! A law holds whatever the other half of the rule says, as that doesn't look at the words of the list; it
-//! says too what the step tells. It treats the seat that steps and any one other. These are the kinds of step
-//! by which a record joins the list and a combiner walks it in flat combining (Hendler, Incze, Shavit,
-//! Tzafrir 2010); the splits and the merge are the project's own.
+//! A law holds whatever the other half of the rule says, as that doesn't look at the words of the list; it says too
+//! what the step tells. It treats the seat that steps and any one other. These are the kinds of step by which a record
+//! joins the list and a combiner walks it in flat combining; the splits and the merge are the project's own.
 ghost use Rattle.std.specs.Prelude.{ℕ};
 ghost use Rattle.pub_rule.specs.Laws.{
   KeptBySplitClient,

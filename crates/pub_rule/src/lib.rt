@@ -2,7 +2,8 @@
 //! steps.
 //!
 //! It follows flat combining (Hendler, Incze, Shavit, Tzafrir 2010): each client has a publication record of
-//! its own, and the records of those that joined form a list from one head word.
+//! its own, and the records of those that joined form a list from one head word. Seats and what they know, the layout
+//! of the words, and that a call may be parked or refused for memory, are the project's own.
 #![tactic(auto)]
 
 pub mod laws;

@@ -10,9 +10,8 @@ use atomic_table::TableRule;
 use std::marker::PhantomData;
 use std::snapshot::Snapshot;
 
-/// The half of a rule that speaks of what is served: of the words that aren't the list's, of what lies in the
-/// slots, and of what seats know of it. The laws of the list hold beside any such half. It is the project's
-/// own.
+/// The half of a rule that speaks of what is served: of the words that aren't the list's, of what lies in the slots,
+/// and of what seats know of it. The laws of the list hold beside any such half.
 pub trait Half<T, W, H> {
     // what it says for so many clients of the words, of the slots at home and of what the seats know
     ghost serves: { ℕ → List ℕ → List (Option T) → List W → Type 0 };
@@ -27,9 +26,8 @@ pub trait Half<T, W, H> {
     ghost sized: { (n : ℕ) → HasSlots n (serves n) };
 }
 
-/// The rule of a publication list beside the half `P`; its key is the number of clients, and what the half
-/// knows at the start. From the head word the next words give a list of distinct clients, exactly those that
-/// joined (flat combining: Hendler, Incze, Shavit, Tzafrir 2010).
+/// The rule of a publication list beside the half `P`; its key is the number of clients, and what the half knows at the
+/// start. From the head word the next words give a list of distinct clients, exactly those that joined.
 pub struct Listed<P> {
     half: PhantomData<P>,
 }
@@ -42,9 +40,8 @@ impl<T, W, H, P: Half<T, W, H>> TableRule<T, View<W>, (u64, H)> for Listed<P> {
     ghost first = { λ k. opening_view (P.first k.1) };
 }
 
-/// A state is served by whoever combines: the publication records, the lock word and the slots are as the
-/// history has it, of which each client's calls and replies are a part (flat combining: Hendler, Incze,
-/// Shavit, Tzafrir 2010).
+/// A state is served by whoever combines: the publication records, the lock word and the slots are as the history has
+/// it, of which each client's calls and replies are a part.
 pub struct Combining<S> {
     served: PhantomData<S>,
 }

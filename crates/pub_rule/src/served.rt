@@ -7,10 +7,9 @@ ghost use Rattle.pub_rule.specs.Served.{
   HasNoMoreReplies,
 };
 
-/// A state that combiners serve: it means a history of events, each of them a call of one client. Whose reply
-/// an event brings is for the history to say. What clients call and what they are replied is the project's
-/// own; that one state serves the records of all clients follows flat combining (Hendler, Incze, Shavit,
-/// Tzafrir 2010).
+/// A state that combiners serve: it means a history of events, each of them a call of one client. Whose reply an event
+/// brings is for the history to say. What clients call and what they are replied is the project's own; that one state
+/// serves the records of all clients follows flat combining.
 pub trait Served: Drop {
     /// One entry of the history.
     type Event: Drop;

@@ -1,13 +1,12 @@
 //! The kinds of step on the list, and what each tells the seat that takes it.
 //!
-//! The exchange of the head after a store to the own next word is how a record joins the list in flat
-//! combining (Hendler, Incze, Shavit, Tzafrir 2010), and the loads are how a combiner walks it. The splits
-//! and the merge are the project's own.
+//! The exchange of the head after a store to the own next word is how a record joins the list in flat combining, and
+//! the loads are how a combiner walks it. The splits and the merge are the project's own.
 use crate::walk::View;
 use crate::work::Work;
 use atomic_table::{Join, Play, Split};
 
-/// Load head (flat combining: Hendler, Incze, Shavit, Tzafrir 2010): the whole list is seen.
+/// Load head: the whole list is seen.
 pub struct LoadHead;
 
 impl<T, W> Play<T, View<W>> for LoadHead {
@@ -16,8 +15,7 @@ impl<T, W> Play<T, View<W>> for LoadHead {
     ghost then = { head_loaded };
 }
 
-/// Store next (flat combining: Hendler, Incze, Shavit, Tzafrir 2010): an unjoined client's own next word
-/// becomes the head that it loaded.
+/// Store next: an unjoined client's own next word becomes the head that it loaded.
 pub struct StoreNext;
 
 impl<T, W> Play<T, View<W>> for StoreNext {
@@ -26,8 +24,8 @@ impl<T, W> Play<T, View<W>> for StoreNext {
     ghost then = { next_stored };
 }
 
-/// Exchange head (flat combining: Hendler, Incze, Shavit, Tzafrir 2010): from the value loaded to the own
-/// number + 1. Success joins the client, and a failure tells that the list has grown.
+/// Exchange head: from the value loaded to the own number + 1. Success joins the client, and a failure tells that the
+/// list has grown.
 pub struct ExchangeHead;
 
 impl<T, W> Play<T, View<W>> for ExchangeHead {
@@ -36,8 +34,7 @@ impl<T, W> Play<T, View<W>> for ExchangeHead {
     ghost then = { head_exchanged };
 }
 
-/// Load next (flat combining: Hendler, Incze, Shavit, Tzafrir 2010): which client stands behind one that is
-/// known to have joined.
+/// Load next: which client stands behind one that is known to have joined.
 pub struct LoadNext;
 
 impl<T, W> Play<T, View<W>> for LoadNext {
@@ -46,7 +43,7 @@ impl<T, W> Play<T, View<W>> for LoadNext {
     ghost then = { next_loaded };
 }
 
-/// Split: the first seat makes the seat of the next client. It is the project's own.
+/// Split: the first seat makes the seat of the next client.
 pub struct SplitClient;
 
 impl<E, C, R> Split<View<Work<E, C, R>>> for SplitClient {
@@ -57,8 +54,8 @@ impl<E, C, R> Split<View<Work<E, C, R>>> for SplitClient {
     ghost right = { client_made };
 }
 
-/// Split: a joined client makes a token, which tells that it joined, the history that it saw, the number of
-/// its posts, and the posts that a combiner is known to have dealt with. It is the project's own.
+/// Split: a joined client makes a token, which tells that it joined, the history that it saw, the number of its posts,
+/// and the posts that a combiner is known to have dealt with.
 pub struct SplitToken;
 
 impl<E, C, R> Split<View<Work<E, C, R>>> for SplitToken {
@@ -69,7 +66,7 @@ impl<E, C, R> Split<View<Work<E, C, R>>> for SplitToken {
     ghost right = { token_made };
 }
 
-/// Merge: a client takes in what a token tells, and the token is spent. It is the project's own.
+/// Merge: a client takes in what a token tells, and the token is spent.
 pub struct MergeToken;
 
 impl<E, C, R> Join<View<Work<E, C, R>>> for MergeToken {

@@ -1,7 +1,7 @@
 //! What a seat at the table knows.
 use std::collections::LinkedList;
 
-/// Whose seat it is. Seats are the project's own.
+/// Whose seat it is.
 pub enum Role {
     /// A seat that was merged into another one.
     Spent,
@@ -15,8 +15,7 @@ pub enum Role {
     Token,
 }
 
-/// What a seat knows of the list (flat combining: Hendler, Incze, Shavit, Tzafrir 2010). No value of it is
-/// made: it stands in proofs alone.
+/// What a seat knows of the list. No value of it is made: it stands in proofs alone.
 pub struct Walk {
     /// Whose seat it is.
     pub role: Role,
@@ -30,7 +29,7 @@ pub struct Walk {
     pub tries: u64,
 }
 
-/// What a seat knows, in two halves. That it has two is the project's own. No value of it is made.
+/// What a seat knows, in two halves. No value of it is made.
 pub struct View<W> {
     /// Of the list.
     pub walk: Walk,

@@ -6,8 +6,7 @@
 ghost use Rattle.std.specs.Prelude.{◌≡◌, ◌<◌, ◌≤◌};
 ghost use Rattle.pub_rule.specs.Words as words;
 
-/// A state word: its client asks nothing. What a state word says follows flat combining (Hendler, Incze,
-/// Shavit, Tzafrir 2010), but that a call may be parked, which is the project's own.
+/// A state word: its client asks nothing. What a state word says follows flat combining; a call may also be parked.
 pub const FREE: u64 = 0;
 
 /// A state word: its client's call is posted.
@@ -22,8 +21,7 @@ pub const PARKED: u64 = 3;
 /// A state word: the answer lies in the record.
 pub const ANSWERED: u64 = 4;
 
-/// The head word (flat combining: Hendler, Incze, Shavit, Tzafrir 2010): 0 where the list is empty, else the
-/// number of its first client + 1.
+/// The head word: 0 where the list is empty, else the number of its first client + 1.
 #[tactic(auto, unfolding(crate::specs::Words::head_word))]
 pub fn head_word() -> usize
     ensures { result ≡ words.head_word }
@@ -31,8 +29,7 @@ pub fn head_word() -> usize
     0
 }
 
-/// The lock word (flat combining: Hendler, Incze, Shavit, Tzafrir 2010): 0 where nobody combines, else the
-/// number of the combining client + 1.
+/// The lock word: 0 where nobody combines, else the number of the combining client + 1.
 #[tactic(auto, unfolding(crate::specs::Words::lock_word))]
 pub fn lock_word() -> usize
     ensures { result ≡ words.lock_word }
@@ -40,8 +37,7 @@ pub fn lock_word() -> usize
     16
 }
 
-/// The state word of a client (flat combining: Hendler, Incze, Shavit, Tzafrir 2010): 0 where it asks
-/// nothing.
+/// The state word of a client: 0 where it asks nothing.
 #[tactic(auto, unfolding(crate::specs::Words::state_word))]
 pub fn state_word(client: u32) -> usize
     ensures { result ≡ words.state_word client }
@@ -49,8 +45,8 @@ pub fn state_word(client: u32) -> usize
     32 * client as usize + 32
 }
 
-/// The next word of a client (flat combining: Hendler, Incze, Shavit, Tzafrir 2010): 0 where it is the last
-/// of the list or hasn't joined, else the number of the client behind it + 1.
+/// The next word of a client: 0 where it is the last of the list or hasn't joined, else the number of the client behind
+/// it + 1.
 #[tactic(auto, unfolding(crate::specs::Words::next_word))]
 pub fn next_word(client: u32) -> usize
     ensures { result ≡ words.next_word client }
@@ -58,7 +54,7 @@ pub fn next_word(client: u32) -> usize
     32 * client as usize + 48
 }
 
-/// The number of words of a table of `clients` clients. The layout is the project's own.
+/// The number of words of a table of `clients` clients.
 #[tactic(auto, unfolding(crate::specs::Words::word_count))]
 pub fn word_count(clients: u32) -> usize
     ensures { result ≡ words.word_count clients }

@@ -1,8 +1,7 @@
 //! What a seat knows of what is served.
 use std::collections::LinkedList;
 
-/// How far a seat's client is with its own publication record (flat combining: Hendler, Incze, Shavit,
-/// Tzafrir 2010). The seats are the project's own.
+/// How far a seat's client is with its own publication record.
 pub enum Stage<C> {
     /// A seat of no client: it was merged into another one, or takes in others as the list is closed.
     Spent,
@@ -18,8 +17,7 @@ pub enum Stage<C> {
     Token(u64),
 }
 
-/// Which publication record the combiner has taken, of which client, with its call (flat combining: Hendler,
-/// Incze, Shavit, Tzafrir 2010). That a call may be parked is the project's own.
+/// Which publication record the combiner has taken, of which client, with its call.
 pub enum Serving<C> {
     /// None.
     Nothing,
@@ -29,8 +27,7 @@ pub enum Serving<C> {
     Parked(u64, C),
 }
 
-/// A post that was counted: whose it is, and which of that client's posts. It is the project's own. No value of
-/// it is made.
+/// A post that was counted: whose it is, and which of that client's posts. No value of it is made.
 pub struct Mark {
     /// The client.
     pub client: u64,
@@ -38,8 +35,7 @@ pub struct Mark {
     pub post: u64,
 }
 
-/// What a client told when its seat was merged into that which closes the list. It is the project's own. No
-/// value of it is made.
+/// What a client told when its seat was merged into that which closes the list. No value of it is made.
 pub struct Closed<E, C, R> {
     /// The client.
     pub client: u64,
@@ -57,8 +53,7 @@ pub struct Closed<E, C, R> {
     pub met: LinkedList<u64>,
 }
 
-/// What a seat knows of what is served. It is the project's own. No value of it is made: it stands in proofs
-/// alone.
+/// What a seat knows of what is served. No value of it is made: it stands in proofs alone.
 pub struct Work<E, C, R> {
     /// How far its client is.
     pub stage: Stage<C>,

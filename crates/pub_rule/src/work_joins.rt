@@ -4,7 +4,7 @@ use crate::walk::View;
 use crate::work::Work;
 use atomic_table::{Join, Play};
 
-/// A new seat of no client, which takes in those of the clients. It is the project's own.
+/// A new seat of no client, which takes in those of the clients.
 pub struct EnterCloser;
 
 impl<E, C, R, S> Play<Slot<C, R, S>, View<Work<E, C, R>>> for EnterCloser {
@@ -13,8 +13,7 @@ impl<E, C, R, S> Play<Slot<C, R, S>, View<Work<E, C, R>>> for EnterCloser {
     ghost then = { λ st m k m'. has_entered m' };
 }
 
-/// Merge: the seat of a client is spent, and that which closes the list keeps what it told. It is the
-/// project's own.
+/// Merge: the seat of a client is spent, and that which closes the list keeps what it told.
 pub struct MergeClient;
 
 impl<E, C, R> Join<View<Work<E, C, R>>> for MergeClient {

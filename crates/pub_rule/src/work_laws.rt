@@ -1,7 +1,7 @@
 //! One law for each kind of step on the publication records.
 //!
-//! These are the kinds of step by which a client asks and a combiner serves in flat combining (Hendler,
-//! Incze, Shavit, Tzafrir 2010). A law treats the client that steps and any one other.
+//! These are the kinds of step by which a client asks and a combiner serves in flat combining. A law treats the client
+//! that steps and any one other.
 ghost use Rattle.std.specs.Prelude.{ℕ};
 ghost use Rattle.pub_rule.specs.WorkLaws.{
   KeptByFetch,

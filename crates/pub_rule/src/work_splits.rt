@@ -1,7 +1,6 @@
 //! The start, and one law for each kind of split and merge where what is served is known too.
 //!
-//! They are the project's own: in flat combining (Hendler, Incze, Shavit, Tzafrir 2010) no client tells
-//! another anything.
+//! They are the project's own: in flat combining no client tells another anything.
 ghost use Rattle.std.specs.Prelude.{ℕ};
 ghost use Rattle.pub_rule.specs.WorkSplits.{Opens, KeptByClientSplit, KeptByTokenSplit, KeptByTokenMerge};
 

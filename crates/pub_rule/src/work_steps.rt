@@ -1,13 +1,12 @@
 //! The kinds of step on the publication records, and what each tells the seat that takes it.
 //!
-//! They are those by which a client asks and a combiner serves in flat combining (Hendler, Incze, Shavit,
-//! Tzafrir 2010).
+//! They are those by which a client asks and a combiner serves in flat combining.
 use crate::served::{Served, Slot};
 use crate::walk::View;
 use crate::work::Work;
 use atomic_table::Play;
 
-/// Read state, for the first time: the client's slot comes into its hands. It is the project's own.
+/// Read state, for the first time: the client's slot comes into its hands.
 pub struct FetchSlot;
 
 impl<E, C, R, S> Play<Slot<C, R, S>, View<Work<E, C, R>>> for FetchSlot {
@@ -16,7 +15,7 @@ impl<E, C, R, S> Play<Slot<C, R, S>, View<Work<E, C, R>>> for FetchSlot {
     ghost then = { λ st m k m'. Fetches m m' };
 }
 
-/// Post (flat combining: Hendler, Incze, Shavit, Tzafrir 2010): the client's call goes home.
+/// Post: the client's call goes home.
 pub struct PostCall;
 
 impl<E, C, R, S> Play<Slot<C, R, S>, View<Work<E, C, R>>> for PostCall {
@@ -25,8 +24,7 @@ impl<E, C, R, S> Play<Slot<C, R, S>, View<Work<E, C, R>>> for PostCall {
     ghost then = { λ st m k m'. Posts m m' };
 }
 
-/// Collect (flat combining: Hendler, Incze, Shavit, Tzafrir 2010): the reply comes into the client's hands,
-/// where its word was 4.
+/// Collect: the reply comes into the client's hands, where its word was 4.
 pub struct CollectReply;
 
 impl<S: Served> Play<Slot<S::Call, S::Reply, S>, View<Work<S::Event, S::Call, S::Reply>>>
@@ -36,8 +34,7 @@ impl<S: Served> Play<Slot<S::Call, S::Reply, S>, View<Work<S::Event, S::Call, S:
     ghost then = { λ st m k m'. reply_collected S.Served m m' k };
 }
 
-/// Seize (flat combining: Hendler, Incze, Shavit, Tzafrir 2010): the state comes into the client's hands,
-/// where nobody combined; else the client that combines is seen.
+/// Seize: the state comes into the client's hands, where nobody combined; else the client that combines is seen.
 pub struct SeizeState;
 
 impl<S: Served> Play<Slot<S::Call, S::Reply, S>, View<Work<S::Event, S::Call, S::Reply>>>
@@ -48,8 +45,7 @@ impl<S: Served> Play<Slot<S::Call, S::Reply, S>, View<Work<S::Event, S::Call, S:
     ghost then = { λ st m k m'. state_seized S.Served m m' (st.slots - 1) k };
 }
 
-/// Peek at the lock (flat combining: Hendler, Incze, Shavit, Tzafrir 2010): whether nobody combines; else the
-/// client that combines is seen.
+/// Peek at the lock: whether nobody combines; else the client that combines is seen.
 pub struct PeekLock;
 
 impl<E, C, R, S> Play<Slot<C, R, S>, View<Work<E, C, R>>> for PeekLock {
@@ -59,8 +55,7 @@ impl<E, C, R, S> Play<Slot<C, R, S>, View<Work<E, C, R>>> for PeekLock {
     ghost then = { λ st m k m'. lock_peeked m m' (st.slots - 1) k };
 }
 
-/// Take (flat combining: Hendler, Incze, Shavit, Tzafrir 2010): a posted call comes into the combiner's
-/// hands, where the record's word was 1.
+/// Take: a posted call comes into the combiner's hands, where the record's word was 1.
 pub struct TakePosted;
 
 impl<S: Served> Play<Slot<S::Call, S::Reply, S>, View<Work<S::Event, S::Call, S::Reply>>>
@@ -70,8 +65,8 @@ impl<S: Served> Play<Slot<S::Call, S::Reply, S>, View<Work<S::Event, S::Call, S:
     ghost then = { λ st m k m'. call_taken S.Served m m' st.word k };
 }
 
-/// Peek: the combiner sees whether a record is posted; where it isn't, a combiner has dealt with its client's
-/// last post. It is the project's own.
+/// Peek: the combiner sees whether a record is posted; where it isn't, a combiner has dealt with its client's last
+/// post.
 pub struct PeekAt;
 
 impl<E, C, R, S> Play<Slot<C, R, S>, View<Work<E, C, R>>> for PeekAt {
@@ -80,8 +75,7 @@ impl<E, C, R, S> Play<Slot<C, R, S>, View<Work<E, C, R>>> for PeekAt {
     ghost then = { λ st m k m'. record_peeked m m' st.word k };
 }
 
-/// Take from parked: a parked record whose client is owed a reply comes into the combiner's hands. It is the
-/// project's own.
+/// Take from parked: a parked record whose client is owed a reply comes into the combiner's hands.
 pub struct TakeParked;
 
 impl<E, C, R, S> Play<Slot<C, R, S>, View<Work<E, C, R>>> for TakeParked {
@@ -90,8 +84,8 @@ impl<E, C, R, S> Play<Slot<C, R, S>, View<Work<E, C, R>>> for TakeParked {
     ghost then = { λ st m k m'. Resumes m m' st.word k };
 }
 
-/// Answer (flat combining: Hendler, Incze, Shavit, Tzafrir 2010): a reply goes home. To a posted call the
-/// history has one event more, that of the state announced; to a parked one it has the reply already.
+/// Answer: a reply goes home. To a posted call the history has one event more, that of the state announced; to a parked
+/// one it has the reply already.
 pub struct AnswerCall;
 
 impl<S: Served> Play<Slot<S::Call, S::Reply, S>, View<Work<S::Event, S::Call, S::Reply>>>
@@ -102,7 +96,7 @@ impl<S: Served> Play<Slot<S::Call, S::Reply, S>, View<Work<S::Event, S::Call, S:
     ghost then = { λ st m k m'. reply_put S.Served m m' st.word st.said (work m).serving };
 }
 
-/// Answer, where a posted call is refused for memory: the history stays. It is the project's own.
+/// Answer, where a posted call is refused for memory: the history stays.
 pub struct RefuseCall;
 
 impl<E, C, R, S> Play<Slot<C, R, S>, View<Work<E, C, R>>> for RefuseCall {
@@ -111,8 +105,8 @@ impl<E, C, R, S> Play<Slot<C, R, S>, View<Work<E, C, R>>> for RefuseCall {
     ghost then = { λ st m k m'. call_refused m m' st.word };
 }
 
-/// Mark parked: the slot of a posted call goes home empty, and the history has one event more, that of the
-/// state announced. It is the project's own.
+/// Mark parked: the slot of a posted call goes home empty, and the history has one event more, that of the state
+/// announced.
 pub struct ParkCall;
 
 impl<S: Served> Play<Slot<S::Call, S::Reply, S>, View<Work<S::Event, S::Call, S::Reply>>>
@@ -122,7 +116,7 @@ impl<S: Served> Play<Slot<S::Call, S::Reply, S>, View<Work<S::Event, S::Call, S:
     ghost then = { λ st m k m'. call_parked S.Served m m' st.word st.said };
 }
 
-/// Read state (flat combining: Hendler, Incze, Shavit, Tzafrir 2010): the word of any record is seen.
+/// Read state: the word of any record is seen.
 pub struct LookAt;
 
 impl<E, C, R, S> Play<Slot<C, R, S>, View<Work<E, C, R>>> for LookAt {
@@ -131,8 +125,7 @@ impl<E, C, R, S> Play<Slot<C, R, S>, View<Work<E, C, R>>> for LookAt {
     ghost then = { λ st m k m'. (k < 5) × (m' ≡ m) };
 }
 
-/// Read state (flat combining: Hendler, Incze, Shavit, Tzafrir 2010), of the own record: the history is seen
-/// with it.
+/// Read state, of the own record: the history is seen with it.
 pub struct LookOwn;
 
 impl<S: Served> Play<Slot<S::Call, S::Reply, S>, View<Work<S::Event, S::Call, S::Reply>>>
@@ -142,7 +135,7 @@ impl<S: Served> Play<Slot<S::Call, S::Reply, S>, View<Work<S::Event, S::Call, S:
     ghost then = { λ st m k m'. LooksAtOwn S.Served m m' k };
 }
 
-/// Read state, for the last time: the client's slot goes home empty. It is the project's own.
+/// Read state, for the last time: the client's slot goes home empty.
 pub struct GiveSlot;
 
 impl<E, C, R, S> Play<Slot<C, R, S>, View<Work<E, C, R>>> for GiveSlot {
@@ -151,7 +144,7 @@ impl<E, C, R, S> Play<Slot<C, R, S>, View<Work<E, C, R>>> for GiveSlot {
     ghost then = { λ st m k m'. slot_given m m' };
 }
 
-/// Release (flat combining: Hendler, Incze, Shavit, Tzafrir 2010): the state goes home.
+/// Release: the state goes home.
 pub struct ReleaseState;
 
 impl<E, C, R, S> Play<Slot<C, R, S>, View<Work<E, C, R>>> for ReleaseState {

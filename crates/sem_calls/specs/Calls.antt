@@ -5,20 +5,18 @@ use Rattle.ipc_ids.specs.Table.{Table}
 use Rattle.ipc_objects.specs.declared.object.Object.{Object}
 use Rattle.sem_set.specs.declared.set.Semaphore.{Semaphore}
 use Rattle.ipc_model.specs.Decision.{Decision}
-use Rattle.ipc_model.specs.Gets.{get_found, get_set, getting_set}
+use Rattle.ipc_model.specs.Gets.{Get, get_found, get_set, getting_set}
 use Rattle.ipc_model.specs.Plan.{decision}
 use Rattle.ipc_model.specs.Semaphores.{get_all, get_pid, get_value, look, set_all, set_value}
 use Rattle.ipc_model.specs.State.{Caller, SemSet, Sems}
 
 -- semget, and with what is found under the key
-abbrev pub getting : Limits → Sems → Caller → ℕ → ℕ → ℕ → Decision Sems
-getting limits sems who key nsems flags =
-    decision who.creds (get_set limits sems who (record { key = key; flags = flags }) nsems)
+abbrev pub getting : Limits → Sems → Caller → Get → ℕ → Decision Sems
+getting limits sems who asked nsems = decision who.creds (get_set limits sems who asked nsems)
 
-abbrev pub getting_found : Table (Object SemSet) → Caller → ℕ → ℕ → ℕ → Option (ℕ × Object SemSet)
+abbrev pub getting_found : Table (Object SemSet) → Caller → Get → ℕ → Option (ℕ × Object SemSet)
     → Decision (Table (Object SemSet))
-getting_found t who key nsems flags there =
-    decision who.creds (get_found t who (record { key = key; flags = flags }) (getting_set nsems) there)
+getting_found t who asked nsems there = decision who.creds (get_found t who asked (getting_set nsems) there)
 
 -- GETVAL, GETPID, what both ask, and GETALL
 abbrev pub telling_value : Sems → Caller → ℕ → ℕ → Decision Sems

@@ -37,65 +37,58 @@ ghost use Rattle.sem_calls.specs.WithRows.{row_at, sems_of};
 
 use crate::set::Set;
 use crate::sets::Sets;
-use ipc_call::{Answer, Items, Limits, Memory, Outcome, Rule, creates};
+use ipc_call::{Answer, Get, GetSet, Items, Limits, Memory, Outcome, Rule, creates};
 use ipc_objects::Object;
 use ipc_perm::{TO_ALTER, TO_READ, Verdict, decide};
 use object_calls::{Caller, may_open, new_object};
 use sem_set::{SemSet, is_value};
 
 impl Sets {
-    /// The set of a key, or a new one of `nsems` semaphores (semget(2)). Memory comes where a growth was refused, and
+    /// The set of a key, or a new one (semget(2)). Memory comes where a growth was refused, and
     /// then nothing has changed.
     pub fn semget(
         &mut self,
         limits: &Limits,
         who: &Caller,
-        key: u32,
-        nsems: u32,
-        flags: u32,
+        asked: GetSet,
     ) -> Result<Outcome, Memory>
         ensures outcome { IfOk result (λ outcome.
-            outcome_of (getting limits.now (sems_of self.old) who.entry.now key nsems flags) ≡ Some outcome) }
+            outcome_of (getting limits.now (sems_of self.old) who.entry.now asked.get asked.nsems) ≡ Some outcome) }
         ensures sems { OnOk result (sems_of self.new
-            ≡ left_by (sems_of self.old) (getting limits.now (sems_of self.old) who.entry.now key nsems flags)) }
+            ≡ left_by (sems_of self.old) (getting limits.now (sems_of self.old) who.entry.now asked.get asked.nsems)) }
         ensures undone { self.new.undone ≡ self.old.undone }
         ensures err { OnErr result (self.new ≡ self.old) }
     {
-        if nsems > limits.sem_msl {
+        if asked.nsems > limits.sem_msl {
             return Ok(Err(Rule::BadSize));
         }
-        match self.sets.seek(key) {
-            None => self.make_set(who, key, nsems, flags),
-            Some((id, set)) => Ok(found_set(who, id, set, nsems, flags)),
+        match self.sets.seek(asked.get.key) {
+            None => self.make_set(who, asked),
+            Some((id, set)) => Ok(found_set(who, id, set, asked.nsems, asked.get.flags)),
         }
     }
 
     /// semget with a key that no set has.
-    fn make_set(
-        &mut self,
-        who: &Caller,
-        key: u32,
-        nsems: u32,
-        flags: u32,
-    ) -> Result<Outcome, Memory>
-        requires { object_of_key self.old.sets key ≡ None }
+    fn make_set(&mut self, who: &Caller, asked: GetSet) -> Result<Outcome, Memory>
+        requires { object_of_key self.old.sets asked.get.key ≡ None }
         ensures outcome { IfOk result (λ outcome.
-            outcome_of (getting_found self.old.sets who.entry.now key nsems flags None) ≡ Some outcome) }
+            outcome_of (getting_found self.old.sets who.entry.now asked.get asked.nsems None) ≡ Some outcome) }
         ensures sets { OnOk result (self.new.sets
-            ≡ left_by self.old.sets (getting_found self.old.sets who.entry.now key nsems flags None)) }
+            ≡ left_by self.old.sets (getting_found self.old.sets who.entry.now asked.get asked.nsems None)) }
         ensures undone { self.new.undone ≡ self.old.undone }
         ensures err { OnErr result (self.new ≡ self.old) }
     {
-        if key != 0 && !creates(flags) {
+        if asked.get.key != 0 && !creates(asked.get.flags) {
             return Ok(Err(Rule::NoKey));
         }
-        if nsems == 0 {
+        if asked.nsems == 0 {
             return Ok(Err(Rule::BadSize));
         }
         if self.sets.next_id().is_none() {
             return Ok(Err(Rule::NoSlot));
         }
-        let set = Set::new(self.alloc, nsems as usize)?;
+        let Get { key, flags } = asked.get;
+        let set = Set::new(self.alloc, asked.nsems as usize)?;
         let id = self.sets.insert(new_object(who, key, flags, set))?;
         Ok(Ok(Answer::Id(id)))
     }
@@ -251,7 +244,7 @@ fn are_values(values: &[i32]) -> bool
 /// semget with a key that a set has.
 fn found_set(who: &Caller, id: u32, set: &Object<Set>, nsems: u32, flags: u32) -> Outcome
     ensures { (t : Table (Entry Contents)) (key : ℕ)
-        → outcome_of (getting_found t who.entry.now key nsems flags (Some (id, set.now))) ≡ Some result }
+        → outcome_of (getting_found t who.entry.now (record { key = key; flags = flags }) nsems (Some (id, set.now))) ≡ Some result }
 {
     may_open(who, &set.perm, flags)?;
     if nsems as usize > set.contents.semaphores.len() {

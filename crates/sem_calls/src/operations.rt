@@ -103,7 +103,7 @@ impl Sets {
     }
 
     /// Makes the row of semadj that the operations of a client on the set of an identifier need, where exit undoes one
-    /// of them. Memory comes where a growth was refused, and then nothing has changed. Reserving is the project's own.
+    /// of them. Memory comes where a growth was refused, and then nothing has changed.
     pub fn reserve(&mut self, client: u32, id: u32, ops: &[SemOper]) -> Result<(), Memory>
         requires few { client < 64 }
         requires there { IsSome (set_at (sems_of self.old) id) }
@@ -119,7 +119,7 @@ impl Sets {
         };
         if undoes_some(ops) {
             let nsems = set.contents.semaphores.len();
-            self.undo.ensure_row(self.alloc, client, id, nsems)?;
+            self.undo.ensure_row(client, id, nsems)?;
         }
         Ok(())
     }

@@ -16,6 +16,7 @@ const CLIENTS: u32 = 64;
 #[derive(Debug, Drop)]
 pub(crate) struct Rows {
     rows: ClientMap<Vec<i32>>,
+    alloc: Global,
 }
 
 impl Rows {
@@ -24,6 +25,7 @@ impl Rows {
     {
         Rows {
             rows: ClientMap::new(alloc),
+            alloc,
         }
     }
 
@@ -38,13 +40,7 @@ impl Rows {
     }
 
     /// Makes the row of a client at a set as long as this, where it is no longer; the semadj that are new are 0.
-    pub(crate) fn grow(
-        &mut self,
-        alloc: Global,
-        client: u32,
-        set: u32,
-        nsems: usize,
-    ) -> Result<(), Memory>
+    pub(crate) fn grow(&mut self, client: u32, set: u32, nsems: usize) -> Result<(), Memory>
         requires { length (row_at self.old client set) ≤ nsems }
         ensures ok { OnOk result ((c s : ℕ) → row_of self.new c s
             ≡ (if is_here client set c s
@@ -52,7 +48,7 @@ impl Rows {
             else row_of self.old c s)) }
         ensures err { OnErr result (self.new.rows ≡ self.old.rows) }
     {
-        let row = grown_row(alloc, self.row(client, set), nsems)?;
+        let row = grown_row(self.alloc, self.row(client, set), nsems)?;
         self.rows.insert(client, set, row)?;
         Ok(())
     }

@@ -65,13 +65,7 @@ impl Undo {
 
     /// Makes a row for the semaphores of a set, where the client has none that is as long there. The error comes only
     /// where an allocation fails.
-    pub fn ensure_row(
-        &mut self,
-        alloc: Global,
-        client: u32,
-        set: u32,
-        nsems: usize,
-    ) -> Result<(), Memory>
+    pub fn ensure_row(&mut self, client: u32, set: u32, nsems: usize) -> Result<(), Memory>
         requires { client < 64 }
         ensures ok { OnOk result (self.new ≡ (if nat_lt (row_len self.old client set) nsems
             then record self.old {
@@ -81,7 +75,7 @@ impl Undo {
         ensures err { OnErr result (self.new ≡ self.old) }
     {
         if self.row(client, set).len() < nsems {
-            self.rows.grow(alloc, client, set, nsems)?;
+            self.rows.grow(client, set, nsems)?;
         }
         Ok(())
     }

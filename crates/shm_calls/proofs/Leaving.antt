@@ -10,10 +10,7 @@ use Rattle.ipc_model.specs.Gets.{Get, get_found, get_segment, getting_segment, o
 use Rattle.ipc_model.specs.Plan.{Plan, decision, on_part}
 use Rattle.ipc_model.proofs.Plans.{by-end, end_of, outcome-on}
 
-module _ (c : Credentials) (limits : Limits) (shared : Shared) (who : Caller) (key size flags : ℕ) (there : ℕ × Object Segment) (is : Some there ≡ object_of_key shared.segments key) where
-  abbrev asked : Get
-  asked = record { key = key; flags = flags }
-
+module _ (c : Credentials) (limits : Limits) (shared : Shared) (who : Caller) (asked : Get) (size : ℕ) (there : ℕ × Object Segment) (is : Some there ≡ object_of_key shared.segments asked.key) where
   abbrev put : Table (Object Segment) → Shared
   put segments = record shared { segments = segments }
 
@@ -28,5 +25,5 @@ module _ (c : Credentials) (limits : Limits) (shared : Shared) (who : Caller) (k
   -- it ends as it does with that segment
   pub outcome-found : outcome_of (decision c (get_segment limits shared who asked size)) ≡ outcome_of (decision c (get_found shared.segments who asked (getting_segment limits who.client size) (Some there)))
   outcome-found =
-      outcome-on c put (found_by (object_of_key shared.segments key))
+      outcome-on c put (found_by (object_of_key shared.segments asked.key))
       ∙ ap (λ (o : Option (ℕ × Object Segment)). outcome_of (decision c (found_by o))) (sym is)

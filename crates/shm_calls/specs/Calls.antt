@@ -4,20 +4,19 @@ use Rattle.ipc_call.specs.declared.limits.Limits.{Limits}
 use Rattle.ipc_ids.specs.Table.{Table}
 use Rattle.ipc_objects.specs.declared.object.Object.{Object}
 use Rattle.ipc_model.specs.Decision.{Decision}
-use Rattle.ipc_model.specs.Gets.{get_found, get_segment, getting_segment}
+use Rattle.ipc_model.specs.Gets.{Get, get_found, get_segment, getting_segment}
 use Rattle.ipc_model.specs.Plan.{decision}
 use Rattle.ipc_model.specs.Segments.{attach, detach, read_bytes, write_bytes}
 use Rattle.ipc_model.specs.State.{Caller, Segment, Shared}
 
 -- shmget, and with what is found under the key
-abbrev pub getting : Limits → Shared → Caller → ℕ → ℕ → ℕ → Decision Shared
-getting limits shared who key size flags =
-    decision who.creds (get_segment limits shared who (record { key = key; flags = flags }) size)
+abbrev pub getting : Limits → Shared → Caller → Get → ℕ → Decision Shared
+getting limits shared who asked size = decision who.creds (get_segment limits shared who asked size)
 
-abbrev pub getting_found : Limits → Table (Object Segment) → Caller → ℕ → ℕ → ℕ → Option (ℕ × Object Segment)
+abbrev pub getting_found : Limits → Table (Object Segment) → Caller → Get → ℕ → Option (ℕ × Object Segment)
     → Decision (Table (Object Segment))
-getting_found limits t who key size flags there = decision who.creds
-    (get_found t who (record { key = key; flags = flags }) (getting_segment limits who.client size) there)
+getting_found limits t who asked size there =
+    decision who.creds (get_found t who asked (getting_segment limits who.client size) there)
 
 -- shmat, shmdt, and the reads and writes of an attachment
 abbrev pub attaching : Shared → Caller → ℕ → ℕ → Decision Shared

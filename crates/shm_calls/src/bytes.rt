@@ -14,8 +14,7 @@ use shm_seg::{Attachment, ReadFault};
 
 impl Segments {
     /// The `len` bytes from an offset on of what the caller has attached under a number. Memory comes only where the
-    /// allocation of the bytes fails. That a call reads, in the place of mapped memory, is the project's own. As there,
-    /// the right was asked at shmat, and isn't asked again (shmop(2)).
+    /// allocation of the bytes fails. As there, the right was asked at shmat, and isn't asked again (shmop(2)).
     pub fn shmread(&self, who: &Caller, att: u32, offset: u64, len: u64) -> Result<Outcome, Memory>
         ensures outcome { IfOk result (λ outcome.
             outcome_of (reading self.now who.entry.now att offset len) ≡ Some outcome) }
@@ -32,8 +31,7 @@ impl Segments {
     }
 
     /// Writes bytes from an offset on of what the caller has attached under a number, and not with `SHM_RDONLY`. It
-    /// takes no memory. That a call writes, in the place of mapped memory, is the project's own. As there, the right
-    /// was asked at shmat, and isn't asked again (shmop(2)).
+    /// takes no memory. As there, the right was asked at shmat, and isn't asked again (shmop(2)).
     pub fn shmwrite(&mut self, who: &Caller, att: u32, offset: u64, bytes: &[u8]) -> Outcome
         ensures outcome { outcome_of (writing self.old who.entry.now att offset bytes.now) ≡ Some result }
         ensures shared { self.new ≡ left_by self.old (writing self.old who.entry.now att offset bytes.now) }

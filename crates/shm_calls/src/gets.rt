@@ -11,30 +11,30 @@ ghost use Rattle.shm_calls.specs.Calls.{getting, getting_found};
 
 use crate::segment::Segment;
 use crate::segments::Segments;
-use ipc_call::{Answer, Limits, Memory, Outcome, Rule, creates};
+use ipc_call::{Answer, Get, GetSegment, Limits, Memory, Outcome, Rule, creates};
 use ipc_objects::Object;
 use object_calls::{Caller, may_open, new_object};
 
 impl Segments {
-    /// The segment of a key, or a new one of `size` bytes (shmget(2)). Memory comes where a growth was refused, and
+    /// The segment of a key, or a new one (shmget(2)). Memory comes where a growth was refused, and
     /// then nothing has changed.
     pub fn shmget(
         &mut self,
         limits: &Limits,
         who: &Caller,
-        key: u32,
-        size: u64,
-        flags: u32,
+        asked: GetSegment,
     ) -> Result<Outcome, Memory>
         ensures outcome { IfOk result (λ outcome.
-            outcome_of (getting limits.now self.old who.entry.now key size flags) ≡ Some outcome) }
+            outcome_of (getting limits.now self.old who.entry.now asked.get asked.size) ≡ Some outcome) }
         ensures shared { OnOk result
-            (self.new ≡ left_by self.old (getting limits.now self.old who.entry.now key size flags)) }
+            (self.new ≡ left_by self.old (getting limits.now self.old who.entry.now asked.get asked.size)) }
         ensures err { OnErr result (self.new ≡ self.old) }
     {
-        match self.segments.seek(key) {
-            None => self.make_segment(limits, who, key, size, flags),
-            Some((id, segment)) => Ok(found_segment(who, id, segment, size, flags)),
+        match self.segments.seek(asked.get.key) {
+            None => self.make_segment(limits, who, asked),
+            Some((id, segment)) => {
+                Ok(found_segment(who, id, segment, asked.size, asked.get.flags))
+            }
         }
     }
 
@@ -43,28 +43,27 @@ impl Segments {
         &mut self,
         limits: &Limits,
         who: &Caller,
-        key: u32,
-        size: u64,
-        flags: u32,
+        asked: GetSegment,
     ) -> Result<Outcome, Memory>
-        requires { object_of_key self.old.segments key ≡ None }
+        requires { object_of_key self.old.segments asked.get.key ≡ None }
         ensures outcome { IfOk result (λ outcome.
-            outcome_of (getting_found limits.now self.old.segments who.entry.now key size flags None) ≡ Some outcome) }
+            outcome_of (getting_found limits.now self.old.segments who.entry.now asked.get asked.size None) ≡ Some outcome) }
         ensures segments { OnOk result (self.new.segments ≡ left_by self.old.segments
-            (getting_found limits.now self.old.segments who.entry.now key size flags None)) }
+            (getting_found limits.now self.old.segments who.entry.now asked.get asked.size None)) }
         ensures attached { self.new.attached ≡ self.old.attached }
         ensures err { OnErr result (self.new ≡ self.old) }
     {
-        if key != 0 && !creates(flags) {
+        if asked.get.key != 0 && !creates(asked.get.flags) {
             return Ok(Err(Rule::NoKey));
         }
-        if size == 0 || size > u64::from(limits.shm_max) {
+        if asked.size == 0 || asked.size > u64::from(limits.shm_max) {
             return Ok(Err(Rule::BadSize));
         }
         if self.segments.next_id().is_none() {
             return Ok(Err(Rule::NoSlot));
         }
-        let segment = Segment::new(self.alloc, who, size)?;
+        let Get { key, flags } = asked.get;
+        let segment = Segment::new(self.alloc, who, asked.size)?;
         let id = self.segments.insert(new_object(who, key, flags, segment))?;
         Ok(Ok(Answer::Id(id)))
     }
@@ -73,7 +72,7 @@ impl Segments {
 /// shmget with a key that a segment has.
 fn found_segment(who: &Caller, id: u32, segment: &Object<Segment>, size: u64, flags: u32) -> Outcome
     ensures { (t : Table (Entry Contents)) (limits : LimitsOf) (key : ℕ)
-        → outcome_of (getting_found limits t who.entry.now key size flags (Some (id, segment.now))) ≡ Some result }
+        → outcome_of (getting_found limits t who.entry.now (record { key = key; flags = flags }) size (Some (id, segment.now))) ≡ Some result }
 {
     may_open(who, &segment.perm, flags)?;
     if size > segment.contents.memory.len() {

@@ -10,7 +10,7 @@ pub returns : goal.returns
 returns g c =
     let e = c.in_ok-end.ensures in
     let rows = λ (names : List (List ℕ)). count_rows names c.in_ok-end.end.counts.items ++ object_lines (lines_of (run c.in_ok-end.end.space)) in
-    let same : c.as_slice.result.now ≡ c.args.plan.names.items = search rules in
+    let same : c.as_slice.result.now ≡ c.args.script.names.items = search rules in
     IfOk-weaker c.ending_of.result _ _ (λ ending made. (
       c.in_ok-end.end.space,
       c.in_ok-end.end.counts.items,

@@ -14,9 +14,9 @@ called c = let e = c.caller_of-who.ensures in rw c.deref.ensures.value at e
 pub returns-clause-outcome : goal.returns-clause-outcome
 returns-clause-outcome c =
     let b = (goal.at.returns-clause-outcome c).After-msgget in
-    IfOk-map c.msgget.result _ _ (λ outcome is. sym (get-outcome (the_view b.self.inside) c.args.self.now c.args.client c.caller_of-who.result c.self.view_is (called b) c.args.key c.args.flags) ∙ is) c.msgget.ensures.outcome
+    IfOk-map c.msgget.result _ _ (λ outcome is. sym (get-outcome (the_view b.self.inside) c.args.self.now c.args.client c.caller_of-who.result c.self.view_is (called b) c.args.asked.key c.args.asked.flags) ∙ is) c.msgget.ensures.outcome
 
 pub returns-clause-state : goal.returns-clause-state
 returns-clause-state c =
     let b = (goal.at.returns-clause-state c).After-msgget in
-    on_ok_weaker c.msgget.result (λ is. get-left (the_view b.self.inside) c.args.self.now c.args.client c.caller_of-who.result c.self.view_is (called b) c.args.key c.args.flags (queues_of c.msgget.new.self) is) c.msgget.ensures.queues
+    on_ok_weaker c.msgget.result (λ is. get-left (the_view b.self.inside) c.args.self.now c.args.client c.caller_of-who.result c.self.view_is (called b) c.args.asked.key c.args.asked.flags (queues_of c.msgget.new.self) is) c.msgget.ensures.queues

@@ -35,15 +35,15 @@ went_well (Err e) P good p = absurd (true≢false good)
 pub invariant_of-self-else-is_err : goal.invariant_of-self-else-is_err
 invariant_of-self-else-is_err c =
     let n = c.self.inside in
-    let w : Waiting = record { client = c.args.client; call = c.args.call; deadline = c.args.deadline } in
+    let w : Waiting = record { client = c.args.client; call = c.args.arrival.call; deadline = c.args.arrival.deadline } in
     let may = c.requires.as_semop in
     let known : c.args.client < length n.clients.items = subst (λ (s : State). c.args.client < length s.clients) (sym c.self.view_is) c.requires.known in
     let free : list_any (λ v. v.client == c.args.client) (waiting n.parked) ≡ false = ap (λ (s : State). list_any (λ v. v.client == c.args.client) s.parked) c.self.view_is ∙ c.requires.free in
     let pushed = went_well c.park-parked.result _ (sym c.is_err.ensures.value ∙ c.if-is_err.false) c.park-parked.ensures.ok in
-    let longer : waiting c.park-parked.new.self ≡ waiting n.parked ++ w ∷ [] = ap waiting pushed ∙ waiting-push n.parked (c.args.client, record { place = c.args.place; call = c.args.call; deadline = c.args.deadline }) in (
+    let longer : waiting c.park-parked.new.self ≡ waiting n.parked ++ w ∷ [] = ap waiting pushed ∙ waiting-push n.parked (c.args.client, record { place = c.args.arrival.place; call = c.args.arrival.call; deadline = c.args.arrival.deadline }) in (
       c.self.invariant.0,
       subst (λ ws. AreParked (length n.clients.items) ws) (sym longer) (AreParked-push (length n.clients.items) (waiting n.parked) w c.self.invariant.1 known may free),
-      λ id. c.in_ok-reserve_in.ensures.room id ∙ ap (λ q. room n.queues id + one_if (is_at id q)) c.sent_to-queue.ensures ∙ ap (λ k. k + one_if (is_send_to id c.args.call)) (c.self.invariant.2 id)
+      λ id. c.in_ok-reserve_in.ensures.room id ∙ ap (λ q. room n.queues id + one_if (is_at id q)) c.sent_to-queue.ensures ∙ ap (λ k. k + one_if (is_send_to id c.args.arrival.call)) (c.self.invariant.2 id)
           ∙ sym (sends_on-push id (waiting n.parked) w) ∙ ap (λ ws. sends_on id ws) (sym longer),
       subst (λ ws. AreHeld c.reserve_row.new.sets n.exited.items ws) (sym longer)
           (held-push c.reserve_row.new.sets n.exited.items (waiting n.parked) w
@@ -53,11 +53,11 @@ invariant_of-self-else-is_err c =
 
 pub reserve_in-requires : goal.reserve_in-requires
 reserve_in-requires c = λ id sends.
-    let there = sender-there c.args.self.now c.args.client c.args.call id c.requires.waits (ap (λ q. is_at id q) (sym c.sent_to-queue.ensures) ∙ sends) in
+    let there = sender-there c.args.self.now c.args.client c.args.arrival.call id c.requires.waits (ap (λ q. is_at id q) (sym c.sent_to-queue.ensures) ∙ sends) in
     ap (λ (s : State). is_some (queue_at s.queues id)) c.self.view_is ∙ there
 
 pub reserve_row-requires-clause-there : goal.reserve_row-requires-clause-there
-reserve_row-requires-clause-there c = subst (λ (s : State). MayReserve s.sems c.args.call) (sym c.self.view_is) (operator-there c.args.self.now c.args.client c.args.call c.requires.waits)
+reserve_row-requires-clause-there c = subst (λ (s : State). MayReserve s.sems c.args.arrival.call) (sym c.self.view_is) (operator-there c.args.self.now c.args.client c.args.arrival.call c.requires.waits)
 
 went_wrong : {T E : Type 0} (r : Result T E) (P : Type 0) → is_err r ≡ true → OnErr r P → P
 went_wrong (Ok x) P bad p = absurd (true≢false (sym bad))

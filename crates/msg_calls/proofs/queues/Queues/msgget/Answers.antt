@@ -12,5 +12,5 @@ returns-in-Some-clause-outcome c =
     let who = c.args.who.now in
     let t = queues_of c.args.self.now in
     let limits = c.args.limits.now in
-    ap (λ (o : Option (ℕ × Object Queue)). outcome_of (getting_found limits t who c.args.key c.args.flags o)) (sym c.in-Some.ensures)
-    ∙ c.found_queue.ensures.outcome t c.args.key limits (seen queue_of c.in-Some.queue.now) refl
+    ap (λ (o : Option (ℕ × Object Queue)). outcome_of (getting_found limits t who c.args.asked o)) (sym c.in-Some.ensures)
+    ∙ c.found_queue.ensures.outcome t c.args.asked.key limits (seen queue_of c.in-Some.queue.now) refl
