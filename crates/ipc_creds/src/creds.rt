@@ -100,6 +100,20 @@ impl Creds {
         self.egid
     }
 
+    /// The real user and group.
+    pub fn real(&self) -> (u32, u32)
+        ensures { result ≡ (self.now.ruid, self.now.rgid) }
+    {
+        (self.ruid, self.rgid)
+    }
+
+    /// The saved user and group.
+    pub fn saved(&self) -> (u32, u32)
+        ensures { result ≡ (self.now.suid, self.now.sgid) }
+    {
+        (self.suid, self.sgid)
+    }
+
     /// The supplementary groups, in the order in which they were given.
     pub fn groups(&self) -> &[u32]
         ensures groups { result.now ≡ self.now.groups }

@@ -6,17 +6,18 @@ use Rattle.ipc_call.specs.declared.calls.Call.{Call}
 use Rattle.ipc_call.specs.declared.calls.Call.TheVariants.{MsgSnd, MsgRcv, SemOp, SemGet, GetNcnt, GetZcnt, GetVal, GetPid, GetAll, SetVal, SetAll, ShmGet, ShmAt, ShmDt, ShmRead, ShmWrite, IpcSet, IpcRmid, Interrupt}
 use Rattle.ipc_call.specs.declared.replies.Completion.{Completion}
 use Rattle.ipc_call.specs.declared.rules.Rule.{Rule}
+use Rattle.ipc_call.specs.declared.rules.Rule.TheVariants.{Removed, Interrupted}
 use Rattle.ipc_ids.specs.Table.{Table}
 use Rattle.ipc_objects.specs.declared.object.Object.{Object}
 use Rattle.msg_calls.specs.WithRoom.{QueueWithRoom, one_if, room}
 use Rattle.sem_calls.specs.WithRows.{SetsWithRows, HasRow}
 use Rattle.ipc_perm.specs.declared.access.Verdict.{Verdict}
 use Rattle.ipc_perm.specs.declared.access.Verdict.TheVariants.{Allowed, Denied}
-use Rattle.ipc_model.specs.State.{Sems, State}
+use Rattle.ipc_model.specs.State.{Sems, State, creds_at, pid_of}
 use Rattle.ipc_model.specs.Semaphores.{set_at}
 use Rattle.sem_set.specs.Trials.{are_in}
-use Rattle.ipc_model.specs.Decide.{decide_alive, is_late, is_negative, is_zero, unless_late}
-use Rattle.ipc_model.specs.Cancelled.{cancelled}
+use Rattle.ipc_model.specs.Decide.{decide_alive, is_late, is_negative, is_zero, needs, unless_late}
+use Rattle.ipc_model.specs.Cancelled.{first_denial, waits_on}
 use Rattle.ipc_model.specs.Decision.{Decision, Outcome, left_by}
 use Rattle.ipc_model.specs.Step.{Moved, cancelled_by, is_ready, state_by, ended_by_rule}
 use Rattle.ipc_parked.specs.Parked.{AreApart}
@@ -115,15 +116,12 @@ abbrev pub sends_on : ℕ → List Waiting → ℕ
 sends_on id [] = 0
 sends_on id (w ∷ ws) = one_if (is_send_to id w.call) + sends_on id ws
 
--- a call whose grant cancels so: what else IPC_SET sets doesn't matter to that
-abbrev pub cancelling_call : Cancelling → Call
-cancelling_call (cancellings.Denied kind id) = IpcSet kind id 0 0 0 None
-cancelling_call (cancellings.Removed kind id) = IpcRmid kind id
-cancelling_call (cancellings.Interrupted pid) = Interrupt pid
-
 -- the rule by which a waiting call ends
 abbrev pub cancelled_as : State → Cancelling → Waiting → Option Rule
-cancelled_as s cancelling w = cancelled s (cancelling_call cancelling) w
+cancelled_as s (cancellings.Denied kind id) w =
+    if waits_on kind id w.call then first_denial (creds_at s w.client) (needs s w.client w.call) else None
+cancelled_as s (cancellings.Removed kind id) w = if waits_on kind id w.call then Some Removed else None
+cancelled_as s (cancellings.Interrupted pid) w = if pid == pid_of w.client then Some Interrupted else None
 
 -- the call was granted
 abbrev pub is_grant : Option Outcome → Bool

@@ -5,7 +5,7 @@ ghost use Rattle.ipc_model.specs.State.{creds_at};
 ghost use Rattle.ipc_model.specs.Decision.{left_by, outcome_of};
 ghost use Rattle.ipc_model.specs.Plan.{decision};
 ghost use Rattle.ipc_model.specs.Decide.{decide_alive as decision_on};
-ghost use Rattle.ipc_model.specs.Controls.{is_within as is_within_limit, perm_of as perm_in, remove_object, set_object, status_of as status_in, with_set};
+ghost use Rattle.ipc_model.specs.Controls.{is_within as is_within_limit, perm_of as perm_in, remove_object, set_object, with_set};
 ghost use Rattle.ipc_namespace.specs.Namespace.{allowed_by, left_alive as moved_by};
 ghost use Rattle.ipc_model.specs.Decision.{without_answer};
 
@@ -42,27 +42,6 @@ impl Namespace {
         }
         let status = Boxed::new(*self.clients.allocator(), status)?;
         Ok(Ok(Answer::Status(status)))
-    }
-
-    /// The permissions and the state of the object of an identifier.
-    pub(super) fn status_of(&self, kind: Kind, id: u32) -> Option<(Perm, Status)>
-        ensures { result ≡ status_in self.now kind id }
-    {
-        match kind {
-            Kind::Queue => {
-                let queue = self.queues.get(id)?;
-                Some((queue.perm, msg_calls::status(queue)))
-            }
-            Kind::Sems => {
-                let set = self.sets.get(id)?;
-                Some((set.perm, sem_calls::status(set)))
-            }
-            Kind::Segment => {
-                let segment = self.segments.get(id)?;
-                let nattch = self.segments.nattch(id);
-                Some((segment.perm, shm_calls::status(segment, nattch)))
-            }
-        }
     }
 
     /// IPC_SET. The waiting calls end that it takes the right from; there is room for each in the list of those that
@@ -166,16 +145,5 @@ impl Namespace {
             return Err(Rule::BadId);
         };
         allowed(may_control(creds, &perm))
-    }
-
-    /// The permissions of the object of an identifier.
-    fn perm_of(&self, kind: Kind, id: u32) -> Option<Perm>
-        ensures { result ≡ perm_in self.now kind id }
-    {
-        match kind {
-            Kind::Queue => self.queues.perm(id),
-            Kind::Sems => self.sets.perm(id),
-            Kind::Segment => self.segments.perm(id),
-        }
     }
 }

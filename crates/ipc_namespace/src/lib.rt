@@ -6,6 +6,7 @@ mod callers;
 mod cancelling;
 mod control_calls;
 mod listings;
+mod looking;
 mod message_calls;
 mod namespace;
 mod process_calls;

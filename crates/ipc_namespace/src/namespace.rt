@@ -103,13 +103,6 @@ impl Namespace {
         self.parked.is_waiting(client)
     }
 
-    /// Whether the client has called exit.
-    pub(super) fn has_exited(&self, client: u32) -> bool
-        ensures { result ≡ exited_before self.now client }
-    {
-        self.exited.iter().any(|other| *other == client)
-    }
-
     /// The clock, in seconds.
     pub fn clock(&self) -> u64
         ensures { result ≡ self.now.clock }

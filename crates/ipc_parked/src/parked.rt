@@ -1,6 +1,6 @@
 // The calls that wait.
 
-ghost use Rattle.std.specs.Prelude.{◌≡◌, ℕ, ◌<◌, true, false, [], ◌∷◌, ◌++◌, length, slice_get, OnOk, OnErr, Some, if◌then◌else◌};
+ghost use Rattle.std.specs.Prelude.{◌≡◌, ℕ, ◌<◌, true, false, [], ◌∷◌, ◌++◌, length, option_copied, slice_get, OnOk, OnErr, Some, if◌then◌else◌};
 ghost use Rattle.std.specs.Option.{option_map};
 ghost use Rattle.ipc_call.specs.declared.calls.Kind.TheVariants as kinds;
 ghost use Rattle.ipc_call.specs.declared.replies.Waiting.{Waiting as WaitingCall};
@@ -129,6 +129,13 @@ impl Parked {
             Some(waits) => waits,
             None => self.arrivals.contains_key(&client),
         }
+    }
+
+    /// The client's call that waits, with its place and its deadline. Takes no memory.
+    pub fn get(&self, client: u32) -> Option<&Arrival>
+        ensures { option_copied result ≡ arrival_of client self.now }
+    {
+        self.arrivals.get(&client)
     }
 
     /// The place of the event that brought the client's call, which waits. Takes no memory.

@@ -4,6 +4,7 @@
 #![tactic(auto)]
 
 pub mod laws;
+mod looking;
 mod replaying;
 mod space;
 
@@ -14,5 +15,7 @@ pub use ipc_call::{
     SEM_UNDO, SHM_RDONLY, SegmentStatus, SemOper, SetStatus, Status, errno,
 };
 pub use ipc_creds::{Caps, Creds, GROUPS_MAX};
+pub use ipc_parked::Arrival;
 pub use replaying::{Replayed, replay};
+pub use shm_seg::Attachment;
 pub use space::{Effects, Space};

@@ -35,7 +35,7 @@ pub struct Effects {
 pub struct Space {
     /// The credentials of the clients at the start. Those that they have now are the namespace's.
     opening: Vec<Creds>,
-    namespace: Namespace,
+    pub(super) namespace: Namespace,
     journal: Journal,
     events: u64,
     /// The waiting calls that an event ends, and the replies to them. Between events both are empty, and keep their room.

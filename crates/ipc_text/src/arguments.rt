@@ -7,7 +7,7 @@ ghost use Rattle.ipc_words.specs.Words.{words_of};
 use ipc_words::{number_32, split_word};
 
 /// The word, where it is one.
-pub(crate) fn one_word(words: &[u8]) -> Option<&[u8]>
+pub fn one_word(words: &[u8]) -> Option<&[u8]>
     ensures { MatchOption result (length (words_of words.now) ≢ 1) (λ word. words_of words.now ≡ word.now ∷ []) }
 {
     let (word, words) = split_word(words)?;
@@ -27,7 +27,7 @@ pub(crate) fn two_words(words: &[u8]) -> Option<(&[u8], &[u8])>
 }
 
 /// The first two words, and what follows them.
-pub(crate) fn first_two(words: &[u8]) -> Option<(&[u8], &[u8], &[u8])>
+pub fn first_two(words: &[u8]) -> Option<(&[u8], &[u8], &[u8])>
     ensures { MatchOption result (length (words_of words.now) < 2) (λ x. words_of words.now ≡ x.0.now ∷ x.1.now ∷ words_of x.2.now) }
 {
     let (first, words) = split_word(words)?;
@@ -36,7 +36,7 @@ pub(crate) fn first_two(words: &[u8]) -> Option<(&[u8], &[u8], &[u8])>
 }
 
 /// The numbers that two words write; None where one of them writes none that 32 bits hold.
-pub(crate) fn two_numbers(first: &[u8], second: &[u8]) -> Option<(u32, u32)>
+pub fn two_numbers(first: &[u8], second: &[u8]) -> Option<(u32, u32)>
     ensures { result ≡ number_words first.now second.now }
 {
     let first = number_32(first)?;
@@ -54,7 +54,7 @@ pub(crate) fn three_words(words: &[u8]) -> Option<(&[u8], &[u8], &[u8])>
 }
 
 /// The words, where they are four.
-pub(crate) fn four_words(words: &[u8]) -> Option<(&[u8], &[u8], &[u8], &[u8])>
+pub fn four_words(words: &[u8]) -> Option<(&[u8], &[u8], &[u8], &[u8])>
     ensures { MatchOption result (length (words_of words.now) ≢ 4) (λ x. words_of words.now ≡ x.0.now ∷ x.1.now ∷ x.2.now ∷ x.3.now ∷ []) }
 {
     let (first, words) = split_word(words)?;

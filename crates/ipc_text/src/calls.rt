@@ -19,7 +19,7 @@ use std::alloc::{AllocError, Global};
 /// The call that the words make, of which the first names it; `None` where they make none. `AllocError` comes where
 /// memory was refused.
 #[tactic(auto, unfolding(crate::specs::CallWords::call_of))]
-pub(crate) fn call_of(alloc: Global, words: &[u8]) -> Result<Option<Call>, AllocError>
+pub fn call_of(alloc: Global, words: &[u8]) -> Result<Option<Call>, AllocError>
     ensures { IfOk result (λ call. call ≡ call_words (words_of words.now)) }
 {
     let Some((word, words)) = split_word(words) else {
@@ -254,8 +254,9 @@ fn qbytes_of(words: &[u8]) -> Option<Option<u64>>
     Some(Some(qbytes))
 }
 
+/// The kind of object that the word names: `q` a queue, `s` a semaphore set, `m` a segment.
 #[tactic(auto, unfolding(crate::specs::Calls::kind_named))]
-fn kind_named(word: &[u8]) -> Option<Kind>
+pub fn kind_named(word: &[u8]) -> Option<Kind>
     ensures { result ≡ kind_word word.now }
 {
     match word {

@@ -17,10 +17,13 @@ mod sets;
 mod settings;
 mod texts;
 
+pub use arguments::{first_two, four_words, one_word, two_numbers};
+pub use calls::{call_of, kind_named};
 pub use commands::{Command, command_of};
 pub use grammar::{client_of, clock_of, limit_of};
 pub use ipc_commands::Part;
 pub use ipc_words::{Line, Pending, is_plain, split_word};
+pub use lists::{Item, items_of};
 pub use names::Name;
 pub use reasons::Reason;
 pub use rows::{print_bad, print_object, print_reply, print_waits};

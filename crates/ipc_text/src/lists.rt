@@ -2,7 +2,7 @@
 
 ghost use Rattle.std.specs.Prelude.{◌≡◌, IfOk, option_map};
 ghost use Rattle.ipc_text.specs.Grammar.{each_of, number_list as number_words};
-ghost use Rattle.ipc_words.specs.Numbers.{signed_32 as signed_word_32};
+ghost use Rattle.ipc_words.specs.Numbers.{number_32 as word_32, signed_32 as signed_word_32};
 ghost use Rattle.ipc_words.specs.Words.{words_of};
 
 use ipc_call::Items;
@@ -10,7 +10,7 @@ use ipc_words::{number_32, signed_32, split_field, split_word};
 use std::alloc::{AllocError, Global};
 
 /// What one word of a list writes.
-pub(crate) trait Item: Copy {
+pub trait Item: Copy {
     ghost use Rattle.std.specs.Prelude.{ℕ, List, Option};
 
     ghost item_of: { List ℕ → Option Self };
@@ -28,9 +28,17 @@ impl Item for i32 {
     }
 }
 
+impl Item for u32 {
+    ghost item_of = { word_32 };
+
+    fn from_word(word: &[u8]) -> Option<u32> {
+        number_32(word)
+    }
+}
+
 /// What each of the words writes; None where one of them writes none. `AllocError` comes only where a growth
 /// was refused.
-pub(crate) fn items_of<T: Item>(alloc: Global, words: &[u8]) -> Result<Option<Items<T>>, AllocError>
+pub fn items_of<T: Item>(alloc: Global, words: &[u8]) -> Result<Option<Items<T>>, AllocError>
     ensures { IfOk result (λ items. items ≡ each_of T.item_of (words_of words.now)) }
 {
     let mut items = Vec::new(alloc);

@@ -86,6 +86,14 @@ impl Queues {
         self.objects.seek(key)
     }
 
+    /// The identifier and the permissions of the queue of a key. None for key 0, IPC_PRIVATE.
+    pub fn find(&self, key: u32) -> Option<(u32, Perm)>
+        ensures { result ≡ option_map (λ found. (found.0, found.1.perm)) (object_of_key (queues_of self.now) key) }
+    {
+        let (id, queue) = self.seek(key)?;
+        Some((id, queue.perm))
+    }
+
     /// The queue of an identifier.
     pub fn get(&self, id: u32) -> Option<&Object<Queue>>
         ensures { option_map (λ object. seen queue_of object) (option_copied result)

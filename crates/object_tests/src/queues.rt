@@ -2,8 +2,8 @@
 
 use bitflags::Flags;
 use ipc_call::{
-    Answer, IPC_CREAT, IPC_EXCL, IPC_NOWAIT, Items, Limits, MSG_EXCEPT, MSG_NOERROR, Receive, Rule,
-    Status,
+    Answer, Get, IPC_CREAT, IPC_EXCL, IPC_NOWAIT, Items, Limits, MSG_EXCEPT, MSG_NOERROR, Receive,
+    Rule, Sending, Status,
 };
 use ipc_creds::{Caps, Creds};
 use msg_calls::{Queues, status};
@@ -13,7 +13,7 @@ use std::test::Fail;
 
 /// The identifier that msgget answers, for which there is memory.
 fn get(queues: &mut Queues, who: &Caller, key: u32, flags: u32) -> Option<Result<u32, Rule>> {
-    match queues.msgget(&Limits::default(), who, key, flags) {
+    match queues.msgget(&Limits::default(), who, Get { key, flags }) {
         Ok(Ok(Answer::Id(id))) => Some(Ok(id)),
         Ok(Err(rule)) => Some(Err(rule)),
         _ => None,
@@ -38,12 +38,21 @@ fn send(
         return Err(Fail::from("no queue"));
     }
     queues.reserve(id)?;
-    match queues.decide_send(&Limits::default(), who, id, mtype, text.len(), 0) {
+    match queues.decide_send(&Limits::default(), who, id, sending(mtype, text.len())) {
         Some(Ok(())) => queues.send_reserved(who, id, mtype, text),
         Some(Err(_)) => return Err(Fail::from("refused")),
         None => return Err(Fail::from("waits")),
     }
     Ok(())
+}
+
+/// What msgsnd asks for, without a flag.
+fn sending(mtype: i64, len: usize) -> Sending {
+    Sending {
+        mtype,
+        len,
+        flags: 0,
+    }
 }
 
 /// What msgrcv asks for.
@@ -106,9 +115,11 @@ fn a_key_has_one_queue(rt: HostRuntime) {
 /// Sends that are refused.
 fn check_refusals(rt: &impl Abort, queues: &Queues, who: &Caller) {
     let limits = Limits::default();
-    assert!(rt; queues.decide_send(&limits, who, 1, 3, 2, 0) == Some(Err(Rule::BadId)));
-    assert!(rt; queues.decide_send(&limits, who, 0, 0, 2, 0) == Some(Err(Rule::BadType)));
-    assert!(rt; queues.decide_send(&limits, who, 0, 3, 8193, 0) == Some(Err(Rule::TextTooLong)));
+    assert!(rt; queues.decide_send(&limits, who, 1, sending(3, 2)) == Some(Err(Rule::BadId)));
+    assert!(rt; queues.decide_send(&limits, who, 0, sending(0, 2)) == Some(Err(Rule::BadType)));
+    assert!(rt;
+        queues.decide_send(&limits, who, 0, sending(3, 8193)) == Some(Err(Rule::TextTooLong))
+    );
 }
 
 /// Receives that leave the only message, two bytes of type 3, in its queue.

@@ -1,7 +1,6 @@
 //! Worked rows of semadj, with what semop(2) and semctl(2) have them become.
 
 use sem_undo::Undo;
-use std::alloc::Global;
 use std::process::Abort;
 use std::test::Fail;
 
@@ -42,7 +41,7 @@ fn clear(undo: &mut Undo, step: Step) -> Option<i64> {
 }
 
 /// Does a step, and answers what it tells.
-fn told(alloc: Global, undo: &mut Undo, step: Step) -> Result<Option<i64>, Fail> {
+fn told(undo: &mut Undo, step: Step) -> Result<Option<i64>, Fail> {
     Ok(match step {
         Step::Ensure(client, set, len) if client < 64 => {
             undo.ensure_row(client, set, len)?;
@@ -56,13 +55,9 @@ fn told(alloc: Global, undo: &mut Undo, step: Step) -> Result<Option<i64>, Fail>
 }
 
 /// Does these steps, each of which must tell what stands beside it.
-fn follow(
-    rt: &(impl Abort + AllocGlobal),
-    undo: &mut Undo,
-    steps: &[(Step, Option<i64>)],
-) -> Result<(), Fail> {
+fn follow(rt: &impl Abort, undo: &mut Undo, steps: &[(Step, Option<i64>)]) -> Result<(), Fail> {
     for (step, wanted) in steps {
-        assert_eq!(rt; told(rt.alloc(), undo, *step)?, *wanted, "{step:?}");
+        assert_eq!(rt; told(undo, *step)?, *wanted, "{step:?}");
     }
     Ok(())
 }

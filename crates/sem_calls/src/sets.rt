@@ -1,12 +1,13 @@
 //! The semaphore sets of a namespace.
 
-ghost use Rattle.std.specs.Prelude.{◌≡◌, ◌≤◌, ℕ, true, IfOk, IsSome, option_copied};
+ghost use Rattle.std.specs.Prelude.{◌≡◌, ◌≤◌, ℕ, true, IfOk, IsSome, option_copied, option_map};
 ghost use Rattle.std.specs.FinMap as finite;
 ghost use Rattle.ipc_ids.specs.Table.{empty_table, ids_of};
 ghost use Rattle.ipc_model.specs.Controls.{perm_in, with_new_owner, without_set};
+ghost use Rattle.ipc_model.specs.Gets.{object_of_key};
 ghost use Rattle.ipc_model.specs.Semaphores.{set_at, values_at};
 ghost use Rattle.ipc_objects.specs.Objects.{changed};
-ghost use Rattle.sem_undo.specs.Entries.{nothing_undone};
+ghost use Rattle.sem_undo.specs.Entries.{adj_of, nothing_undone};
 ghost use Rattle.sem_calls.specs.WithRows.{row_at, sems_of};
 
 use crate::set::Set;
@@ -52,6 +53,13 @@ impl Sets {
         }
     }
 
+    /// The identifier and the permissions of the set of a key. None for key 0, IPC_PRIVATE.
+    pub fn find(&self, key: u32) -> Option<(u32, Perm)>
+        ensures { result ≡ option_map (λ found. (found.0, found.1.perm)) (object_of_key self.now.sets key) }
+    {
+        self.sets.find(key)
+    }
+
     /// The set of an identifier.
     pub fn get(&self, id: u32) -> Option<&Object<Set>>
         ensures { option_copied result ≡ set_at (sems_of self.now) id }
@@ -82,6 +90,13 @@ impl Sets {
             Some(set) => set.contents.semaphores.values(self.alloc),
             None => Ok(Vec::new(self.alloc)),
         }
+    }
+
+    /// What the exit of a client would add to a semaphore of the set of an identifier, its semadj there (semop(2)).
+    pub fn semadj(&self, client: u32, id: u32, num: u16) -> i32
+        ensures { result ≡ adj_of (sems_of self.now).undo client id num }
+    {
+        self.undo.adj(client, id, num)
     }
 
     /// Sets the owner and the mode of the set of an identifier, which there is, at a time in seconds (IPC_SET of

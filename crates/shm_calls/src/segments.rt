@@ -1,18 +1,19 @@
 //! The shared memory segments of a namespace.
 
-ghost use Rattle.std.specs.Prelude.{◌≡◌, ◌≤◌, IfOk, IsSome, option_copied};
+ghost use Rattle.std.specs.Prelude.{◌≡◌, ◌≤◌, IfOk, IsSome, option_copied, option_map};
 ghost use Rattle.ipc_ids.specs.Table.{empty_table, ids_of};
 ghost use Rattle.ipc_model.specs.Controls.{marked, perm_in, with_new_owner, without_segment};
+ghost use Rattle.ipc_model.specs.Gets.{object_of_key};
 ghost use Rattle.ipc_model.specs.Segments.{segment_at};
 ghost use Rattle.ipc_objects.specs.Objects.{changed};
-ghost use Rattle.shm_seg.specs.Attachments.{attach_count, none_attached};
+ghost use Rattle.shm_seg.specs.Attachments.{attach_count, attachment_at, none_attached};
 
 use crate::segment::Segment;
 use ipc_call::{Memory, Settings};
 use ipc_objects::{Object, Objects};
 use ipc_perm::Perm;
 use object_calls::owner_of;
-use shm_seg::Attachments;
+use shm_seg::{Attachment, Attachments};
 use std::alloc::Global;
 use std::marker::Model;
 
@@ -48,6 +49,20 @@ impl Segments {
             attached: Attachments::new(alloc),
             alloc,
         }
+    }
+
+    /// The identifier and the permissions of the segment of a key. None for key 0, IPC_PRIVATE.
+    pub fn find(&self, key: u32) -> Option<(u32, Perm)>
+        ensures { result ≡ option_map (λ found. (found.0, found.1.perm)) (object_of_key self.now.segments key) }
+    {
+        self.segments.find(key)
+    }
+
+    /// What a client has attached under a number.
+    pub fn attachment(&self, client: u32, att: u32) -> Option<Attachment>
+        ensures { result ≡ attachment_at self.now.attached client att }
+    {
+        self.attached.get(client, att)
     }
 
     /// The segment of an identifier.

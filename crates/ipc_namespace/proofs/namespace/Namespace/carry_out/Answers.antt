@@ -53,21 +53,21 @@ returns-clause-own c =
     let s = c.args.self.now in
     let client = c.args.client in
     let call = c.args.call.now in
-    let alive : has_exited s client ≡ false = sym c.has_exited.ensures ∙ c.if-has_ended.false in
+    let alive : has_exited s client ≡ false = sym c.has_exited.ensures ∙ c.if-has_exited.false in
     let alone : is_on_waiting call ≡ false = sym c.is_on_waiting.ensures ∙ c.if-is_on_waiting.false in
     c.in_ok-own.ensures.own ∙ sym (ap (λ (d : Decision State). outcome_of d) (later-made s client call alive alone) ∙ outcome-whole _ (decide_made s client call))
 
 pub returns-clause-state : goal.returns-clause-state
 returns-clause-state c =
     let s = c.args.self.now in
-    let alive : has_exited s c.args.client ≡ false = sym c.has_exited.ensures ∙ c.if-has_ended.false in
+    let alive : has_exited s c.args.client ≡ false = sym c.has_exited.ensures ∙ c.if-has_exited.false in
     let alone : is_on_waiting c.args.call.now ≡ false = sym c.is_on_waiting.ensures ∙ c.if-is_on_waiting.false in
     c.expire-2.ensures.state ∙ ap (λ (t : State). (expire t).state) c.in_ok-own.ensures.state ∙ (later s c.args.client c.args.call.now alive alone).0
 
 pub returns-clause-ended : goal.returns-clause-ended
 returns-clause-ended c =
     let s = c.args.self.now in
-    let alive : has_exited s c.args.client ≡ false = sym c.has_exited.ensures ∙ c.if-has_ended.false in
+    let alive : has_exited s c.args.client ≡ false = sym c.has_exited.ensures ∙ c.if-has_exited.false in
     let alone : is_on_waiting c.args.call.now ≡ false = sym c.is_on_waiting.ensures ∙ c.if-is_on_waiting.false in
     c.expire-2.ensures.ended ∙ ap (λ (es : List Completion). es ++ (expire c.carry_out_alone.new.self).ended) c.requires.empty
     ∙ ap (λ (t : State). (expire t).ended) c.in_ok-own.ensures.state ∙ (later s c.args.client c.args.call.now alive alone).1
@@ -75,7 +75,7 @@ returns-clause-ended c =
 pub expire-requires-2 : goal.expire-requires-2
 expire-requires-2 c =
     let s = c.args.self.now in
-    let alive : has_exited s c.args.client ≡ false = sym c.has_exited.ensures ∙ c.if-has_ended.false in
+    let alive : has_exited s c.args.client ≡ false = sym c.has_exited.ensures ∙ c.if-has_exited.false in
     let alone : is_on_waiting c.args.call.now ≡ false = sym c.is_on_waiting.ensures ∙ c.if-is_on_waiting.false in
     let empty : vec_len c.args.ended.now ≡ 0 = c.args.ended.now.ok.0 ∙ ap length c.requires.empty in
     let left = ap (λ (t : State). length t.parked) c.in_ok-own.ensures.state in
@@ -88,7 +88,7 @@ returns-clause-few c =
     let client = c.args.client in
     let call = c.args.call.now in
     let made = decide_made s client call in
-    let alive : has_exited s client ≡ false = sym c.has_exited.ensures ∙ c.if-has_ended.false in
+    let alive : has_exited s client ≡ false = sym c.has_exited.ensures ∙ c.if-has_exited.false in
     let alone : is_on_waiting call ≡ false = sym c.is_on_waiting.ensures ∙ c.if-is_on_waiting.false in
     let empty : vec_len c.args.ended.now ≡ 0 = c.args.ended.now.ok.0 ∙ ap length c.requires.empty in
     let left = ap (λ (t : State). length t.parked) c.in_ok-own.ensures.state in

@@ -1,0 +1,125 @@
+// What can be looked at without a call: it is no event, and asks for no right.
+
+ghost use Rattle.std.specs.Prelude.{◌≡◌, IfOk, option_copied, option_map, slice_get};
+ghost use Rattle.ipc_call.specs.declared.replies.Waiting.{Waiting as WaitingCall};
+ghost use Rattle.ipc_model.specs.Controls.{perm_of as perm_in, status_of as status_in};
+ghost use Rattle.ipc_model.specs.Semaphores.{values_at};
+ghost use Rattle.ipc_model.specs.State.{has_exited as exited_before, waiting_of as waiting_in};
+ghost use Rattle.ipc_namespace.specs.Looking.{object_with_key, stopped_at as stopping_at};
+ghost use Rattle.sem_undo.specs.Entries.{adj_of};
+ghost use Rattle.shm_seg.specs.Attachments.{attachment_at};
+
+use crate::namespace::Namespace;
+use ipc_call::{Call, Kind, Limits, Memory, SemOper, Status};
+use ipc_creds::Creds;
+use ipc_parked::Arrival;
+use ipc_perm::Perm;
+use shm_seg::Attachment;
+
+impl Namespace {
+    /// The limits.
+    pub fn limits(&self) -> Limits
+        ensures { result ≡ self.now.limits }
+    {
+        self.limits
+    }
+
+    /// The present credentials of a client. None where there is no such client.
+    pub fn creds_of(&self, client: u32) -> Option<&Creds>
+        ensures { option_copied result ≡ slice_get self.now.clients client }
+    {
+        self.clients.get(client as usize)
+    }
+
+    /// Whether the client has called exit.
+    pub fn has_exited(&self, client: u32) -> bool
+        ensures { result ≡ exited_before self.now client }
+    {
+        self.exited.iter().any(|other| *other == client)
+    }
+
+    /// The permissions of the object of an identifier.
+    pub fn perm_of(&self, kind: Kind, id: u32) -> Option<Perm>
+        ensures { result ≡ perm_in self.now kind id }
+    {
+        match kind {
+            Kind::Queue => self.queues.perm(id),
+            Kind::Sems => self.sets.perm(id),
+            Kind::Segment => self.segments.perm(id),
+        }
+    }
+
+    /// The permissions and the state of the object of an identifier.
+    pub fn status_of(&self, kind: Kind, id: u32) -> Option<(Perm, Status)>
+        ensures { result ≡ status_in self.now kind id }
+    {
+        match kind {
+            Kind::Queue => {
+                let queue = self.queues.get(id)?;
+                Some((queue.perm, msg_calls::status(queue)))
+            }
+            Kind::Sems => {
+                let set = self.sets.get(id)?;
+                Some((set.perm, sem_calls::status(set)))
+            }
+            Kind::Segment => {
+                let segment = self.segments.get(id)?;
+                let nattch = self.segments.nattch(id);
+                Some((segment.perm, shm_calls::status(segment, nattch)))
+            }
+        }
+    }
+
+    /// The identifier and the permissions of the object of a key. None for key 0, IPC_PRIVATE.
+    pub fn with_key(&self, kind: Kind, key: u32) -> Option<(u32, Perm)>
+        ensures { result ≡ object_with_key self.now kind key }
+    {
+        match kind {
+            Kind::Queue => self.queues.find(key),
+            Kind::Sems => self.sets.find(key),
+            Kind::Segment => self.segments.find(key),
+        }
+    }
+
+    /// The values of all semaphores of the set of an identifier; none where there is no such set. The error comes only
+    /// where an allocation fails.
+    pub fn values_of(&self, id: u32) -> Result<Vec<u16>, Memory>
+        ensures { IfOk result (λ values. values.items ≡ values_at self.now.sems id) }
+    {
+        self.sets.values(id)
+    }
+
+    /// What the exit of a client would add to a semaphore, its semadj there (semop(2)).
+    pub fn semadj_of(&self, client: u32, id: u32, num: u16) -> i32
+        ensures { result ≡ adj_of self.now.sems.undo client id num }
+    {
+        self.sets.semadj(client, id, num)
+    }
+
+    /// What a client has attached under a number.
+    pub fn attachment_of(&self, client: u32, att: u32) -> Option<Attachment>
+        ensures { result ≡ attachment_at self.now.shared.attached client att }
+    {
+        self.segments.attachment(client, att)
+    }
+
+    /// The client's call that waits, as what it waits, with its deadline.
+    pub fn waiting_of(&self, client: u32) -> Option<&Arrival>
+        ensures { option_map {U = WaitingCall} (λ a. record { client = client; call = a.call; deadline = a.deadline }) (option_copied result) ≡ waiting_in self.now client }
+    {
+        self.parked.get(client)
+    }
+
+    /// The operation at which the client's waiting semop stops (semop(2)). None where no semop of the client waits. It
+    /// leaves the namespace as it is.
+    pub fn stopped_at(&mut self, client: u32) -> Option<SemOper>
+        ensures stop { result ≡ stopping_at self.old client }
+        ensures same { self.new ≡ self.old }
+    {
+        let arrival = self.parked.get(client)?;
+        let Call::SemOp { id, ops } = &arrival.call else {
+            return None;
+        };
+        self.sets.stopping(client, *id, ops.as_slice())
+    }
+}

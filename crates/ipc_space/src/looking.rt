@@ -1,0 +1,101 @@
+// What can be looked at without a call: it is no event, and asks for no right.
+
+ghost use Rattle.std.specs.Prelude.{◌≡◌, IfOk, option_copied, option_map, slice_get};
+ghost use Rattle.ipc_call.specs.declared.replies.Waiting.{Waiting as WaitingCall};
+ghost use Rattle.ipc_history.specs.History.{run};
+ghost use Rattle.ipc_model.specs.Controls.{perm_of as perm_in, status_of as status_in};
+ghost use Rattle.ipc_model.specs.Semaphores.{values_at};
+ghost use Rattle.ipc_model.specs.State.{has_exited as exited_before, waiting_of as waiting_in};
+ghost use Rattle.ipc_namespace.specs.Looking.{object_with_key, stopped_at as stopping_at};
+ghost use Rattle.sem_undo.specs.Entries.{adj_of};
+ghost use Rattle.shm_seg.specs.Attachments.{attachment_at};
+
+use crate::space::Space;
+use ipc_call::{Kind, Limits, Memory, Perm, SemOper, Status};
+use ipc_creds::Creds;
+use ipc_parked::Arrival;
+use shm_seg::Attachment;
+
+impl Space {
+    /// The limits.
+    pub fn limits(&self) -> Limits
+        ensures { result ≡ (run self.now).limits }
+    {
+        self.namespace.limits()
+    }
+
+    /// The present credentials of a client, as calls have left them. None where there is no such client.
+    pub fn creds_of(&self, client: u32) -> Option<&Creds>
+        ensures { option_copied result ≡ slice_get (run self.now).clients client }
+    {
+        self.namespace.creds_of(client)
+    }
+
+    /// Whether the client has called exit.
+    pub fn has_exited(&self, client: u32) -> bool
+        ensures { result ≡ exited_before (run self.now) client }
+    {
+        self.namespace.has_exited(client)
+    }
+
+    /// The permissions of the object of an identifier.
+    pub fn perm_of(&self, kind: Kind, id: u32) -> Option<Perm>
+        ensures { result ≡ perm_in (run self.now) kind id }
+    {
+        self.namespace.perm_of(kind, id)
+    }
+
+    /// The permissions of the object of an identifier, and its state as IPC_STAT reports it.
+    pub fn status_of(&self, kind: Kind, id: u32) -> Option<(Perm, Status)>
+        ensures { result ≡ status_in (run self.now) kind id }
+    {
+        self.namespace.status_of(kind, id)
+    }
+
+    /// The identifier and the permissions of the object of a key. None for key 0, IPC_PRIVATE.
+    pub fn with_key(&self, kind: Kind, key: u32) -> Option<(u32, Perm)>
+        ensures { result ≡ object_with_key (run self.now) kind key }
+    {
+        self.namespace.with_key(kind, key)
+    }
+
+    /// The values of all semaphores of the set of an identifier; none where there is no such set. Memory (ENOMEM) comes
+    /// where a growth was refused.
+    pub fn values_of(&self, id: u32) -> Result<Vec<u16>, Memory>
+        ensures { IfOk result (λ values. values.items ≡ values_at (run self.now).sems id) }
+    {
+        self.namespace.values_of(id)
+    }
+
+    /// What the exit of a client would add to a semaphore, its semadj there (semop(2)): above 0 where the client has taken
+    /// some with SEM_UNDO.
+    pub fn semadj_of(&self, client: u32, id: u32, num: u16) -> i32
+        ensures { result ≡ adj_of (run self.now).sems.undo client id num }
+    {
+        self.namespace.semadj_of(client, id, num)
+    }
+
+    /// What a client has attached under a number.
+    pub fn attachment_of(&self, client: u32, att: u32) -> Option<Attachment>
+        ensures { result ≡ attachment_at (run self.now).shared.attached client att }
+    {
+        self.namespace.attachment_of(client, att)
+    }
+
+    /// The client's call that waits, as what it waits (a semtimedop as the semop that it is), with its deadline and the
+    /// place of the event that brought it.
+    pub fn waiting_of(&self, client: u32) -> Option<&Arrival>
+        ensures { option_map {U = WaitingCall} (λ a. record { client = client; call = a.call; deadline = a.deadline }) (option_copied result) ≡ waiting_in (run self.now) client }
+    {
+        self.namespace.waiting_of(client)
+    }
+
+    /// The operation at which the client's waiting semop stops (semop(2)). None where no semop of the client waits. It is
+    /// tried anew in the set's own room, and leaves the namespace as it is.
+    pub fn stopped_at(&mut self, client: u32) -> Option<SemOper>
+        ensures stop { result ≡ stopping_at (run self.old) client }
+        ensures same { self.new ≡ self.old }
+    {
+        self.namespace.stopped_at(client)
+    }
+}
