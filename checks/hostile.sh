@@ -12,10 +12,10 @@ check_memory() {
 }
 
 # The tests that say between which of their lines nothing is allocated: CRATE/TEST.
-quiet_tests='object_tests/messages::a_message_that_has_a_place_goes_through_without_memory
-    object_tests/parked::calls_are_found_and_leave_without_memory
-    object_tests/undo::rows_that_are_there_change_and_go_without_memory
-    object_tests/objects::objects_are_found_changed_and_removed_without_memory
+quiet_tests='queue_tests/messages::a_message_that_has_a_place_goes_through_without_memory
+    queue_tests/parked::calls_are_found_and_leave_without_memory
+    space_tests/undo::rows_that_are_there_change_and_go_without_memory
+    space_tests/objects::objects_are_found_changed_and_removed_without_memory
     thread_tests/quiet::a_pass_of_calls_that_need_no_memory_takes_none
     thread_tests/quiet::what_is_around_a_call_takes_no_memory'
 
@@ -97,10 +97,10 @@ has_tests() {
 # Each second, third, .. allocation of the random lists of calls on queues is refused: they answer as plain lists do.
 queues_bear_refusals() {
     preloaded refuse || return 1
-    has_tests object_tests || return 1
+    has_tests queue_tests || return 1
     for each in 2 3 5 7 11 101; do
         why="each allocation with a number that $each divides refused: not as a plain list, or none was refused"
-        EACH="$each" LD_PRELOAD="$scratch/refuse.so" timeout 60 "$(tests_of object_tests)" lists::a_queue_answers_as_a_list \
+        EACH="$each" LD_PRELOAD="$scratch/refuse.so" timeout 60 "$(tests_of queue_tests)" lists::a_queue_answers_as_a_list \
             >"$scratch/out" 2>"$scratch/err" || return 1
         grep -q '^refused$' "$scratch/err" || return 1
     done

@@ -1,10 +1,8 @@
 // Clients do their jobs, each in a thread of its own.
 ghost use Rattle.std.specs.Prelude.{⊤};
 
-use bitflags::Flags;
-use ipc_call::{Call, Items, JournalRow, Kind, Limits, Listed, Mode, Row, Rule, SemOper};
+use ipc_call::{Call, Items, JournalRow, Kind, Limits, Listed, Mode, Row, Rule};
 use ipc_commands::Part;
-use ipc_creds::{Caps, Creds};
 use ipc_jobs::{Counts, Gate, Job, OpenGate, ThreadsEnd, run_threads};
 use ipc_space::Space;
 use std::alloc::{AllocError, Global};
@@ -13,7 +11,10 @@ use std::sync::Wait;
 use std::sync::atomic::{AtomicU64, Ordering};
 use std::test::Fail;
 use std::thread::Threads;
-use thread_tests::wait_for;
+use test_support::calls::{get, receive, semop, send};
+use test_support::clients::users;
+use test_support::journal::{answered, called};
+use test_support::waiting::wait_for;
 
 /// A job of one part.
 fn job_of(alloc: Global, now: u64, part: Part) -> Result<Job, AllocError> {
@@ -28,28 +29,16 @@ pub(crate) fn job(alloc: Global, now: u64, call: Call) -> Result<Job, AllocError
     job_of(alloc, now, Part::Plain(call))
 }
 
-/// So many clients of one user.
-pub(crate) fn creds_of(alloc: Global, count: usize) -> Result<Vec<Creds>, AllocError> {
-    let mut creds = Vec::new(alloc);
-    for _ in 0..count {
-        creds.push(Creds::new(100, 10, Vec::new(alloc), Caps::empty()))?;
-    }
-    Ok(creds)
-}
-
 /// Each list of jobs is done by a client in a thread of its own.
 pub(crate) fn end_of<R: Threads + Sync + Wait + Abort + AllocGlobal, G: Gate + Sync>(
     rt: &R,
     jobs: Vec<Vec<Job>>,
     gate: &G,
 ) -> Result<ThreadsEnd, Fail> {
+    assert!(rt; 1 <= jobs.len() && jobs.len() <= 64);
     let alloc = rt.alloc();
-    let limits = Limits::default();
-    assert!(rt; limits.in_range());
-    let creds = creds_of(alloc, jobs.len())?;
-    assert!(rt; 1 <= creds.len() && creds.len() <= 64);
-    assert!(rt; jobs.len() == creds.len());
-    Ok(run_threads(rt, alloc, limits, creds, jobs, gate)?)
+    let creds = users(alloc, jobs.len())?;
+    Ok(run_threads(rt, alloc, Limits::default(), creds, jobs, gate)?)
 }
 
 /// The client has so many calls in the journal, at the times 1, 2 and so on.
@@ -84,24 +73,10 @@ fn check_counts(rt: &impl Abort, end: &ThreadsEnd, held: u32, wanted: &[Counts])
     }
 }
 
-/// The queue of a key, which is made where there is none.
-fn queue(key: u32) -> Call {
-    let flags = 0o1666;
-    Call::MsgGet { key, flags }
-}
-
 /// The set of key 7 with so many semaphores, the first of the namespace.
 fn set(nsems: u32) -> Call {
     let (key, flags) = (7, 0o1666);
     Call::SemGet { key, nsems, flags }
-}
-
-/// One operation on a semaphore of the first set.
-fn semop(alloc: Global, num: u16, op: i16) -> Result<Call, AllocError> {
-    let mut ops = Vec::new(alloc);
-    ops.push(SemOper { num, op, flags: 0 })?;
-    let ops = Items::new(ops);
-    Ok(Call::SemOp { id: 0, ops })
 }
 
 /// Gets the set, and adds 1 a hundred times.
@@ -109,26 +84,17 @@ fn additions(alloc: Global) -> Result<Vec<Job>, AllocError> {
     let mut jobs = Vec::new(alloc);
     jobs.push(job(alloc, 1, set(1))?)?;
     for now in 2..102 {
-        jobs.push(job(alloc, now, semop(alloc, 0, 1)?)?)?;
+        jobs.push(job(alloc, now, semop(alloc, 0, 1, 0)?)?)?;
     }
     Ok(jobs)
 }
 
 /// How many semops of the client are in the journal.
-fn semops_of(space: &Space, number: u32) -> u64 {
-    let mut count: u64 = 0;
-    for row in space.journal() {
-        if let JournalRow::Called {
-            client,
-            call: Call::SemOp { .. },
-            ..
-        } = row
-            && *client == number
-        {
-            count = count.wrapping_add(1);
-        }
-    }
-    count
+fn semops_of(space: &Space, number: u32) -> usize {
+    let rows = space.journal().iter();
+    rows.filter(
+        |row| matches!(*row, JournalRow::Called { client, call: Call::SemOp { .. }, .. } if *client == number),
+    ).count()
 }
 
 /// The one object is the set, with these values.
@@ -183,7 +149,7 @@ fn gets(alloc: Global, client: u32, count: u64) -> Result<Vec<Job>, AllocError> 
     let mut jobs = Vec::new(alloc);
     for nth in 0..count {
         let now = nth.wrapping_add(1);
-        jobs.push(job(alloc, now, queue(client.wrapping_add(1)))?)?;
+        jobs.push(job(alloc, now, get(client.wrapping_add(1)))?)?;
     }
     Ok(jobs)
 }
@@ -245,17 +211,10 @@ impl Gate for Meeting {
 
 /// The place of the client's call at a time, among the rows of the journal.
 fn place_of(space: &Space, number: u32, time: u64) -> Option<usize> {
-    let mut place: usize = 0;
-    for row in space.journal() {
-        if let JournalRow::Called { client, now, .. } = *row
-            && client == number
-            && now == time
-        {
-            return Some(place);
-        }
-        place = place.wrapping_add(1);
-    }
-    None
+    let mut rows = space.journal().iter();
+    rows.position(
+        |row| matches!(*row, JournalRow::Called { client, now, .. } if client == number && now == time),
+    )
 }
 
 /// Client 1 called first before client 0 called for the second time.
@@ -327,48 +286,25 @@ fn a_client_without_jobs(rt: HostRuntime) -> Result<(), Fail> {
     Ok(())
 }
 
-/// A message of one byte to the first queue.
-fn send(alloc: Global, mtype: i64) -> Result<Call, AllocError> {
-    let mut text = Vec::new(alloc);
-    text.push(b'x')?;
-    let text = Items::new(text);
-    Ok(Call::MsgSnd {
-        id: 0,
-        mtype,
-        text,
-        flags: 0,
-    })
-}
-
-/// The first message of a type in the first queue, for which the call waits.
-fn receive(msgtyp: i64) -> Call {
-    Call::MsgRcv {
-        id: 0,
-        size: 1,
-        msgtyp,
-        flags: 0,
-    }
-}
-
 /// The call of a client at a place in a round, from 0 to 3. Client 0 asks, and waits for the answer; client 1 waits for the
 /// question, and answers it: once by messages of the types 1 and 2, and once by the semaphores 0 and 1.
 fn call_of(alloc: Global, client: u32, nth: u32) -> Result<Call, AllocError> {
     match (client, nth) {
         (0, 0) => send(alloc, 1),
-        (0, 1) => Ok(receive(2)),
-        (0, 2) => semop(alloc, 0, 1),
-        (0, _) => semop(alloc, 1, -1),
-        (_, 0) => Ok(receive(1)),
+        (0, 1) => Ok(receive(0, 2)),
+        (0, 2) => semop(alloc, 0, 1, 0),
+        (0, _) => semop(alloc, 1, -1, 0),
+        (_, 0) => Ok(receive(0, 1)),
         (_, 1) => send(alloc, 2),
-        (_, 2) => semop(alloc, 0, -1),
-        _ => semop(alloc, 1, 1),
+        (_, 2) => semop(alloc, 0, -1, 0),
+        _ => semop(alloc, 1, 1, 0),
     }
 }
 
 /// A queue, a set of two semaphores, and a hundred rounds.
 fn rounds(alloc: Global, client: u32) -> Result<Vec<Job>, AllocError> {
     let mut jobs = Vec::new(alloc);
-    jobs.push(job(alloc, 1, queue(5))?)?;
+    jobs.push(job(alloc, 1, get(5))?)?;
     jobs.push(job(alloc, 2, set(2))?)?;
     for at in 0..400u32 {
         let call = call_of(alloc, client, at % 4)?;
@@ -377,27 +313,18 @@ fn rounds(alloc: Global, client: u32) -> Result<Vec<Job>, AllocError> {
     Ok(jobs)
 }
 
-/// How many answers are in the journal, and how many of them end a call that waited.
-fn answers(space: &Space) -> (u64, u64) {
-    let mut count: u64 = 0;
-    let mut late: u64 = 0;
-    for row in space.journal() {
-        if let JournalRow::Answered { turn, .. } = *row {
-            count = count.wrapping_add(1);
-            if turn > 0 {
-                late = late.wrapping_add(1);
-            }
-        }
-    }
-    (count, late)
+/// How many answers are in the journal, from a turn on: those that end a call that waited have one above 0.
+fn answers(space: &Space, least: u32) -> usize {
+    let rows = space.journal().iter();
+    rows.filter(|row| matches!(*row, JournalRow::Answered { turn, .. } if least <= *turn))
+        .count()
 }
 
 /// Every call has ended, some of them later than they came.
 fn check_rounds(rt: &impl Abort, end: &ThreadsEnd) {
     check_counts(rt, end, 0, &[counted(402, 0), counted(402, 0)]);
-    let (count, late) = answers(&end.space);
-    assert_eq!(rt; count, 804);
-    assert!(rt; late > 0, "no call of four hundred waits");
+    assert_eq!(rt; answers(&end.space, 0), 804);
+    assert!(rt; answers(&end.space, 1) > 0, "no call of four hundred waits");
     assert!(rt; !end.space.is_waiting(0) && !end.space.is_waiting(1));
 }
 
@@ -416,27 +343,10 @@ fn waiting_calls_are_completed_by_others(rt: HostRuntime) -> Result<(), Fail> {
 /// A queue is made and removed by its key, and then one that there isn't.
 fn removals(alloc: Global) -> Result<Vec<Job>, AllocError> {
     let mut jobs = Vec::new(alloc);
-    jobs.push(job(alloc, 1, queue(5))?)?;
+    jobs.push(job(alloc, 1, get(5))?)?;
     jobs.push(job_of(alloc, 2, Part::RemoveByKey(Kind::Queue, 5))?)?;
     jobs.push(job_of(alloc, 3, Part::RemoveByKey(Kind::Queue, 6))?)?;
     Ok(jobs)
-}
-
-fn called(now: u64, call: Call) -> JournalRow {
-    JournalRow::Called {
-        client: 0,
-        now,
-        call,
-    }
-}
-
-fn answered(place: u64, rule: Option<Rule>) -> JournalRow {
-    JournalRow::Answered {
-        client: 0,
-        place,
-        turn: 0,
-        rule,
-    }
 }
 
 /// The row of these removals at a place, from 0 to 7.
@@ -444,14 +354,14 @@ fn row_of_removals(nth: u32) -> JournalRow {
     let (key, flags) = (5, 0);
     let (kind, id) = (Kind::Queue, 0);
     match nth {
-        0 => called(1, queue(5)),
-        1 => answered(1, None),
-        2 => called(2, Call::MsgGet { key, flags }),
-        3 => answered(2, None),
-        4 => called(2, Call::IpcRmid { kind, id }),
-        5 => answered(3, None),
-        6 => called(3, Call::MsgGet { key: 6, flags }),
-        _ => answered(4, Some(Rule::NoKey)),
+        0 => called(0, 1, get(5)),
+        1 => answered(0, 1, 0, None),
+        2 => called(0, 2, Call::MsgGet { key, flags }),
+        3 => answered(0, 2, 0, None),
+        4 => called(0, 2, Call::IpcRmid { kind, id }),
+        5 => answered(0, 3, 0, None),
+        6 => called(0, 3, Call::MsgGet { key: 6, flags }),
+        _ => answered(0, 4, 0, Some(Rule::NoKey)),
     }
 }
 

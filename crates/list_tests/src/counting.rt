@@ -11,10 +11,9 @@ use std::process::Abort;
 use std::test::Fail;
 use std::thread;
 use std::thread::Threads;
+use test_support::waiting::TURNS;
 
 const ROUNDS: usize = 1000;
-
-const TURNS: u64 = 10_000_000;
 
 /// What a client got: its replies, and how many they are.
 #[derive(Drop)]

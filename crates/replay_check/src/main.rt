@@ -2,20 +2,18 @@
 //! journal is changed in turn, in several ways, and the replay tells where the rows first are no journal's.
 #![tactic(auto)]
 
-mod calls;
 mod changes;
-mod numbers;
 mod opening;
 mod parting;
 
-use calls::any_call;
 use changes::{CHANGES, Change, changed};
-use ipc_space::{JournalRow, Space};
-use numbers::Numbers;
+use ipc_space::{Call, JournalRow, Memory, Space};
 use opening::{Ends, failed, opened};
 use parting::{by_calls, by_replay};
 use std::alloc::Global;
 use std::io;
+use test_support::any_calls::{Choice, any_call};
+use test_support::numbers::Numbers;
 
 /// How many calls are made.
 const CALLS: u64 = 10_000;
@@ -35,13 +33,32 @@ fn any_client(numbers: &mut Numbers, space: &Space) -> u32 {
     7
 }
 
+/// A client's next call. The first three may end.
+fn call_of(
+    alloc: Global,
+    numbers: &mut Numbers,
+    space: &Space,
+    client: u32,
+) -> Result<Call, Memory> {
+    if client < 3 && numbers.once_in(1000) {
+        return Ok(Call::Exit);
+    }
+    let choice = if client == 7 {
+        Choice::Control
+    } else {
+        Choice::Any
+    };
+    let objects = space.lines()?;
+    any_call(alloc, numbers, objects.as_slice(), choice)
+}
+
 /// Makes random calls, one a second.
 fn make_calls(alloc: Global, space: &mut Space) -> io::Result<Ends> {
     let mut numbers = Numbers::new(1);
     let mut ends = Ends::default();
     for now in 0..CALLS {
         let client = any_client(&mut numbers, space);
-        let asked = any_call(alloc, &mut numbers, space, client)?;
+        let asked = call_of(alloc, &mut numbers, space, client)?;
         if !ends.call(space, client, now, asked)? {
             return Err(failed());
         }

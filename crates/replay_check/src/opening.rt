@@ -6,6 +6,7 @@ ghost use Rattle.ipc_call.specs.Limits.{are_in_range};
 use ipc_space::{Call, Caps, Creds, Effects, Flags, Limits, Memory, Reply, Space};
 use std::alloc::Global;
 use std::io;
+use test_support::clients::user;
 
 /// Room for few objects, and for few and short messages.
 pub fn limits() -> Limits
@@ -28,11 +29,11 @@ pub fn users(alloc: Global) -> io::Result<Vec<Creds>>
     ensures { IfOk result (λ users. (1 ≤ vec_len users) × (vec_len users ≤ 64)) }
 {
     let mut users = Vec::new(alloc);
-    for user in [0, 100, 200] {
-        users.push(Creds::new(user, 10, Vec::new(alloc), Caps::empty()))?;
+    for uid in [0, 100, 200] {
+        users.push(user(alloc, uid, 10))?;
     }
-    for (user, caps) in [(0, Caps::SETUID), (100, Caps::SETGID), (200, Caps::empty())] {
-        users.push(Creds::new(user, 10, Vec::new(alloc), caps).with_saved(300, 30))?;
+    for (uid, caps) in [(0, Caps::SETUID), (100, Caps::SETGID), (200, Caps::empty())] {
+        users.push(Creds::new(uid, 10, Vec::new(alloc), caps).with_saved(300, 30))?;
     }
     for caps in [Caps::IPC_OWNER, Caps::SYS_ADMIN] {
         users.push(Creds::new(300, 30, Vec::new(alloc), caps))?;

@@ -1,12 +1,13 @@
 // Rows that are replayed: those of a queue for which two clients wait, cut and changed.
 
-use bitflags::Flags;
-use ipc_call::{Call, Items, JournalRow, Kind, Limits, Rule};
-use ipc_creds::{Caps, Creds};
+use ipc_call::{Call, JournalRow, Kind, Limits, Rule};
 use ipc_space::{Replayed, replay};
 use std::alloc::Global;
 use std::process::Abort;
 use std::test::Fail;
+use test_support::calls::{receive, send};
+use test_support::clients::user;
+use test_support::journal::{answered, called};
 
 const ALICE: u32 = 0;
 
@@ -14,56 +15,20 @@ const BOB: u32 = 1;
 
 const CAROL: u32 = 2;
 
-fn called(client: u32, call: Call) -> JournalRow {
-    let now = 0;
-    JournalRow::Called { client, now, call }
-}
-
-fn answered(client: u32, place: u64, turn: u32, rule: Option<Rule>) -> JournalRow {
-    JournalRow::Answered {
-        client,
-        place,
-        turn,
-        rule,
-    }
-}
-
-/// A client asks for a message of any type, of at most ten bytes.
-fn receive(client: u32) -> JournalRow {
-    let receive = Call::MsgRcv {
-        id: 0,
-        size: 10,
-        msgtyp: 0,
-        flags: 0,
-    };
-    called(client, receive)
-}
-
-/// Alice sends a message of two bytes.
-fn send(alloc: Global) -> Result<JournalRow, Fail> {
-    let send = Call::MsgSnd {
-        id: 0,
-        mtype: 1,
-        text: Items::new(Vec::from_slice(alloc, b"hi")?),
-        flags: 0,
-    };
-    Ok(called(ALICE, send))
-}
-
 /// The row of a number, from 0 to 9. Alice makes a queue, bob and carol wait for a message, the message that alice sends
 /// is bob's, and carol's call ends as alice removes the queue.
 fn row(alloc: Global, nth: usize) -> Result<JournalRow, Fail> {
     let (key, flags) = (5, 0o1666);
     let (kind, id) = (Kind::Queue, 0);
     Ok(match nth {
-        0 => called(ALICE, Call::MsgGet { key, flags }),
+        0 => called(ALICE, 0, Call::MsgGet { key, flags }),
         1 => answered(ALICE, 1, 0, None),
-        2 => receive(BOB),
-        3 => receive(CAROL),
-        4 => send(alloc)?,
+        2 => called(BOB, 0, receive(0, 0)),
+        3 => called(CAROL, 0, receive(0, 0)),
+        4 => called(ALICE, 0, send(alloc, 1)?),
         5 => answered(ALICE, 4, 0, None),
         6 => answered(BOB, 4, 1, None),
-        7 => called(ALICE, Call::IpcRmid { kind, id }),
+        7 => called(ALICE, 0, Call::IpcRmid { kind, id }),
         8 => answered(ALICE, 5, 0, None),
         _ => answered(CAROL, 5, 1, Some(Rule::Removed)),
     })
@@ -99,8 +64,8 @@ fn parted(
     assert!(rt; limits.in_range());
     let alloc = rt.alloc();
     let mut clients = Vec::new(alloc);
-    for user in [100, 200, 300] {
-        clients.push(Creds::new(user, 10, Vec::new(alloc), Caps::empty()))?;
+    for uid in [100, 200, 300] {
+        clients.push(user(alloc, uid, 10))?;
     }
     assert_eq!(rt; clients.len(), 3);
     let replayed = replay(limits, clients, rows)?;
@@ -178,7 +143,7 @@ fn a_client_that_waits_or_is_not_there_makes_no_call(rt: HostRuntime) -> Result<
         (3, Some(4)),
     ] {
         let mut rows = rows_to(rt.alloc(), 4)?;
-        rows.push(receive(client))?;
+        rows.push(called(client, 0, receive(0, 0)))?;
         check_parted(&rt, Limits::default(), rows.as_slice(), wanted)?;
     }
     Ok(())

@@ -6,6 +6,7 @@ use ipc_creds::{Caps, Creds};
 use ipc_space::{Effects, Space};
 use std::process::Abort;
 use std::test::Fail;
+use test_support::clients::user;
 
 const ALICE: u32 = 0;
 
@@ -46,7 +47,7 @@ fn users(rt: &(impl Abort + AllocGlobal)) -> Result<Vec<Creds>, Fail> {
     let groups = vec![in alloc; 10]?;
     assert!(rt; groups.len() <= 32);
     let mut clients = Vec::new(alloc);
-    clients.push(Creds::new(100, 10, Vec::new(alloc), Caps::empty()))?;
+    clients.push(user(alloc, 100, 10))?;
     clients.push(Creds::new(300, 30, groups, Caps::empty()))?;
     Ok(clients)
 }

@@ -1,12 +1,13 @@
 // Clients that change their users: the journal is replayed from the credentials at the start.
 
-use bitflags::Flags;
 use ipc_call::{Call, Items, Limits, SHM_RDONLY};
 use ipc_creds::{Caps, Creds, copies};
 use ipc_space::{Replayed, Space, replay};
 use std::alloc::Global;
 use std::process::Abort;
 use std::test::Fail;
+use test_support::calls::text;
+use test_support::clients::user;
 
 const ALICE: u32 = 0;
 
@@ -16,18 +17,13 @@ const BOB: u32 = 2;
 
 const SUE: u32 = 3;
 
-/// Credentials without supplementary groups.
-fn creds(alloc: Global, euid: u32, egid: u32, caps: Caps) -> Creds {
-    Creds::new(euid, egid, Vec::new(alloc), caps)
-}
-
 /// Alice, eve, whose saved user is alice's, bob, and sue, who may become any user.
 fn users(alloc: Global, eve: u32) -> Result<Vec<Creds>, Fail> {
     let mut users = Vec::new(alloc);
-    users.push(creds(alloc, 100, 10, Caps::empty()))?;
-    users.push(creds(alloc, eve, 30, Caps::empty()).with_saved(100, 30))?;
-    users.push(creds(alloc, 200, 20, Caps::empty()))?;
-    users.push(creds(alloc, 400, 40, Caps::SETUID))?;
+    users.push(user(alloc, 100, 10))?;
+    users.push(user(alloc, eve, 30).with_saved(100, 30))?;
+    users.push(user(alloc, 200, 20))?;
+    users.push(Creds::new(400, 40, Vec::new(alloc), Caps::SETUID))?;
     Ok(users)
 }
 
@@ -52,7 +48,7 @@ fn write(alloc: Global) -> Result<(u32, Call), Fail> {
     let call = Call::ShmWrite {
         att: 0,
         offset: 0,
-        bytes: Items::new(Vec::from_slice(alloc, b"hi")?),
+        bytes: text(alloc)?,
     };
     Ok((EVE, call))
 }

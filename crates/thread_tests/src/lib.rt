@@ -1,5 +1,4 @@
-//! The service over the publication list, alone and in threads: tests over the public items of `ipc_combiner`. How a thread
-//! waits for another is for the tests above, too.
+//! The service over the publication list, alone and in threads: tests over the public items of `ipc_combiner`.
 #![tactic(auto)]
 
 #[cfg(test)]
@@ -12,6 +11,3 @@ mod refusals;
 mod services;
 #[cfg(test)]
 mod still;
-mod waiting;
-
-pub use waiting::wait_for;

@@ -3,22 +3,13 @@ ghost use Rattle.std.specs.Prelude.{All, IfOk};
 ghost use Rattle.ipc_combiner.specs.Closing.{IsClientOf};
 ghost use Rattle.ipc_combiner.specs.States.{IsOf};
 
-use crate::services::{ended, get, has_passed};
+use crate::services::{ended, has_passed};
 use ipc_call::{Call, Reply};
 use ipc_combiner::{Client, Idle, InFlight, Service};
 use std::alloc::{AllocError, Global};
 use std::process::Abort;
 use std::test::Fail;
-
-/// A call that receives a message of the first queue, of this type.
-pub(crate) fn receive(msgtyp: i64) -> Call {
-    Call::MsgRcv {
-        id: 0,
-        size: 10,
-        msgtyp,
-        flags: 0,
-    }
-}
+use test_support::calls::get;
 
 /// Each client posts the last of these calls that is left, and where none is, a get of key 5.
 pub(crate) fn all_posted(

@@ -4,15 +4,16 @@ ghost use Rattle.std.specs.Prelude.{◌≡◌, vec_len, All, IfOk};
 ghost use Rattle.ipc_combiner.specs.Closing.{IsClientOf};
 ghost use Rattle.ipc_combiner.specs.States.{IsOf, IsUnjoinedOf};
 
-use crate::passes::{all_posted, pass, put_back, receive};
+use crate::passes::{all_posted, pass, put_back};
 use crate::services::{
-    ended, get, has_passed, joined, one_of, one_unjoined, served, service_for, text, waiting,
+    ended, has_passed, joined, one_of, one_unjoined, served, service_for, waiting,
 };
-use ipc_call::{Call, IPC_CREAT, Items, Kind, Reply, SEM_UNDO, SemOper};
+use ipc_call::{Call, IPC_CREAT, Items, Kind, Reply, SEM_UNDO};
 use ipc_combiner::{Client, Idle, InFlight, Polled, Seen, Service, Unjoined};
 use std::alloc::{AllocError, Global};
 use std::process::Abort;
 use std::test::Fail;
+use test_support::calls::{get, receive, semop, send, text};
 
 fn is_granted(reply: Reply) -> bool {
     matches!(reply, Reply::Entered { outcome: Ok(_), .. })
@@ -49,14 +50,8 @@ fn gets(alloc: Global, count: usize) -> Result<Vec<Call>, AllocError> {
 /// What is done before the pass, the last first: a queue with a message, a set and a segment are made.
 fn made_before(alloc: Global) -> Result<Vec<Call>, AllocError> {
     let (key, flags) = (5, IPC_CREAT | 0o600);
-    let sent = Call::MsgSnd {
-        id: 0,
-        mtype: 1,
-        text: text(alloc)?,
-        flags: 0,
-    };
     let mut calls = gets(alloc, 30)?;
-    calls.push(sent)?;
+    calls.push(send(alloc, 1)?)?;
     calls.push(attach())?;
     calls.push(Call::ShmGet {
         key,
@@ -84,28 +79,11 @@ fn set_owner() -> Call {
     }
 }
 
-/// A semop that lowers the first value by 1.
-fn lower(alloc: Global) -> Result<Call, AllocError> {
-    let down = SemOper {
-        num: 0,
-        op: -1,
-        flags: 0,
-    };
-    let ops = Items::new(vec![in alloc; down]?);
-    Ok(Call::SemOp { id: 0, ops })
-}
-
 /// What a client does that exits in the pass, the last first: it attaches the segment, and raises the second value by 1, which
 /// its exit undoes.
 fn before_exit(alloc: Global) -> Result<Vec<Call>, AllocError> {
-    let up = SemOper {
-        num: 1,
-        op: 1,
-        flags: SEM_UNDO as u16,
-    };
-    let ops = Items::new(vec![in alloc; up]?);
     let mut calls = Vec::new(alloc);
-    calls.push(Call::SemOp { id: 0, ops })?;
+    calls.push(semop(alloc, 1, 1, SEM_UNDO as u16)?)?;
     calls.push(attach())?;
     Ok(calls)
 }
@@ -126,9 +104,9 @@ fn quiet_calls(alloc: Global) -> Result<Vec<Call>, AllocError> {
     calls.push(Call::ShmDt { att: 0 })?;
     calls.push(Call::Exit)?;
     calls.push(Call::Interrupt { pid: 1 })?;
-    calls.push(receive(1))?;
+    calls.push(receive(0, 1))?;
     calls.push(Call::SetAll { id, values })?;
-    calls.push(lower(alloc)?)?;
+    calls.push(semop(alloc, 0, -1, 0)?)?;
     calls.push(Call::SetVal {
         id,
         num: 1,
@@ -185,8 +163,8 @@ fn a_pass_of_calls_that_need_no_memory_takes_none(rt: HostRuntime) -> Result<(),
     let leaver = all_granted(&rt, &service, leaver, before_exit(rt.alloc())?);
     let (_, reply) = served(&rt, &service, gone, Call::Exit);
     assert!(rt; is_granted(reply));
-    let third = waiting(&rt, &service, third, receive(3));
-    let fourth = waiting(&rt, &service, fourth, receive(4));
+    let third = waiting(&rt, &service, third, receive(0, 3));
+    let fourth = waiting(&rt, &service, fourth, receive(0, 4));
     let (other, reply) = served(&rt, &service, other, attach());
     assert!(rt; is_granted(reply));
     put_back(&service, &mut idles, leaver)?;

@@ -4,14 +4,16 @@ ghost use Rattle.std.specs.Prelude.{◌≡◌, All, IfOk, length, vec_len};
 ghost use Rattle.ipc_combiner.specs.Closing.{IsClientOf};
 ghost use Rattle.ipc_combiner.specs.States.{IsOf};
 
-use crate::passes::{Told, all_posted, all_told, handed_in, pass, put_back, receive};
-use crate::services::{ended, get, joined, one_of, parked, replied, service_for, text, waiting};
-use ipc_call::{Answer, Call, IPC_CREAT, JournalRow, Kind, Reply};
+use crate::passes::{Told, all_posted, all_told, handed_in, pass, put_back};
+use crate::services::{ended, joined, one_of, parked, replied, service_for, waiting};
+use ipc_call::{Answer, Call, IPC_CREAT, Kind, Reply};
 use ipc_combiner::{Client, InFlight, Service};
 use ipc_space::Space;
 use std::alloc::{AllocError, Global};
 use std::process::Abort;
 use std::test::Fail;
+use test_support::calls::{get, receive, send};
+use test_support::journal::calls_of;
 
 /// How many clients call in the pass, and how many more wait: client 8 for client 1's message, and 9 for client 2's.
 const CALLERS: usize = 8;
@@ -20,15 +22,6 @@ const CLIENTS: usize = 10;
 
 /// How many calls were made before the pass.
 const BEFORE: u64 = 3;
-
-fn send(alloc: Global, mtype: i64) -> Result<Call, AllocError> {
-    Ok(Call::MsgSnd {
-        id: 0,
-        mtype,
-        text: text(alloc)?,
-        flags: 0,
-    })
-}
 
 /// What the clients call in the pass, the last one's call first: each kind of call that allocates.
 fn calls(alloc: Global) -> Result<Vec<Call>, AllocError> {
@@ -78,17 +71,6 @@ fn received(rt: &impl Abort, service: &Service, flight: InFlight, failed: bool) 
     Client::Idle(idle)
 }
 
-/// How many calls of a client the journal has.
-fn calls_of(space: &Space, number: u32) -> u64 {
-    let mut calls: u64 = 0;
-    for row in space.journal() {
-        if matches!(row, JournalRow::Called { client, .. } if *client == number) {
-            calls = calls.wrapping_add(1);
-        }
-    }
-    calls
-}
-
 /// The journal has each call but those for which an allocation failed.
 fn check_journal(rt: &impl Abort, space: &Space, failed: &[bool]) {
     let mut entered = BEFORE;
@@ -96,7 +78,7 @@ fn check_journal(rt: &impl Abort, space: &Space, failed: &[bool]) {
         let is_failed = failed.get(client).copied().unwrap_or(false);
         let before = u64::from(client == CALLERS - 1);
         let calls = before.wrapping_add(u64::from(!is_failed));
-        assert_eq!(rt; calls_of(space, client as u32), calls);
+        assert_eq!(rt; calls_of(space.journal(), client as u32), calls);
         entered = entered.wrapping_add(u64::from(!is_failed));
     }
     assert_eq!(rt; space.events(), entered);
@@ -155,8 +137,8 @@ fn a_pass_loses_no_call(rt: HostRuntime) -> Result<(), Fail> {
     let maker = one_of(&rt, &service, &mut idles);
     let maker = replied(&rt, &service, maker, get(5), Ok(Answer::Id(0)));
     put_back(&service, &mut idles, maker)?;
-    let third = waiting(&rt, &service, third, receive(3));
-    let fourth = waiting(&rt, &service, fourth, receive(4));
+    let third = waiting(&rt, &service, third, receive(0, 3));
+    let fourth = waiting(&rt, &service, fourth, receive(0, 4));
     let flights = all_posted(rt.alloc(), &service, idles, calls(rt.alloc())?)?;
     pass_of(&rt, service, flights, third, fourth)
 }

@@ -3,13 +3,8 @@ ghost use Rattle.std.specs.Prelude.{◌≡◌, ◌≤◌, ⊤, vec_len, All, IfO
 ghost use Rattle.ipc_combiner.specs.Closing.{IsClientOf};
 ghost use Rattle.ipc_combiner.specs.States.{IsOf, IsUnjoinedOf};
 
-use crate::waiting::wait_for;
-use bitflags::Flags;
-use ipc_call::{
-    Answer, Call, IPC_CREAT, IPC_NOWAIT, Items, JournalRow, Kind, Limits, Outcome, Reply, Rule,
-};
+use ipc_call::{Answer, Call, IPC_NOWAIT, JournalRow, Kind, Limits, Outcome, Reply, Rule};
 use ipc_combiner::{Client, Idle, InFlight, Pass, PassGate, Polled, Seen, Service, Unjoined};
-use ipc_creds::{Caps, Creds};
 use ipc_space::Space;
 use std::alloc::{AllocError, Global};
 use std::process::Abort;
@@ -18,12 +13,15 @@ use std::sync::atomic::{AtomicU64, Ordering};
 use std::test::Fail;
 use std::thread;
 use std::thread::Threads;
+use test_support::calls::{get, receive, send, text};
+use test_support::clients::users;
+use test_support::waiting::wait_for;
 
 const ROUNDS: u64 = 1000;
 
 /// A service for so many clients of one user.
 pub(crate) fn service_for(
-    rt: &(impl Abort + AllocGlobal),
+    rt: &impl AllocGlobal,
     count: u32,
 ) -> Result<(Service, Vec<Unjoined>), Fail>
     requires { (1 ≤ count) × (count ≤ 64) }
@@ -31,14 +29,8 @@ pub(crate) fn service_for(
     ensures count { IfOk result (λ m. (vec_len m.1 ≡ count) × (m.0.list.clients ≡ count)) }
 {
     let alloc = rt.alloc();
-    let limits = Limits::default();
-    assert!(rt; limits.in_range());
-    let mut creds = Vec::new(alloc);
-    for _ in 0..count {
-        creds.push(Creds::new(100, 10, Vec::new(alloc), Caps::empty()))?;
-    }
-    assert_eq!(rt; creds.len(), count as usize);
-    Ok(Service::start(alloc, limits, creds)?)
+    let creds = users(alloc, count as usize)?;
+    Ok(Service::start(alloc, Limits::default(), creds)?)
 }
 
 pub(crate) fn has_passed(pass: Pass) -> bool {
@@ -141,32 +133,13 @@ pub(crate) fn replied(
     idle
 }
 
-pub(crate) fn get(key: u32) -> Call {
-    let flags = IPC_CREAT | 0o600;
-    Call::MsgGet { key, flags }
-}
-
-pub(crate) fn text(alloc: Global) -> Result<Items<u8>, AllocError> {
-    Ok(Items::new(vec![in alloc; b'h', b'i']?))
-}
-
-/// A message to the first queue.
-fn send(alloc: Global) -> Result<Call, AllocError> {
-    Ok(Call::MsgSnd {
-        id: 0,
-        mtype: 3,
-        text: text(alloc)?,
-        flags: 0,
-    })
-}
-
-/// A message of the first queue.
-fn receive(flags: u32) -> Call {
+/// Receives a message of the first queue, where there is one.
+fn receive_now() -> Call {
     Call::MsgRcv {
         id: 0,
         size: 10,
         msgtyp: 0,
-        flags,
+        flags: IPC_NOWAIT,
     }
 }
 
@@ -205,13 +178,13 @@ fn with_memory_no_call_is_refused_for_it(rt: HostRuntime) -> Result<(), Fail> {
     let (service, clients) = service_for(&rt, 1)?;
     let mut idles = joined(&rt, &service, clients)?;
     let text = message(rt.alloc())?;
-    let sent = send(rt.alloc())?;
+    let sent = send(rt.alloc(), 3)?;
     let alice = one_of(&rt, &service, &mut idles);
     let alice = replied(&rt, &service, alice, get(5), Ok(Answer::Id(0)));
     let alice = replied(&rt, &service, alice, sent, Ok(Answer::Done));
-    let alice = replied(&rt, &service, alice, receive(0), text);
+    let alice = replied(&rt, &service, alice, receive(0, 0), text);
     let refused = Err(Rule::NoMessage);
-    drop(replied(&rt, &service, alice, receive(IPC_NOWAIT), refused));
+    drop(replied(&rt, &service, alice, receive_now(), refused));
     Ok(())
 }
 
@@ -238,13 +211,13 @@ fn who_learns_of_a_sender_receives_its_message(rt: HostRuntime) -> Result<(), Fa
     let (service, clients) = service_for(&rt, 2)?;
     let mut idles = joined(&rt, &service, clients)?;
     let text = message(rt.alloc())?;
-    let sent = send(rt.alloc())?;
+    let sent = send(rt.alloc(), 3)?;
     let mut bob = one_of(&rt, &service, &mut idles);
     let alice = one_of(&rt, &service, &mut idles);
     let alice = replied(&rt, &service, alice, get(5), Ok(Answer::Id(0)));
     let mut alice = replied(&rt, &service, alice, sent, Ok(Answer::Done));
     bob.learn(&service, &mut alice);
-    drop(replied(&rt, &service, bob, receive(IPC_NOWAIT), text));
+    drop(replied(&rt, &service, bob, receive_now(), text));
     Ok(())
 }
 
@@ -259,7 +232,7 @@ fn all_waiting(
 {
     let mut flights = Vec::new(rt.alloc());
     for idle in idles {
-        flights.push(waiting(rt, service, idle, receive(0)))?;
+        flights.push(waiting(rt, service, idle, receive(0, 0)))?;
     }
     Ok(flights)
 }
@@ -347,7 +320,7 @@ fn a_service_closes_while_a_call_waits(rt: HostRuntime) -> Result<(), Fail> {
     let bob = one_of(&rt, &service, &mut idles);
     let alice = one_of(&rt, &service, &mut idles);
     let alice = replied(&rt, &service, alice, get(5), Ok(Answer::Id(0)));
-    let bob = waiting(&rt, &service, bob, receive(0));
+    let bob = waiting(&rt, &service, bob, receive(0, 0));
     let clients = one_of_each(rt.alloc(), &service, carol, alice, bob)?;
     let space = service.close(clients);
     check_closed(&rt, &space);

@@ -3,8 +3,7 @@ ghost use Rattle.std.specs.Prelude.{◌≤◌, ⊤, All, IfOk, IfSome};
 ghost use Rattle.ipc_combiner.specs.States.{IsOf};
 
 use crate::passes::all_posted;
-use crate::services::{ended, get, has_passed, is_granted, joined, service_for};
-use crate::waiting::wait_for;
+use crate::services::{ended, has_passed, is_granted, joined, service_for};
 use ipc_combiner::{Idle, InFlight, Pass, PassGate, Polled, Seen, Service};
 use std::alloc::{AllocError, Global};
 use std::process::Abort;
@@ -13,6 +12,8 @@ use std::sync::atomic::{AtomicU64, Ordering};
 use std::test::Fail;
 use std::thread;
 use std::thread::Threads;
+use test_support::calls::get;
+use test_support::waiting::wait_for;
 
 /// A gate at which a combiner stands still after so many records, until it is let through.
 #[derive(Drop)]

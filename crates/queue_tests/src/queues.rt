@@ -1,15 +1,14 @@
 //! Worked queues, whose calls come out as msgget(2) and msgop(2) say.
 
-use bitflags::Flags;
 use ipc_call::{
     Answer, Get, IPC_CREAT, IPC_EXCL, IPC_NOWAIT, Items, Limits, MSG_EXCEPT, MSG_NOERROR, Receive,
     Rule, Sending, Status,
 };
-use ipc_creds::{Caps, Creds};
 use msg_calls::{Queues, status};
 use object_calls::Caller;
 use std::process::Abort;
 use std::test::Fail;
+use test_support::clients::user;
 
 /// The identifier that msgget answers, for which there is memory.
 fn get(queues: &mut Queues, who: &Caller, key: u32, flags: u32) -> Option<Result<u32, Rule>> {
@@ -38,7 +37,13 @@ fn send(
         return Err(Fail::from("no queue"));
     }
     queues.reserve(id)?;
-    match queues.decide_send(&Limits::default(), who, id, sending(mtype, text.len())) {
+    let len = text.len();
+    let sent = Sending {
+        mtype,
+        len,
+        flags: 0,
+    };
+    match queues.decide_send(&Limits::default(), who, id, sent) {
         Some(Ok(())) => queues.send_reserved(who, id, mtype, text),
         Some(Err(_)) => return Err(Fail::from("refused")),
         None => return Err(Fail::from("waits")),
@@ -89,8 +94,8 @@ fn check_gets(
 #[test]
 fn a_key_has_one_queue(rt: HostRuntime) {
     let alloc = rt.alloc();
-    let alice = Creds::new(100, 10, Vec::new(alloc), Caps::empty());
-    let bob = Creds::new(200, 20, Vec::new(alloc), Caps::empty());
+    let alice = user(alloc, 100, 10);
+    let bob = user(alloc, 200, 20);
     let alice = Caller::new(0, &alice, 5);
     let bob = Caller::new(1, &bob, 6);
     let mut queues = Queues::new(alloc, 2, 0);
@@ -159,7 +164,7 @@ fn check_message(
 #[test]
 fn a_message_goes_through_a_queue(rt: HostRuntime) -> Result<(), Fail> {
     let alloc = rt.alloc();
-    let creds = Creds::new(100, 10, Vec::new(alloc), Caps::empty());
+    let creds = user(alloc, 100, 10);
     let who = Caller::new(4, &creds, 7);
     let mut queues = Queues::new(alloc, 1, 0);
     assert_eq!(rt; get(&mut queues, &who, 9, IPC_CREAT | 0o600), Some(Ok(0)));

@@ -1,4 +1,4 @@
-// Numbers in no visible order, the same on every run.
+//! Numbers in no visible order, the same on every run.
 
 ghost use Rattle.std.specs.Prelude.{◌<◌};
 

@@ -4,6 +4,7 @@ use ipc_call::{Call, Items, Kind};
 use ipc_parked::{Parked, waits_on};
 use std::process::Abort;
 use std::test::Fail;
+use test_support::calls::receive;
 
 /// What is done with a list of calls that wait.
 #[derive(Clone, Copy, Debug, Drop)]
@@ -28,16 +29,6 @@ enum Step {
     Due(u64),
 }
 
-/// A call that receives from a queue.
-fn receive(id: u32) -> Call {
-    Call::MsgRcv {
-        id,
-        size: 10,
-        msgtyp: 0,
-        flags: 0,
-    }
-}
-
 fn park(
     parked: &mut Parked,
     client: u32,
@@ -48,7 +39,7 @@ fn park(
     if parked.is_waiting(client) {
         return Err(Fail::from("it waits"));
     }
-    parked.park(client, place, receive(id), deadline)?;
+    parked.park(client, place, receive(id, 0), deadline)?;
     Ok(())
 }
 
@@ -209,5 +200,7 @@ fn a_send_and_a_receive_wait_on_their_queue(rt: HostRuntime) {
     };
     assert!(rt; waits_on(kind, 3, &send) && !waits_on(kind, 4, &send));
     assert!(rt; !waits_on(Kind::Segment, 3, &send));
-    assert!(rt; waits_on(kind, 7, &receive(7)) && !waits_on(kind, 3, &Call::IpcRmid { kind, id }));
+    assert!(rt;
+        waits_on(kind, 7, &receive(7, 0)) && !waits_on(kind, 3, &Call::IpcRmid { kind, id })
+    );
 }

@@ -1,34 +1,41 @@
-// Random calls of every kind.
+//! Random calls of every kind but exit.
 
 use crate::numbers::Numbers;
-use ipc_space::{
+use ipc_call::{
     Call, IPC_CREAT, IPC_NOWAIT, Items, Kind, MSG_EXCEPT, MSG_NOERROR, Memory, Row, SEM_UNDO,
-    SHM_RDONLY, SemOper, Space,
+    SHM_RDONLY, SemOper,
 };
 use std::alloc::Global;
 
-/// A client's next call. Of these clients the last makes none that waits, so that one can always go on; and the
-/// first three may end.
+/// Which calls a client makes at random.
+#[derive(Clone, Copy, Debug, PartialEq, Eq)]
+pub enum Choice {
+    /// Those of every kind.
+    Any,
+    /// Those of every kind, none of which waits.
+    AtOnce,
+    /// Those on an object of whatever kind, interrupts and setcreds: none waits.
+    Control,
+}
+
+/// A client's next call, mostly on one of the objects that there are.
 pub fn any_call(
     alloc: Global,
     numbers: &mut Numbers,
-    space: &Space,
-    client: u32,
+    objects: &[(Row, Vec<u16>)],
+    choice: Choice,
 ) -> Result<Call, Memory> {
-    if client < 3 && numbers.once_in(1000) {
-        return Ok(Call::Exit);
-    }
     if numbers.once_in(30) {
         return credentials(alloc, numbers);
     }
     let kind = any_kind(numbers);
-    let id = any_id(numbers, space, kind)?;
-    if client == 7 || numbers.once_in(10) {
+    let id = any_id(numbers, objects, kind);
+    if choice == Choice::Control || numbers.once_in(10) {
         return Ok(control(numbers, kind, id));
     }
     match kind {
-        Kind::Queue => queue_call(alloc, numbers, id),
-        Kind::Sems => set_call(alloc, numbers, id),
+        Kind::Queue => queue_call(alloc, numbers, id, choice),
+        Kind::Sems => set_call(alloc, numbers, id, choice),
         Kind::Segment => segment_call(alloc, numbers, id),
     }
 }
@@ -41,18 +48,12 @@ fn any_kind(numbers: &mut Numbers) -> Kind {
     }
 }
 
-/// The identifier of an object of the kind, mostly.
-fn any_id(numbers: &mut Numbers, space: &Space, kind: Kind) -> Result<u32, Memory> {
-    let lines = space.lines()?;
-    Ok(id_in(numbers, lines.as_slice(), kind))
-}
-
 /// The identifier of an object of the kind among these, where a few tries find one.
-fn id_in(numbers: &mut Numbers, lines: &[(Row, Vec<u16>)], kind: Kind) -> u32 {
-    let count = u32::try_from(lines.len()).unwrap_or(u32::MAX);
+fn any_id(numbers: &mut Numbers, objects: &[(Row, Vec<u16>)], kind: Kind) -> u32 {
+    let count = u32::try_from(objects.len()).unwrap_or(u32::MAX);
     for _ in 0..8 {
         let at = numbers.below(count) as usize;
-        if let Some(id) = lines.get(at).and_then(|line| id_of(&line.0, kind)) {
+        if let Some(id) = objects.get(at).and_then(|object| id_of(&object.0, kind)) {
             return id;
         }
     }
@@ -84,6 +85,14 @@ fn once_in(cases: u32, numbers: &mut Numbers, flag: u32) -> u32 {
     if numbers.once_in(cases) { flag } else { 0 }
 }
 
+/// IPC_NOWAIT in one of eight cases, and in each where no call waits.
+fn no_wait(numbers: &mut Numbers, choice: Choice) -> u32 {
+    match choice {
+        Choice::Any => once_in(8, numbers, IPC_NOWAIT),
+        Choice::AtOnce | Choice::Control => IPC_NOWAIT,
+    }
+}
+
 /// Up to four bytes.
 fn any_bytes(alloc: Global, numbers: &mut Numbers) -> Result<Items<u8>, Memory> {
     let mut bytes = Vec::new(alloc);
@@ -93,7 +102,12 @@ fn any_bytes(alloc: Global, numbers: &mut Numbers) -> Result<Items<u8>, Memory> 
     Ok(Items::new(bytes))
 }
 
-fn queue_call(alloc: Global, numbers: &mut Numbers, id: u32) -> Result<Call, Memory> {
+fn queue_call(
+    alloc: Global,
+    numbers: &mut Numbers,
+    id: u32,
+    choice: Choice,
+) -> Result<Call, Memory> {
     Ok(match numbers.below(10) {
         0 => Call::MsgGet {
             key: numbers.below(4),
@@ -103,42 +117,50 @@ fn queue_call(alloc: Global, numbers: &mut Numbers, id: u32) -> Result<Call, Mem
             id,
             mtype: i64::from(numbers.below(4)),
             text: any_bytes(alloc, numbers)?,
-            flags: once_in(8, numbers, IPC_NOWAIT),
+            flags: no_wait(numbers, choice),
         },
         _ => Call::MsgRcv {
             id,
             size: u64::from(numbers.below(5)),
             msgtyp: i64::from(numbers.below(7)) - 3,
-            flags: once_in(8, numbers, IPC_NOWAIT)
+            flags: no_wait(numbers, choice)
                 | once_in(2, numbers, MSG_NOERROR)
                 | once_in(2, numbers, MSG_EXCEPT),
         },
     })
 }
 
-/// The flags of an operation, mostly none.
-fn operation_flags(numbers: &mut Numbers) -> u16 {
-    match numbers.below(8) {
+/// The flags of an operation, mostly none where it may wait.
+fn operation_flags(numbers: &mut Numbers, choice: Choice) -> u16 {
+    let flag = match numbers.below(8) {
         0 => IPC_NOWAIT as u16,
         1..4 => SEM_UNDO as u16,
         _ => 0,
+    };
+    match choice {
+        Choice::Any => flag,
+        Choice::AtOnce | Choice::Control => flag | IPC_NOWAIT as u16,
     }
 }
 
 /// One operation or two, seldom none.
-fn any_operations(alloc: Global, numbers: &mut Numbers) -> Result<Items<SemOper>, Memory> {
+fn any_operations(
+    alloc: Global,
+    numbers: &mut Numbers,
+    choice: Choice,
+) -> Result<Items<SemOper>, Memory> {
     let mut ops = Vec::new(alloc);
     for _ in 0..numbers.below(9).min(2) {
         ops.push(SemOper {
             num: numbers.below(2) as u16,
             op: numbers.below(6) as i16 - 3,
-            flags: operation_flags(numbers),
+            flags: operation_flags(numbers, choice),
         })?;
     }
     Ok(Items::new(ops))
 }
 
-fn set_call(alloc: Global, numbers: &mut Numbers, id: u32) -> Result<Call, Memory> {
+fn set_call(alloc: Global, numbers: &mut Numbers, id: u32, choice: Choice) -> Result<Call, Memory> {
     let num = numbers.below(3);
     Ok(match numbers.below(16) {
         0 => Call::SemGet {
@@ -162,12 +184,12 @@ fn set_call(alloc: Global, numbers: &mut Numbers, id: u32) -> Result<Call, Memor
         },
         8..11 => Call::SemTimedOp {
             id,
-            ops: any_operations(alloc, numbers)?,
+            ops: any_operations(alloc, numbers, choice)?,
             timeout: u64::from(numbers.below(40)),
         },
         _ => Call::SemOp {
             id,
-            ops: any_operations(alloc, numbers)?,
+            ops: any_operations(alloc, numbers, choice)?,
         },
     })
 }

@@ -2,8 +2,8 @@
 
 use bitflags::Flags;
 use ipc_creds::{Caps, Creds};
-use std::alloc::Global;
 use std::test::Fail;
+use test_support::clients::user;
 
 fn caps() -> Caps {
     Caps::SYS_ADMIN.union(Caps::IPC_OWNER)
@@ -26,11 +26,6 @@ fn a_copy_equals_its_source(rt: HostRuntime) -> Result<(), Fail> {
     Ok(())
 }
 
-/// User 100 of group 10, with the saved user 7 and the saved group 8.
-fn daemon(alloc: Global) -> Creds {
-    Creds::new(100, 10, Vec::new(alloc), Caps::empty()).with_saved(7, 8)
-}
-
 /// The user and the group are each one that the client may become.
 fn are_own(creds: &Creds, uid: u32, gid: u32) -> bool {
     creds.is_own_user(uid) && creds.is_own_group(gid)
@@ -38,7 +33,7 @@ fn are_own(creds: &Creds, uid: u32, gid: u32) -> bool {
 
 #[test]
 fn a_client_takes_on_its_saved_user_and_back(rt: HostRuntime) -> Result<(), Fail> {
-    let mut creds = daemon(rt.alloc());
+    let mut creds = user(rt.alloc(), 100, 10).with_saved(7, 8);
     creds.take_on(7, 8, None);
     assert!(rt; creds.euid() == 7 && creds.egid() == 8);
     assert!(rt; are_own(&creds, 100, 10) && are_own(&creds, 7, 8) && !creds.is_own_user(8));

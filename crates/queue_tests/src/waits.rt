@@ -7,6 +7,8 @@ use ipc_parked::{Arrival, Parked, waits_on};
 use std::alloc::{AllocError, Global};
 use std::process::Abort;
 use std::test::Fail;
+use test_support::calls::receive;
+use test_support::numbers::Numbers;
 
 /// The clients of a random list are below this number.
 const CLIENTS: u32 = 8;
@@ -69,79 +71,56 @@ impl Listed {
     }
 }
 
-/// The random numbers of a seed, by a linear congruence.
-#[derive(Drop)]
-struct Random {
-    state: u64,
+fn any_kind(numbers: &mut Numbers) -> Kind {
+    match numbers.below(7) {
+        0 => Kind::Segment,
+        number if number < 4 => Kind::Sems,
+        _ => Kind::Queue,
+    }
 }
 
-impl Random {
-    /// A number below a bound, 0 where that is 0.
-    fn below(&mut self, bound: u32) -> u32 {
-        self.state = self
-            .state
-            .wrapping_mul(6_364_136_223_846_793_005)
-            .wrapping_add(1_442_695_040_888_963_407);
-        let number = u32::try_from(self.state >> 33).unwrap_or(0);
-        number.checked_rem(bound).unwrap_or(0)
+/// The lowest, the highest and other identifiers.
+fn any_id(numbers: &mut Numbers) -> u32 {
+    match numbers.below(4) {
+        0 => 0,
+        1 => 7,
+        2 => u32::MAX - 1,
+        _ => u32::MAX,
     }
+}
 
-    fn kind(&mut self) -> Kind {
-        match self.below(7) {
-            0 => Kind::Segment,
-            number if number < 4 => Kind::Sems,
-            _ => Kind::Queue,
-        }
+/// A call that waits on a queue, on a set, or on no object.
+fn any_call(alloc: Global, numbers: &mut Numbers) -> Call {
+    let id = any_id(numbers);
+    match numbers.below(5) {
+        0 => Call::MsgSnd {
+            id,
+            mtype: 1,
+            text: Items::new(Vec::new(alloc)),
+            flags: 0,
+        },
+        1 => receive(id, 0),
+        2 => Call::SemOp {
+            id,
+            ops: Items::new(Vec::new(alloc)),
+        },
+        3 => Call::SemTimedOp {
+            id,
+            ops: Items::new(Vec::new(alloc)),
+            timeout: 5,
+        },
+        _ => Call::IpcRmid {
+            kind: Kind::Queue,
+            id,
+        },
     }
+}
 
-    /// The lowest, the highest and other identifiers.
-    fn id(&mut self) -> u32 {
-        match self.below(4) {
-            0 => 0,
-            1 => 7,
-            2 => u32::MAX - 1,
-            _ => u32::MAX,
-        }
-    }
-
-    /// A call that waits on a queue, on a set, or on no object.
-    fn call(&mut self, alloc: Global) -> Call {
-        let id = self.id();
-        match self.below(5) {
-            0 => Call::MsgSnd {
-                id,
-                mtype: 1,
-                text: Items::new(Vec::new(alloc)),
-                flags: 0,
-            },
-            1 => Call::MsgRcv {
-                id,
-                size: 10,
-                msgtyp: 0,
-                flags: 0,
-            },
-            2 => Call::SemOp {
-                id,
-                ops: Items::new(Vec::new(alloc)),
-            },
-            3 => Call::SemTimedOp {
-                id,
-                ops: Items::new(Vec::new(alloc)),
-                timeout: 5,
-            },
-            _ => Call::IpcRmid {
-                kind: Kind::Queue,
-                id,
-            },
-        }
-    }
-
-    fn deadline(&mut self) -> Option<u64> {
-        match self.below(12) {
-            0 => Some(u64::MAX),
-            second if second < 6 => Some(u64::from(second)),
-            _ => None,
-        }
+fn any_deadline(numbers: &mut Numbers) -> Option<u64> {
+    match numbers.below(12) {
+        0 => Some(u64::MAX),
+        second if second < 6 => Some(u64::from(second)),
+        _ => None,
     }
 }
 
@@ -150,7 +129,7 @@ impl Random {
 struct Both {
     parked: Parked,
     listed: Listed,
-    random: Random,
+    numbers: Numbers,
 }
 
 fn is_same(found: Option<(u32, &Arrival)>, wanted: Option<(u32, &Arrival)>) -> bool {
@@ -173,7 +152,7 @@ impl Both {
             listed: Listed {
                 arrivals: IndexMap::new(alloc),
             },
-            random: Random { state: seed },
+            numbers: Numbers::new(seed),
         }
     }
 
@@ -195,8 +174,8 @@ impl Both {
 
     /// A random call of a client comes to both lists, or to neither where the first has no memory.
     fn park(&mut self, alloc: Global, client: u32, place: u64) -> Result<(), AllocError> {
-        let call = self.random.call(alloc);
-        let deadline = self.random.deadline();
+        let call = any_call(alloc, &mut self.numbers);
+        let deadline = any_deadline(&mut self.numbers);
         let arrival = Arrival {
             place,
             call: call.copy()?,
@@ -212,7 +191,7 @@ impl Both {
 
     /// The call of a random client leaves the lists, or one comes where it has none. Tells whether what left is the same.
     fn change(&mut self, alloc: Global, place: u64) -> Result<bool, AllocError> {
-        let client = self.random.below(CLIENTS);
+        let client = self.numbers.below(CLIENTS);
         if self.parked.is_waiting(client) {
             return Ok(self.finish(client));
         }
@@ -266,8 +245,8 @@ impl Both {
 
     /// What is told of a random object and of all calls.
     fn agree(&mut self) -> bool {
-        let kind = self.random.kind();
-        let id = self.random.id();
+        let kind = any_kind(&mut self.numbers);
+        let id = any_id(&mut self.numbers);
         self.agree_on(kind, id) && self.agree_on_all() && self.agree_on_deadlines()
     }
 }

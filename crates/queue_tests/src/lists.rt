@@ -1,14 +1,13 @@
 //! A queue as a plain list that is walked, and random lists of calls that `Queue` answers as it does.
 
-ghost use Rattle.std.specs.Prelude.{◌≡◌, ◌+◌, ◌<◌, IfOk, OnOk, OnErr, length};
+ghost use Rattle.std.specs.Prelude.{◌≡◌, ◌+◌, IfOk, OnOk, OnErr, length};
 
 use ipc_call::{Items, Memory};
 use msg_queue::Queue;
-use rand_core::utils::NextWord;
-use rand_pcg::Pcg32;
 use std::alloc::Global;
 use std::process::Abort;
 use std::test::Fail;
+use test_support::numbers::Numbers;
 
 /// The types and texts of messages, in order of arrival.
 #[derive(Drop)]
@@ -136,39 +135,24 @@ impl Pair {
     }
 }
 
-/// Numbers in no visible order, the same on every run.
-#[derive(Drop)]
-struct Numbers {
-    generator: Pcg32,
+/// A type, mostly one of few.
+fn any_type(numbers: &mut Numbers) -> i64 {
+    match numbers.below(16) {
+        0 => i64::MAX,
+        1 => i64::from(numbers.below(1000)) + 1,
+        _ => i64::from(numbers.below(5)) + 1,
+    }
 }
 
-impl Numbers {
-    /// The next number below a limit, 0 below none.
-    fn below(&mut self, limit: u32) -> u32
-        ensures { 0 < limit → result < limit }
-    {
-        self.generator.next_word() % limit.max(1)
-    }
-
-    /// A type, mostly one of few.
-    fn mtype(&mut self) -> i64 {
-        match self.below(16) {
-            0 => i64::MAX,
-            1 => i64::from(self.below(1000)) + 1,
-            _ => i64::from(self.below(5)) + 1,
-        }
-    }
-
-    /// What a receiver asks for: 0, a type, a negative bound, or MSG_EXCEPT.
-    fn msgtyp(&mut self) -> (i64, bool) {
-        let mtype = self.mtype();
-        match self.below(8) {
-            0 => (0, false),
-            1 => (i64::MIN, false),
-            2 | 3 => (mtype.saturating_neg(), false),
-            4 | 5 => (mtype, true),
-            _ => (mtype, false),
-        }
+/// What a receiver asks for: 0, a type, a negative bound, or MSG_EXCEPT.
+fn any_msgtyp(numbers: &mut Numbers) -> (i64, bool) {
+    let mtype = any_type(numbers);
+    match numbers.below(8) {
+        0 => (0, false),
+        1 => (i64::MIN, false),
+        2 | 3 => (mtype.saturating_neg(), false),
+        4 | 5 => (mtype, true),
+        _ => (mtype, false),
     }
 }
 
@@ -182,21 +166,19 @@ fn call(pair: &mut Pair, alloc: Global, numbers: &mut Numbers) -> bool {
         return true;
     }
     if kind < 9 {
-        let mtype = numbers.mtype();
+        let mtype = any_type(numbers);
         let byte = numbers.below(256) as u8;
         let len = numbers.below(4) as usize;
         return pair.send(alloc, mtype, byte, len);
     }
-    let (msgtyp, except) = numbers.msgtyp();
+    let (msgtyp, except) = any_msgtyp(numbers);
     pair.receive(msgtyp, except)
 }
 
 #[test]
 fn a_queue_answers_as_a_list(rt: HostRuntime) -> Result<(), Fail> {
     let alloc = rt.alloc();
-    let mut numbers = Numbers {
-        generator: Pcg32::new(38, 1),
-    };
+    let mut numbers = Numbers::new(38);
     for list in 0..1000 {
         let mut pair = Pair {
             queue: Queue::new(alloc, 30),
