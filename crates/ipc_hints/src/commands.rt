@@ -142,7 +142,7 @@ fn explain_fault(out: &mut String, fault: Option<Fault<'_>>) -> Told {
 fn fault_of<'a>(tool: Tool, words: &[&'a [u8]]) -> Option<Fault<'a>> {
     let mut wanting = None;
     let mut seen = 0;
-    let mut has_exited = false;
+    let mut has_ended = false;
     for word in words {
         if let Some((letter, value)) = wanting {
             if let Some(fault) = value_fault(letter, value, *word) {
@@ -152,8 +152,8 @@ fn fault_of<'a>(tool: Tool, words: &[&'a [u8]]) -> Option<Fault<'a>> {
             continue;
         }
         match *word {
-            _ if has_exited => return Some(Fault::Stray(*word)),
-            b"--" => has_exited = true,
+            _ if has_ended => return Some(Fault::Stray(*word)),
+            b"--" => has_ended = true,
             [b'-', b'-', ..] => return Some(Fault::NoOption(*word)),
             [b'-', _, ..] => match read_letters(tool, *word, &mut seen) {
                 Ok(next) => wanting = next,

@@ -398,9 +398,7 @@ impl Namespace {
         reserve_row(&mut self.sets, client, &arrival.call)?;
         let queue = sent_to(&arrival.call);
         reserve_in(&mut self.queues, queue)?;
-        let parked = self
-            .parked
-            .park(client, arrival.place, arrival.call, arrival.deadline);
+        let parked = self.parked.park(client, arrival);
         if parked.is_err() {
             release_in(&mut self.queues, queue);
         }

@@ -86,27 +86,15 @@ impl Parked {
 
     /// The call of a client waits from now on, after those that are there, none of which is the client's. The
     /// error comes only where an allocation fails.
-    pub fn park(
-        &mut self,
-        client: u32,
-        place: u64,
-        call: Call,
-        deadline: Option<u64>,
-    ) -> Result<(), Memory>
+    pub fn park(&mut self, client: u32, arrival: Arrival) -> Result<(), Memory>
         requires free { is_there client self.old ≡ false }
-        ensures ok { OnOk result (self.new ≡ self.old ++ (client, record { place = place; call = call; deadline = deadline }) ∷ []) }
+        ensures ok { OnOk result (self.new ≡ self.old ++ (client, arrival) ∷ []) }
         ensures err { OnErr result (self.new ≡ self.old) }
     {
-        let at = waits_at(&call);
+        let at = waits_at(&arrival.call);
+        let deadline = arrival.deadline;
         reserve_row(&mut self.queues, &mut self.sets)?;
-        self.arrivals.insert(
-            client,
-            Arrival {
-                place,
-                call,
-                deadline,
-            },
-        )?;
+        self.arrivals.insert(client, arrival)?;
         add_row(&mut self.queues, &mut self.sets, at, client);
         self.marks.set(client, true);
         self.soonest = sooner(self.soonest, deadline);

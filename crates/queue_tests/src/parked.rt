@@ -1,7 +1,7 @@
 // Worked lists of calls that wait.
 
 use ipc_call::{Call, Items, Kind};
-use ipc_parked::{Parked, waits_on};
+use ipc_parked::{Arrival, Parked, waits_on};
 use std::process::Abort;
 use std::test::Fail;
 use test_support::calls::receive;
@@ -39,7 +39,12 @@ fn park(
     if parked.is_waiting(client) {
         return Err(Fail::from("it waits"));
     }
-    parked.park(client, place, receive(id, 0), deadline)?;
+    let arrival = Arrival {
+        place,
+        call: receive(id, 0),
+        deadline,
+    };
+    parked.park(client, arrival)?;
     Ok(())
 }
 

@@ -176,15 +176,18 @@ impl Both {
     fn park(&mut self, alloc: Global, client: u32, place: u64) -> Result<(), AllocError> {
         let call = any_call(alloc, &mut self.numbers);
         let deadline = any_deadline(&mut self.numbers);
-        let arrival = Arrival {
+        let listed = Arrival {
             place,
             call: call.copy()?,
             deadline,
         };
-        if !self.parked.is_waiting(client)
-            && self.parked.park(client, place, call, deadline).is_ok()
-        {
-            self.listed.arrivals.insert(client, arrival)?;
+        let arrival = Arrival {
+            place,
+            call,
+            deadline,
+        };
+        if !self.parked.is_waiting(client) && self.parked.park(client, arrival).is_ok() {
+            self.listed.arrivals.insert(client, listed)?;
         }
         Ok(())
     }

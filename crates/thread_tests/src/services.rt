@@ -110,7 +110,7 @@ pub(crate) fn waiting(rt: &impl Abort, service: &Service, idle: Idle, call: Call
 }
 
 /// The call was entered, and ended so.
-fn has_exited(reply: Reply, wanted: Outcome) -> bool {
+fn has_ended(reply: Reply, wanted: Outcome) -> bool {
     match reply {
         Reply::Entered { outcome, .. } => outcome == wanted,
         Reply::Memory => false,
@@ -129,7 +129,7 @@ pub(crate) fn replied(
     ensures { IsOf service.now.list result.joined }
 {
     let (idle, reply) = served(rt, service, idle, call);
-    assert!(rt; has_exited(reply, wanted));
+    assert!(rt; has_ended(reply, wanted));
     idle
 }
 
@@ -244,7 +244,7 @@ fn count_removed(rt: &impl Abort, service: &Service, flights: Vec<InFlight>) -> 
     let mut count: usize = 0;
     for flight in flights {
         let (_, reply) = ended(rt, service, flight);
-        assert!(rt; has_exited(reply, Err(Rule::Removed)));
+        assert!(rt; has_ended(reply, Err(Rule::Removed)));
         count = count.wrapping_add(1);
     }
     count
@@ -551,7 +551,7 @@ fn who_stands_still_in_a_pass_leaves_the_others_busy(rt: HostRuntime) -> Result<
     assert_eq!(rt; alice.busy, None);
     assert_eq!(rt; bob.busy, Some(2));
     let (_, got) = ended(&rt, &service, carol);
-    assert!(rt; has_exited(got, Ok(Answer::Id(0))));
+    assert!(rt; has_ended(got, Ok(Answer::Id(0))));
     Ok(())
 }
 

@@ -40,7 +40,7 @@ invariant_of-self-else-is_err c =
     let known : c.args.client < length n.clients.items = subst (λ (s : State). c.args.client < length s.clients) (sym c.self.view_is) c.requires.known in
     let free : list_any (λ v. v.client == c.args.client) (waiting n.parked) ≡ false = ap (λ (s : State). list_any (λ v. v.client == c.args.client) s.parked) c.self.view_is ∙ c.requires.free in
     let pushed = went_well c.park-parked.result _ (sym c.is_err.ensures.value ∙ c.if-is_err.false) c.park-parked.ensures.ok in
-    let longer : waiting c.park-parked.new.self ≡ waiting n.parked ++ w ∷ [] = ap waiting pushed ∙ waiting-push n.parked (c.args.client, record { place = c.args.arrival.place; call = c.args.arrival.call; deadline = c.args.arrival.deadline }) in (
+    let longer : waiting c.park-parked.new.self ≡ waiting n.parked ++ w ∷ [] = ap waiting pushed ∙ waiting-push n.parked (c.args.client, c.args.arrival) in (
       c.self.invariant.0,
       subst (λ ws. AreParked (length n.clients.items) ws) (sym longer) (AreParked-push (length n.clients.items) (waiting n.parked) w c.self.invariant.1 known may free),
       λ id. c.in_ok-reserve_in.ensures.room id ∙ ap (λ q. room n.queues id + one_if (is_at id q)) c.sent_to-queue.ensures ∙ ap (λ k. k + one_if (is_send_to id c.args.arrival.call)) (c.self.invariant.2 id)

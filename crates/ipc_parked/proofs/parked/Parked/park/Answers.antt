@@ -11,7 +11,7 @@ use Rattle.ipc_parked.proofs.parked.Parked.park.Goals as goal
 use Rattle.ipc_parked.proofs.parked.Parked.park.Goals.{After-add_row}
 
 -- what the map holds after the call came
-entries : (c : After-add_row) → c.insert.new.self.entries ≡ c.self.inside.arrivals.entries ++ (c.args.client, record { place = c.args.place; call = c.args.call; deadline = c.args.deadline }) ∷ []
+entries : (c : After-add_row) → c.insert.new.self.entries ≡ c.self.inside.arrivals.entries ++ (c.args.client, c.args.arrival) ∷ []
 entries c =
     c.in_ok-insert.ensures.entries
     ∙ insert_entry-new eqb c.self.inside.arrivals c.args.client _
@@ -21,7 +21,7 @@ pub invariant_of-self-2 : goal.invariant_of-self-2
 invariant_of-self-2 c =
     let b = (goal.at.invariant_of-self-2 c).After-add_row in
     let before = c.self.inside.arrivals.entries in
-    let came : ℕ × Arrival = (c.args.client, record { place = c.args.place; call = c.args.call; deadline = c.args.deadline }) in
+    let came : ℕ × Arrival = (c.args.client, c.args.arrival) in
     let soonest = c.sooner-self-inside.result in
     let free = ap (λ (es : List (ℕ × Arrival)). is_there c.args.client es) c.self.view_is ∙ c.requires.free in
     let all = none-before-push soonest before came (none-before c.self.inside.soonest soonest before c.sooner-self-inside.ensures.first c.self.invariant.1) c.sooner-self-inside.ensures.second in (
@@ -36,4 +36,4 @@ invariant_of-self-2 c =
     )
 
 pub returns-clause-ok : goal.returns-clause-ok
-returns-clause-ok c = entries (goal.at.returns-clause-ok c).After-add_row ∙ ap (λ (es : List (ℕ × Arrival)). es ++ (c.args.client, record { place = c.args.place; call = c.args.call; deadline = c.args.deadline }) ∷ []) c.self.view_is
+returns-clause-ok c = entries (goal.at.returns-clause-ok c).After-add_row ∙ ap (λ (es : List (ℕ × Arrival)). es ++ (c.args.client, c.args.arrival) ∷ []) c.self.view_is
