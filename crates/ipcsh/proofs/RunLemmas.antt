@@ -11,7 +11,7 @@ use Rattle.ipcsh.specs.declared.runs.Fault.TheVariants as faults
 use Rattle.ipcsh.specs.Inputs.{HasRead, Takes}
 use Rattle.ipc_words.specs.Lines.{complete_lines, lines_of}
 use Rattle.ipcsh.specs.Output.{Printed}
-use Rattle.ipcsh.specs.Runs.{LeadTo, Transfer, WritesWhole, WritesFront, StopsBy, summary_of, transfer}
+use Rattle.ipcsh.specs.Runs.{EndsBy, LeadTo, Transfer, WritesWhole, WritesFront, StopsBy, summary_of, transfer}
 use Rattle.ipcsh.specs.Session.{fresh_session}
 use Rattle.ipcsh.proofs.InputLemmas.{LeadTo-more}
 
@@ -146,5 +146,8 @@ at_end_write_error r0 r1 r2 w0 w1 w2 text written done rest i new h none lines r
 )
 
 -- a result that is this fault says what the fault says
+pub ends_at : (t : Transfer) (result : Result Summary Fault) (fault : Fault) → result ≡ Err fault → StopsBy t fault → EndsBy t result
+ends_at t result fault e h = subst (λ (r : Result Summary Fault). EndsBy t r) (sym e) (tt, h)
+
 pub stops_at : (t : Transfer) (result : Result Summary Fault) (fault : Fault) → result ≡ Err fault → StopsBy t fault → IfErr result (StopsBy t)
 stops_at t result fault e h = subst (λ (r : Result Summary Fault). IfErr r (StopsBy t)) (sym e) h

@@ -1,6 +1,6 @@
 -- What a run reads and writes, by how it ends. Known bytes of a reader and a writer are those of std's words; where
 -- they aren't known, what is said holds of the bytes that the calls handed over.
-use Rattle.std.specs.Prelude.{◌≡◌, ℕ, ◌+◌, ◌≤◌, List, ◌++◌, length, take, Option}
+use Rattle.std.specs.Prelude.{◌≡◌, ℕ, ◌+◌, ◌≤◌, List, ◌++◌, length, take, Option, Result, IfErr, IfOk}
 use Rattle.std.specs.Io.KnownBytes.{Appends, Consumes, IsAtEnd}
 use Rattle.ipcsh.specs.declared.runs.Summary.{Summary}
 use Rattle.ipcsh.specs.declared.runs.Fault.{Fault}
@@ -75,3 +75,7 @@ StopsBy t faults.TooMuch =
     × IsComplete t text (take longest_input text) printed
 StopsBy t faults.Write = WritesFront t
 StopsBy t faults.Memory = WritesFront t
+
+-- how a run ends
+abbrev pub EndsBy : Transfer → Result Summary Fault → Type 0
+EndsBy t result = IfOk result (WritesWhole t) × IfErr result (StopsBy t)

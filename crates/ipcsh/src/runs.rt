@@ -1,7 +1,7 @@
 // A run of a script from its first byte to its end or a fault.
 
 ghost use Rattle.std.specs.Prelude.{◌≡◌, [], IfOk, IfErr, length, string_bytes};
-ghost use Rattle.ipcsh.specs.Runs.{WritesWhole, StopsBy, transfer};
+ghost use Rattle.ipcsh.specs.Runs.{EndsBy, StopsBy, WritesWhole, transfer};
 ghost use Rattle.ipcsh.specs.Session.{fresh_session};
 ghost use Rattle.ipcsh.specs.declared.runs.Fault.TheVariants.{Memory as out_of_memory};
 
@@ -58,12 +58,9 @@ pub fn run<R: Read, W: Write>(
     reader: &mut R,
     writer: &mut W,
 ) -> Result<Summary, Fault>
-    ensures ok { IfOk result (WritesWhole (transfer
+    ensures { EndsBy (transfer
         (R.remaining reader.old) (R.remaining reader.new)
-        (W.contents writer.old) (W.contents writer.new))) }
-    ensures fault { IfErr result (StopsBy (transfer
-        (R.remaining reader.old) (R.remaining reader.new)
-        (W.contents writer.old) (W.contents writer.new))) }
+        (W.contents writer.old) (W.contents writer.new)) result }
 {
     run_with(alloc, reader, writer, &mut ())
 }
@@ -75,12 +72,9 @@ pub fn run_with<R: Read, W: Write, L: Listener>(
     writer: &mut W,
     listener: &mut L,
 ) -> Result<Summary, Fault>
-    ensures ok { IfOk result (WritesWhole (transfer
+    ensures { EndsBy (transfer
         (R.remaining reader.old) (R.remaining reader.new)
-        (W.contents writer.old) (W.contents writer.new))) }
-    ensures fault { IfErr result (StopsBy (transfer
-        (R.remaining reader.old) (R.remaining reader.new)
-        (W.contents writer.old) (W.contents writer.new))) }
+        (W.contents writer.old) (W.contents writer.new)) result }
 {
     let mut piece = vec![in alloc; 0u8; PIECE]?;
     let mut input = ScriptInput::new(alloc);

@@ -1,6 +1,6 @@
 -- How the threads of a script end.
 use Rattle.std.proofs.Common.{◌≡◌, ℕ, Bool, true, List, [], ◌++◌, Option, sym, ap, subst, ◌∙◌, inr, append_assoc, append-nil}
-use Rattle.std.specs.Prelude.{Result, Err, IfErr, string_bytes}
+use Rattle.std.specs.Prelude.{Result, Err, string_bytes}
 use Rattle.std.specs.Io.KnownBytes.{Appends}
 use Rattle.std.proofs.KnownBytes.{Appends-trans}
 use Rattle.ipc_words.specs.Lines.{lines_of}
@@ -11,13 +11,13 @@ use Rattle.ipcsh.specs.declared.runs.Summary.{Summary}
 use Rattle.ipcsh.specs.Scripts.{IsScript, Planned, ReadsText, planned}
 use Rattle.ipcsh.specs.Runs.{Transfer, transfer}
 use Rattle.ipcsh_threads.specs.declared.running.Ending.{Ending}
-use Rattle.ipcsh_threads.specs.Threads.{EndsSo, GoesOn, Prints, Setup, StopsThreads, WritesThreads, setup_in, setup_of}
+use Rattle.ipcsh_threads.specs.Threads.{EndsSo, GoesOn, Prints, Setup, StopsThreads, ThreadsEndBy, WritesThreads, setup_in, setup_of}
 
 setup_is : (p : Planned) (script : Script) → IsScript p script → setup_of script ≡ setup_in p
 setup_is p script h = λ i. record { names = h.names i; clients = h.clients i; limits = h.limits i; jobs = h.jobs i }
 
-pub stops_by : (t : Transfer) (result : Result Summary Fault) (fault : Fault) → result ≡ Err fault → StopsThreads t fault → IfErr result (StopsThreads t)
-stops_by t result fault is h = subst (λ (r : Result Summary Fault). IfErr r (StopsThreads t)) (sym is) h
+pub ends_by : (t : Transfer) (result : Result Summary Fault) (fault : Fault) → result ≡ Err fault → StopsThreads t fault → ThreadsEndBy t result
+ends_by t result fault is h = subst (λ (r : Result Summary Fault). ThreadsEndBy t r) (sym is) (tt, h)
 
 module _ (r0 r1 : Option (List ℕ)) (text : List ℕ) (script : Script) (read : ReadsText r0 r1 text) (h : IsScript (planned (lines_of text)) script) where
   pub memory_stops : (w0 w1 : Option (List ℕ)) → Appends w0 w1 (string_bytes script.rows) → StopsThreads (transfer r0 r1 w0 w1) faults.Memory

@@ -1,5 +1,5 @@
 -- What the threads of a script do and print.
-use Rattle.std.specs.Prelude.{◌≡◌, ◌⊎◌, ℕ, ◌≤◌, Bool, true, false, List, [], ◌++◌, length, map, string_bytes}
+use Rattle.std.specs.Prelude.{◌≡◌, ◌⊎◌, ℕ, ◌≤◌, Bool, true, false, List, [], ◌++◌, length, map, string_bytes, Result, IfErr, IfOk}
 use Rattle.std.specs.Io.KnownBytes.{Appends, Consumes}
 use Rattle.ipc_call.specs.declared.limits.Limits.{Limits}
 use Rattle.ipc_call.specs.Limits.{are_in_range}
@@ -108,3 +108,7 @@ StopsThreads t faults.Write =
     (text : List ℕ) × (written : List ℕ) × ReadsText t.read_before t.read_after text
     × Appends t.written_before t.written_after written × PrintsFront (planned (lines_of text)) written
 StopsThreads t fault = StopsReading t.read_before t.read_after fault × Appends t.written_before t.written_after []
+
+-- how a run in threads ends
+abbrev pub ThreadsEndBy : Transfer → Result Summary Fault → Type 0
+ThreadsEndBy t result = IfOk result (WritesThreads t) × IfErr result (StopsThreads t)

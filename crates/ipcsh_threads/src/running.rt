@@ -1,11 +1,11 @@
 // A script whose clients have a thread each.
 
-ghost use Rattle.std.specs.Prelude.{◌≡◌, ◌≤◌, ◌++◌, IfErr, IfOk, length, string_bytes};
+ghost use Rattle.std.specs.Prelude.{◌≡◌, ◌≤◌, ◌++◌, IfOk, length, string_bytes};
 ghost use Rattle.ipc_history.specs.History.{run as run_of};
 ghost use Rattle.ipc_model.specs.Listings.{lines_of};
 ghost use Rattle.ipcsh.specs.Runs.{transfer};
 ghost use Rattle.ipcsh_threads.specs.Rows.{count_rows, object_lines};
-ghost use Rattle.ipcsh_threads.specs.Threads.{CanRun, EndsSo, StopsThreads, WritesThreads, setup_of};
+ghost use Rattle.ipcsh_threads.specs.Threads.{CanRun, EndsSo, ThreadsEndBy, setup_of};
 
 use crate::rows::{print_counts, print_objects};
 use ipc_call::Memory;
@@ -28,12 +28,9 @@ pub fn threads<R: Threads + Sync + Wait, I: Read, W: Write>(
     reader: &mut I,
     writer: &mut W,
 ) -> Result<Summary, Fault>
-    ensures ok { IfOk result (WritesThreads (transfer
+    ensures { ThreadsEndBy (transfer
         (I.remaining reader.old) (I.remaining reader.new)
-        (W.contents writer.old) (W.contents writer.new))) }
-    ensures fault { IfErr result (StopsThreads (transfer
-        (I.remaining reader.old) (I.remaining reader.new)
-        (W.contents writer.old) (W.contents writer.new))) }
+        (W.contents writer.old) (W.contents writer.new)) result }
 {
     threads_with(rt, alloc, reader, writer, &mut ())
 }
@@ -46,12 +43,9 @@ pub fn threads_with<R: Threads + Sync + Wait, I: Read, W: Write, L: Listener>(
     writer: &mut W,
     listener: &mut L,
 ) -> Result<Summary, Fault>
-    ensures ok { IfOk result (WritesThreads (transfer
+    ensures { ThreadsEndBy (transfer
         (I.remaining reader.old) (I.remaining reader.new)
-        (W.contents writer.old) (W.contents writer.new))) }
-    ensures fault { IfErr result (StopsThreads (transfer
-        (I.remaining reader.old) (I.remaining reader.new)
-        (W.contents writer.old) (W.contents writer.new))) }
+        (W.contents writer.old) (W.contents writer.new)) result }
 {
     let script = read_script_with(alloc, reader, listener)?;
     write_bytes(writer, script.rows.as_bytes())?;
