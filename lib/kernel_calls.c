@@ -37,7 +37,7 @@ static void done(long result) {
     if (result < 0) fail("a call");
 }
 
-/* Numbers in no visible order: those of crates/bench_runs. */
+/* Numbers in no visible order: those of crates/test_support. */
 static unsigned below(unsigned limit) {
     next_number = next_number * 1664525u + 1013904223u;
     return (next_number >> 8) % limit;

@@ -3,12 +3,12 @@ ghost use Rattle.std.specs.Prelude.{◌≡◌, ◌≤◌, false, All, IfOk, IfSo
 ghost use Rattle.pub_list.specs.Clients.{view, BelongsTo, IsFreshOf};
 ghost use Rattle.pub_counter.specs.Service.{IsResting};
 
-use bench_runs::measuring::{Run, unanswered};
 use pub_counter::Counter;
 use pub_counter::service::reply_of;
 use pub_list::{Fresh, Joined, List, OpenGate, Serves, Took, WordState};
 use std::io;
 use std::time::Instant;
+use test_support::measuring::{Run, unanswered};
 
 /// How many steps a client alone takes to be served.
 pub const STEPS: usize = 6;

@@ -7,15 +7,20 @@
 #![tactic(auto)]
 
 mod combining;
+mod keys;
+mod messages;
+mod segments;
+mod semops;
+mod slots;
+mod spaces;
 
-use bench_runs::measuring::Run;
-use bench_runs::messages::Way;
-use bench_runs::segments::Access;
-use bench_runs::semops::AtExit;
-use bench_runs::spaces::Asked;
-use bench_runs::{keys, measuring, messages, segments, semops, slots, spaces};
+use crate::messages::Way;
+use crate::segments::Access;
+use crate::semops::AtExit;
+use crate::spaces::Asked;
 use std::process::ExitCode;
 use std::{env, io};
+use test_support::measuring::{RUNS, Run, median};
 
 /// How many objects the tables hold.
 const OBJECTS: [u32; 3] = [16, 1_000, 30_000];
@@ -203,7 +208,7 @@ fn medians(rt: &HostRuntime, operation: Operation, size: u32, calls: u32) -> io:
     for _ in operation.names() {
         columns.push(Vec::new(rt.alloc()))?;
     }
-    for _ in 0..measuring::RUNS {
+    for _ in 0..RUNS {
         let runs = operation.run(rt, size, calls)?;
         for (column, run) in columns.iter_mut().zip(runs) {
             column.push(run)?;
@@ -211,7 +216,7 @@ fn medians(rt: &HostRuntime, operation: Operation, size: u32, calls: u32) -> io:
     }
     let mut medians = Vec::new(rt.alloc());
     for column in columns {
-        medians.push(measuring::median(column))?;
+        medians.push(median(column))?;
     }
     Ok(medians)
 }

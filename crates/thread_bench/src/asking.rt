@@ -1,9 +1,9 @@
 //! What a client asks for in a measurement.
 
-use bench_runs::spaces::answer_in;
 use ipc_call::{Answer, Call, IPC_CREAT, IPC_NOWAIT, Items, Kind, Reply, SemOper};
 use std::alloc::{AllocError, Global};
 use std::mem;
+use test_support::calls::answer_in;
 
 /// The key of the first client's queue.
 const KEY: u32 = 5;

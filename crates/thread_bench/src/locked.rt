@@ -1,8 +1,6 @@
 //! Measurements of a namespace alone, and of a mutex round one, beside those of the service.
 
 use crate::asking::{Asker, Receiving, Task, Took};
-use bench_runs::measuring::{Run, unanswered};
-use bench_runs::spaces::opened;
 use crossbeam_utils::Backoff;
 use ipc_call::{Call, Reply};
 use ipc_space::{Effects, Space};
@@ -11,6 +9,8 @@ use std::sync::{Mutex, Wait};
 use std::thread::Threads;
 use std::time::Instant;
 use std::{io, thread};
+use test_support::clients::few_users;
+use test_support::measuring::{Run, unanswered, widest_limits};
 
 /// How often a client asks for a message before it gives up.
 const TURNS: u64 = 10_000_000;
@@ -131,9 +131,14 @@ fn time_alone(rt: &HostRuntime, space: &mut Space, task: Task, calls: u32) -> io
     Run::of_each(rt, start, calls, &[answered])
 }
 
+/// A namespace of so many clients, 1 to 64.
+fn opened(rt: &HostRuntime, clients: u32) -> io::Result<Space> {
+    Ok(Space::start(widest_limits(), few_users(rt.alloc(), clients)?)?)
+}
+
 /// One client of a namespace makes so many calls.
 pub fn of_space(rt: &HostRuntime, task: Task, calls: u32) -> io::Result<Run> {
-    let mut space = opened(rt.alloc(), 1)?;
+    let mut space = opened(rt, 1)?;
     let run = time_alone(rt, &mut space, task, calls);
     drop(space);
     run
@@ -141,7 +146,7 @@ pub fn of_space(rt: &HostRuntime, task: Task, calls: u32) -> io::Result<Run> {
 
 /// A namespace of so many clients under a mutex, in which each has made its queue and its set.
 fn shared(rt: &HostRuntime, task: Task, clients: u32) -> io::Result<(Mutex<Space>, Vec<Worker>)> {
-    let mut space = opened(rt.alloc(), clients)?;
+    let mut space = opened(rt, clients)?;
     match begun(rt, &mut space, task, clients) {
         Ok(workers) => Ok((Mutex::new(space), workers)),
         Err(error) => {

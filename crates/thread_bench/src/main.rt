@@ -9,11 +9,11 @@ mod locked;
 mod service;
 
 use asking::Task;
-use bench_runs::measuring::Run;
 use std::process::ExitCode;
 use std::sync::Wait;
 use std::thread::Threads;
 use std::{env, io};
+use test_support::measuring::Run;
 
 /// How many clients ask at once.
 const CLIENTS: [u32; 5] = [1, 2, 4, 16, 64];

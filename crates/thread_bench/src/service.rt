@@ -3,8 +3,6 @@ ghost use Rattle.std.specs.Prelude.{All, IfOk, IfSome};
 ghost use Rattle.thread_bench.specs.Service.{IsClientOf, IsNewOf};
 
 use crate::asking::{Asker, Receiving, Task, Took};
-use bench_runs::measuring::{Run, unanswered};
-use bench_runs::spaces::{limits, users};
 use crossbeam_utils::Backoff;
 use ipc_call::{Call, Reply};
 use ipc_combiner::{Idle, Pass, Polled, Service, Unjoined};
@@ -12,6 +10,8 @@ use std::alloc::{AllocError, Global};
 use std::thread::Threads;
 use std::time::Instant;
 use std::{io, thread};
+use test_support::clients::few_users;
+use test_support::measuring::{Run, unanswered, widest_limits};
 
 /// How often a client looks for the reply to a call before it gives up.
 const TURNS: u64 = 10_000_000;
@@ -137,11 +137,8 @@ fn asked<R: Threads + Sync>(
 fn started(rt: &HostRuntime, clients: u32) -> io::Result<(Service, Vec<Unjoined>)>
     ensures { IfOk result (λ m. All (λ u. IsNewOf m.0 u) m.1.items) }
 {
-    let all = users(rt.alloc(), clients)?;
-    if all.is_empty() || all.len() > 64 {
-        return Err(io::Error::from(io::ErrorKind::InvalidInput));
-    }
-    Ok(Service::start(rt.alloc(), limits(), all)?)
+    let all = few_users(rt.alloc(), clients)?;
+    Ok(Service::start(rt.alloc(), widest_limits(), all)?)
 }
 
 /// So many clients of the service make as many calls together, each in a thread of its own.

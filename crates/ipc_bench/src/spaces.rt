@@ -1,47 +1,48 @@
-//! A whole namespace: its clients, their calls and the answers, and what a msgget, an IPC_STAT, a denied call and a
-//! listing take.
+// A whole namespace: its clients, their calls and the answers, and what a msgget, an IPC_STAT, a denied call and a
+// listing take.
 
-ghost use Rattle.std.specs.Prelude.{IsTrue};
-ghost use Rattle.ipc_call.specs.Limits.{are_in_range};
-
-use crate::measuring::{Numbers, Run, key_of, unanswered};
-use bitflags::Flags;
-use ipc_call::{Answer, Call, IPC_CREAT, IPC_NOWAIT, Kind, Limit, Limits, Reply};
-use ipc_creds::{Caps, Creds};
+use ipc_call::{Answer, Call, IPC_CREAT, IPC_NOWAIT, Kind};
 use ipc_space::{Effects, Space};
-use std::alloc::{AllocError, Global};
+use std::alloc::Global;
 use std::io;
 use std::time::{Clock, Instant};
+use test_support::calls::answer_in;
+use test_support::clients::few_users;
+use test_support::measuring::{KEPT, Numbers, Run, key_of, unanswered, widest_limits};
 
-/// The default limits, but for as many slots, and as many messages in a queue, as there may be.
-pub fn limits() -> Limits
-    ensures { IsTrue (are_in_range result) }
+/// Measures in a namespace of its own, of so many clients of one user, 1 to 64, with as many slots as there may be.
+pub(crate) fn in_space<T, Measure: FnOnce(&mut Space) -> io::Result<T>>(
+    alloc: Global,
+    clients: u32,
+    measure: Measure,
+) -> io::Result<T>
+    requires { Measure.IsAlwaysCallable measure }
 {
-    Limits::default()
-        .with_limit(Limit::Slots, Limit::Slots.most())
-        .with_limit(Limit::MsgMnb, Limit::MsgMnb.most())
+    let mut space = Space::start(widest_limits(), few_users(alloc, clients)?)?;
+    let measured = measure(&mut space);
+    drop(space);
+    measured
 }
 
-/// So many clients of one user.
-pub fn users(alloc: Global, clients: u32) -> Result<Vec<Creds>, AllocError> {
-    let mut all = Vec::new(alloc);
-    for _ in 0..clients {
-        all.push(Creds::new(100, 10, Vec::new(alloc), Caps::empty()))?;
+/// Measures so many calls in such namespaces, at most `KEPT` in each.
+pub(crate) fn in_spaces<Add: Fn(&mut Space, &mut Run, u32) -> io::Result<()>>(
+    alloc: Global,
+    clients: u32,
+    calls: u32,
+    add: Add,
+) -> io::Result<Run>
+    requires { Add.IsAlwaysCallable add }
+{
+    let mut run = Run::new(calls);
+    for _ in 0..calls / KEPT {
+        in_space(alloc, clients, |space| add(space, &mut run, KEPT))?;
     }
-    Ok(all)
-}
-
-/// A namespace of so many clients of one user, 1 to 64, with as many slots as there may be.
-pub fn opened(alloc: Global, clients: u32) -> io::Result<Space> {
-    let all = users(alloc, clients)?;
-    if all.is_empty() || all.len() > 64 {
-        return Err(io::Error::from(io::ErrorKind::InvalidInput));
-    }
-    Ok(Space::start(limits(), all)?)
+    in_space(alloc, clients, |space| add(space, &mut run, calls % KEPT))?;
+    Ok(run)
 }
 
 /// What a call of a client tells, None where there is no such client or it waits.
-pub fn effects(space: &mut Space, client: u32, call: Call) -> io::Result<Option<Effects>> {
+pub(crate) fn effects(space: &mut Space, client: u32, call: Call) -> io::Result<Option<Effects>> {
     if client >= space.clients() || space.is_waiting(client) {
         return Ok(None);
     }
@@ -49,7 +50,7 @@ pub fn effects(space: &mut Space, client: u32, call: Call) -> io::Result<Option<
 }
 
 /// The answer to a call of client 0, None where it isn't served.
-pub fn answer(space: &mut Space, call: Call) -> io::Result<Option<Answer>> {
+pub(crate) fn answer(space: &mut Space, call: Call) -> io::Result<Option<Answer>> {
     let Some(told) = effects(space, 0, call)? else {
         return Ok(None);
     };
@@ -58,7 +59,7 @@ pub fn answer(space: &mut Space, call: Call) -> io::Result<Option<Answer>> {
 }
 
 /// Client 0 makes a call that is answered with nothing.
-pub fn done(space: &mut Space, call: Call) -> io::Result<()> {
+pub(crate) fn done(space: &mut Space, call: Call) -> io::Result<()> {
     match answer(space, call)? {
         Some(Answer::Done) => Ok(()),
         _ => Err(unanswered()),
@@ -66,7 +67,7 @@ pub fn done(space: &mut Space, call: Call) -> io::Result<()> {
 }
 
 /// A client makes a call that waits.
-pub fn wait(space: &mut Space, client: u32, call: Call) -> io::Result<()> {
+pub(crate) fn wait(space: &mut Space, client: u32, call: Call) -> io::Result<()> {
     effects(space, client, call)?;
     if space.is_waiting(client) {
         Ok(())
@@ -75,19 +76,8 @@ pub fn wait(space: &mut Space, client: u32, call: Call) -> io::Result<()> {
     }
 }
 
-/// The answer in a reply, None where it is a refusal.
-pub fn answer_in(reply: Reply) -> Option<Answer> {
-    match reply {
-        Reply::Entered {
-            outcome: Ok(answer),
-            ..
-        } => Some(answer),
-        _ => None,
-    }
-}
-
 /// One msgget of client 0.
-pub fn msgget(space: &mut Space, key: u32, flags: u32) -> io::Result<u32> {
+pub(crate) fn msgget(space: &mut Space, key: u32, flags: u32) -> io::Result<u32> {
     match answer(space, Call::MsgGet { key, flags })? {
         Some(Answer::Id(id)) => Ok(id),
         _ => Ok(u32::MAX),
@@ -121,16 +111,17 @@ fn get_each<R: Clock + AllocGlobal>(
 }
 
 /// Gets the queues of keys that are there.
-pub fn get_of_a_key<R: Clock + AllocGlobal>(rt: &R, size: u32, calls: u32) -> io::Result<Run> {
-    let mut space = opened(rt.alloc(), 1)?;
-    let run = get_each(rt, &mut space, size, calls);
-    drop(space);
-    run
+pub(crate) fn get_of_a_key<R: Clock + AllocGlobal>(
+    rt: &R,
+    size: u32,
+    calls: u32,
+) -> io::Result<Run> {
+    in_space(rt.alloc(), 1, |space| get_each(rt, space, size, calls))
 }
 
 /// What is asked of one queue again and again.
 #[derive(Clone, Copy, Debug)]
-pub enum Asked {
+pub(crate) enum Asked {
     /// Its status: IPC_STAT.
     Status,
     /// A message, of a queue whose permission bits deny it to its owner.
@@ -174,11 +165,8 @@ impl Asked {
     }
 
     /// Asks it so many times in a namespace of its own.
-    pub fn ask<R: Clock + AllocGlobal>(self, rt: &R, calls: u32) -> io::Result<Run> {
-        let mut space = opened(rt.alloc(), 1)?;
-        let run = self.ask_each(rt, &mut space, calls);
-        drop(space);
-        run
+    pub(crate) fn ask<R: Clock + AllocGlobal>(self, rt: &R, calls: u32) -> io::Result<Run> {
+        in_space(rt.alloc(), 1, |space| self.ask_each(rt, space, calls))
     }
 }
 
@@ -208,9 +196,10 @@ fn list_each<R: Clock + AllocGlobal>(
 }
 
 /// Lists the queues that there are: so many rows in all, in one listing at least.
-pub fn list<R: Clock + AllocGlobal>(rt: &R, size: u32, rows: u32) -> io::Result<Run> {
-    let mut space = opened(rt.alloc(), 1)?;
-    let run = list_each(rt, &mut space, size, (rows / size.max(1)).max(1));
-    drop(space);
-    run
+pub(crate) fn list<R: Clock + AllocGlobal>(rt: &R, size: u32, rows: u32) -> io::Result<Run> {
+    in_space(
+        rt.alloc(),
+        1,
+        |space| list_each(rt, space, size, (rows / size.max(1)).max(1)),
+    )
 }

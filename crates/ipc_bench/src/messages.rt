@@ -1,12 +1,13 @@
-//! Measurements of messages and of calls that wait for them, through a whole namespace and its journal.
+// Measurements of messages and of calls that wait for them, through a whole namespace and its journal.
 
-use crate::measuring::{KEPT, Numbers, Run, unanswered};
-use crate::spaces::{answer, answer_in, done, effects, msgget, opened, wait};
+use crate::spaces::{answer, done, effects, in_space, in_spaces, msgget, wait};
 use ipc_call::{Answer, Call, IPC_NOWAIT, Items};
 use ipc_space::{Effects, Space};
 use std::alloc::Global;
 use std::io;
 use std::time::{Clock, Instant};
+use test_support::calls::answer_in;
+use test_support::measuring::{Numbers, Run, unanswered};
 
 /// The type of the messages that are received.
 const LAST: i64 = 2;
@@ -16,7 +17,7 @@ const BEFORE: i64 = 1;
 
 /// How a text goes from client to client.
 #[derive(Clone, Copy, Debug)]
-pub enum Way {
+pub(crate) enum Way {
     /// A client sends it to an empty queue, and receives it.
     Queue,
     /// A client waits for it, and another sends it.
@@ -128,32 +129,23 @@ fn add_passes<R: Clock + AllocGlobal>(
     Ok(())
 }
 
-/// The same in a namespace of its own.
-fn add_passes_apart<R: Clock + AllocGlobal>(
+/// Passes a text of so many bytes: the two calls that pass it count as one.
+pub(crate) fn pass<R: Clock + AllocGlobal>(
     rt: &R,
-    run: &mut Run,
     way: Way,
     bytes: u32,
-    passes: u32,
-) -> io::Result<()> {
+    calls: u32,
+) -> io::Result<Run> {
     let clients = match way {
         Way::Queue => 1,
         Way::Receiver => 2,
     };
-    let mut space = opened(rt.alloc(), clients)?;
-    let added = add_passes(rt, &mut space, run, way, bytes, passes);
-    drop(space);
-    added
-}
-
-/// Passes a text of so many bytes: the two calls that pass it count as one.
-pub fn pass<R: Clock + AllocGlobal>(rt: &R, way: Way, bytes: u32, calls: u32) -> io::Result<Run> {
-    let mut run = Run::new(calls);
-    for _ in 0..calls / KEPT {
-        add_passes_apart(rt, &mut run, way, bytes, KEPT)?;
-    }
-    add_passes_apart(rt, &mut run, way, bytes, calls % KEPT)?;
-    Ok(run)
+    in_spaces(
+        rt.alloc(),
+        clients,
+        calls,
+        |space, run, passes| add_passes(rt, space, run, way, bytes, passes),
+    )
 }
 
 /// Client 0 passes an empty message, while all others wait for one of another queue.
@@ -173,15 +165,16 @@ fn pass_beside_waiting<R: Clock + AllocGlobal>(
 
 /// Sends an empty message to a queue and receives it, while so many clients wait on another queue: a pair of
 /// calls counts as one.
-pub fn while_others_wait<R: Clock + AllocGlobal>(
+pub(crate) fn while_others_wait<R: Clock + AllocGlobal>(
     rt: &R,
     waiting: u32,
     calls: u32,
 ) -> io::Result<Run> {
-    let mut space = opened(rt.alloc(), waiting.saturating_add(1))?;
-    let run = pass_beside_waiting(rt, &mut space, calls);
-    drop(space);
-    run
+    in_space(
+        rt.alloc(),
+        waiting.saturating_add(1),
+        |space| pass_beside_waiting(rt, space, calls),
+    )
 }
 
 /// Makes a queue with so many messages, of which the last alone has its type.
@@ -226,23 +219,25 @@ fn receive_and_send<R: Clock>(
 }
 
 /// Receives the last of so many messages, which alone has the type that is asked for, and sends it again.
-pub fn receive_last<R: Clock + AllocGlobal>(rt: &R, messages: u32, calls: u32) -> io::Result<Run> {
-    let mut space = opened(rt.alloc(), 1)?;
-    let run = match filled_queue(rt.alloc(), &mut space, messages) {
-        Ok(id) => receive_and_send(rt, &mut space, id, 1, calls),
-        Err(error) => Err(error),
-    };
-    drop(space);
-    run
+pub(crate) fn receive_last<R: Clock + AllocGlobal>(
+    rt: &R,
+    messages: u32,
+    calls: u32,
+) -> io::Result<Run> {
+    in_space(rt.alloc(), 1, |space| {
+        let id = filled_queue(rt.alloc(), space, messages)?;
+        receive_and_send(rt, space, id, 1, calls)
+    })
 }
 
 /// Receives a message of one of so many types, of which a queue has one each, and sends it again.
-pub fn receive_among<R: Clock + AllocGlobal>(rt: &R, types: u32, calls: u32) -> io::Result<Run> {
-    let mut space = opened(rt.alloc(), 1)?;
-    let run = match queue_of_types(rt.alloc(), &mut space, types) {
-        Ok(id) => receive_and_send(rt, &mut space, id, types, calls),
-        Err(error) => Err(error),
-    };
-    drop(space);
-    run
+pub(crate) fn receive_among<R: Clock + AllocGlobal>(
+    rt: &R,
+    types: u32,
+    calls: u32,
+) -> io::Result<Run> {
+    in_space(rt.alloc(), 1, |space| {
+        let id = queue_of_types(rt.alloc(), space, types)?;
+        receive_and_send(rt, space, id, types, calls)
+    })
 }

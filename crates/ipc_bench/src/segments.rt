@@ -1,17 +1,17 @@
-//! Measurements of shared memory segments, through a whole namespace and its journal, and of a copy in memory beside
-//! them.
+// Measurements of shared memory segments, through a whole namespace and its journal, and of a copy in memory beside
+// them.
 
-use crate::measuring::{BATCH, KEPT, Run, unanswered};
-use crate::spaces::{answer, done, opened};
+use crate::spaces::{answer, done, in_spaces};
 use ipc_call::{Answer, Call, Items};
 use ipc_space::Space;
 use std::alloc::{AllocError, Global};
 use std::io;
 use std::time::{Clock, Instant};
+use test_support::measuring::{BATCH, Run, unanswered};
 
 /// How the bytes behind an attachment are reached.
 #[derive(Clone, Copy, Debug)]
-pub enum Access {
+pub(crate) enum Access {
     Read,
     Write,
 }
@@ -63,20 +63,6 @@ impl Access {
         }
         Ok(())
     }
-
-    /// The same in a namespace of its own.
-    fn add_batches_apart<R: Clock + AllocGlobal>(
-        self,
-        rt: &R,
-        run: &mut Run,
-        bytes: u32,
-        batches: u32,
-    ) -> io::Result<()> {
-        let mut space = opened(rt.alloc(), 1)?;
-        let added = self.add_batches(rt, &mut space, run, bytes, batches);
-        drop(space);
-        added
-    }
 }
 
 /// Makes a segment of so many bytes.
@@ -122,22 +108,22 @@ fn make_each(space: &mut Space, calls: Vec<Call>) -> io::Result<u32> {
 }
 
 /// Reads or writes a whole segment of so many bytes. A call is made before, and the journal keeps a copy of it.
-pub fn reach<R: Clock + AllocGlobal>(
+pub(crate) fn reach<R: Clock + AllocGlobal>(
     rt: &R,
     access: Access,
     bytes: u32,
     calls: u32,
 ) -> io::Result<Run> {
-    let mut run = Run::new(calls / BATCH * BATCH);
-    for _ in 0..calls / KEPT {
-        access.add_batches_apart(rt, &mut run, bytes, KEPT / BATCH)?;
-    }
-    access.add_batches_apart(rt, &mut run, bytes, calls % KEPT / BATCH)?;
-    Ok(run)
+    in_spaces(
+        rt.alloc(),
+        1,
+        calls / BATCH * BATCH,
+        |space, run, part| access.add_batches(rt, space, run, bytes, part / BATCH),
+    )
 }
 
 /// Copies so many bytes into memory that is allocated for them.
-pub fn copy<R: Clock + AllocGlobal>(rt: &R, bytes: u32, calls: u32) -> io::Result<Run> {
+pub(crate) fn copy<R: Clock + AllocGlobal>(rt: &R, bytes: u32, calls: u32) -> io::Result<Run> {
     let mut copied = vec![in rt.alloc(); 97u8; bytes as usize]?;
     let mut run = Run::new(calls);
     let start = Instant::now(rt)?;
@@ -170,29 +156,16 @@ fn add_pairs(
     run.add_time(rt, start)
 }
 
-/// The same in a namespace of its own.
-fn add_pairs_apart<R: Clock + AllocGlobal>(
-    rt: &R,
-    run: &mut Run,
-    attachments: u32,
-    pairs: u32,
-) -> io::Result<()> {
-    let mut space = opened(rt.alloc(), 1)?;
-    let added = add_pairs(rt, &mut space, run, attachments, pairs);
-    drop(space);
-    added
-}
-
 /// Attaches a segment and detaches it again, by a client that then has so many attachments: pairs of calls.
-pub fn attach_and_detach<R: Clock + AllocGlobal>(
+pub(crate) fn attach_and_detach<R: Clock + AllocGlobal>(
     rt: &R,
     attachments: u32,
     calls: u32,
 ) -> io::Result<Run> {
-    let mut run = Run::new(calls);
-    for _ in 0..calls / KEPT {
-        add_pairs_apart(rt, &mut run, attachments, KEPT)?;
-    }
-    add_pairs_apart(rt, &mut run, attachments, calls % KEPT)?;
-    Ok(run)
+    in_spaces(
+        rt.alloc(),
+        1,
+        calls,
+        |space, run, pairs| add_pairs(rt, space, run, attachments, pairs),
+    )
 }

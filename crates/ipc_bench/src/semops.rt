@@ -1,16 +1,16 @@
-//! Measurements of semops and of semops beside calls that wait, through a whole namespace and its journal.
+// Measurements of semops and of semops beside calls that wait, through a whole namespace and its journal.
 
-use crate::measuring::{BATCH, KEPT, Run, unanswered};
-use crate::spaces::{answer, done, opened, wait};
+use crate::spaces::{answer, done, in_spaces, wait};
 use ipc_call::{Answer, Call, Items, SEM_UNDO, SemOper};
 use ipc_space::Space;
 use std::alloc::{AllocError, Global};
 use std::io;
 use std::time::{Clock, Instant};
+use test_support::measuring::{BATCH, Run, unanswered};
 
 /// What the end of a process does to what its semops added.
 #[derive(Clone, Copy, Debug)]
-pub enum AtExit {
+pub(crate) enum AtExit {
     /// It leaves that.
     Keeps,
     /// It takes that back: each operation has `SEM_UNDO`.
@@ -109,29 +109,15 @@ impl Semops {
         Ok(())
     }
 
-    /// The same in a namespace of its own, where so many clients wait.
-    fn add_batches_apart<R: Clock + AllocGlobal>(
-        self,
-        rt: &R,
-        run: &mut Run,
-        waiting: u32,
-        batches: u32,
-    ) -> io::Result<()> {
-        let mut space = opened(rt.alloc(), waiting.saturating_add(1))?;
-        let added = self.add_batches(rt, &mut space, run, batches);
-        drop(space);
-        added
-    }
-
     /// Measures so many of them, each with the copy of its operations that the journal keeps, but without their
     /// making.
     fn run<R: Clock + AllocGlobal>(self, rt: &R, waiting: u32, calls: u32) -> io::Result<Run> {
-        let mut run = Run::new(calls / BATCH * BATCH);
-        for _ in 0..calls / KEPT {
-            self.add_batches_apart(rt, &mut run, waiting, KEPT / BATCH)?;
-        }
-        self.add_batches_apart(rt, &mut run, waiting, calls % KEPT / BATCH)?;
-        Ok(run)
+        in_spaces(
+            rt.alloc(),
+            waiting.saturating_add(1),
+            calls / BATCH * BATCH,
+            |space, run, part| self.add_batches(rt, space, run, part / BATCH),
+        )
     }
 }
 
@@ -174,7 +160,7 @@ fn others_wait(alloc: Global, space: &mut Space) -> io::Result<()> {
 }
 
 /// Does so many operations in each semop, one at each semaphore of a set.
-pub fn operate<R: Clock + AllocGlobal>(
+pub(crate) fn operate<R: Clock + AllocGlobal>(
     rt: &R,
     at_exit: AtExit,
     operations: u32,
@@ -188,6 +174,10 @@ pub fn operate<R: Clock + AllocGlobal>(
 }
 
 /// Does one operation in each semop, while so many clients wait on another set.
-pub fn beside_waiting<R: Clock + AllocGlobal>(rt: &R, waiting: u32, calls: u32) -> io::Result<Run> {
+pub(crate) fn beside_waiting<R: Clock + AllocGlobal>(
+    rt: &R,
+    waiting: u32,
+    calls: u32,
+) -> io::Result<Run> {
     OF_ONE.run(rt, waiting, calls)
 }

@@ -1,11 +1,11 @@
-//! Measurements of the table of slots.
+// Measurements of the table of slots.
 
-use crate::measuring::{BATCH, Numbers, Run, add_batch};
 use ipc_call::Limit;
 use ipc_ids::{InsertFault, Slots};
 use std::alloc::{AllocError, Global};
 use std::io;
 use std::time::{Clock, Instant};
+use test_support::measuring::{BATCH, Numbers, Run, add_batch};
 
 /// Puts a number into the lowest usable slot, and gives its identifier.
 fn insert_number(table: &mut Slots<u32>, number: u32) -> Result<u32, AllocError> {
@@ -60,7 +60,7 @@ impl Filled {
 }
 
 /// Looks up the objects of identifiers.
-pub fn get<R: Clock + AllocGlobal>(rt: &R, size: u32, calls: u32) -> io::Result<Run> {
+pub(crate) fn get<R: Clock + AllocGlobal>(rt: &R, size: u32, calls: u32) -> io::Result<Run> {
     let filled = Filled::new(rt.alloc(), size)?;
     let mut numbers = Numbers::new();
     let mut run = Run::new(calls);
@@ -75,7 +75,7 @@ pub fn get<R: Clock + AllocGlobal>(rt: &R, size: u32, calls: u32) -> io::Result<
 }
 
 /// Asks for the next identifier, with a batch of slots vacant.
-pub fn next_id<R: Clock + AllocGlobal>(rt: &R, size: u32, calls: u32) -> io::Result<Run> {
+pub(crate) fn next_id<R: Clock + AllocGlobal>(rt: &R, size: u32, calls: u32) -> io::Result<Run> {
     let mut filled = Filled::new(rt.alloc(), size)?;
     filled.remove_batch(0, size);
     let mut run = Run::new(calls);
@@ -89,7 +89,7 @@ pub fn next_id<R: Clock + AllocGlobal>(rt: &R, size: u32, calls: u32) -> io::Res
 
 /// Removes objects batch by batch, and fills the lowest usable slots, which are theirs: what the first took,
 /// and what the second.
-pub fn remove_and_insert<R: Clock + AllocGlobal>(
+pub(crate) fn remove_and_insert<R: Clock + AllocGlobal>(
     rt: &R,
     size: u32,
     calls: u32,

@@ -1,5 +1,9 @@
-//! Measurements: how long some calls took, and a sum over what they answered.
+//! Measurements: how long some calls took, a sum over what they answered, and the limits under which they are made.
 
+ghost use Rattle.std.specs.Prelude.{IsTrue};
+ghost use Rattle.ipc_call.specs.Limits.{are_in_range};
+
+use ipc_call::{Limit, Limits};
 use std::io;
 use std::time::{Clock, Instant};
 
@@ -69,6 +73,11 @@ impl Run {
     }
 }
 
+/// A call of a measurement had another answer than it must have.
+pub fn unanswered() -> io::Error {
+    io::Error::from(io::ErrorKind::Other)
+}
+
 /// Counts a batch in two measurements of calls that undo one another: the first half of the batch ends at
 /// `middle`.
 pub fn add_batch(runs: &mut [Run; 2], start: Instant, middle: Instant, end: Instant, answer: u32) {
@@ -77,11 +86,6 @@ pub fn add_batch(runs: &mut [Run; 2], start: Instant, middle: Instant, end: Inst
     for run in runs {
         run.add_answer(answer);
     }
-}
-
-/// A call of a measurement had another answer than it must have.
-pub fn unanswered() -> io::Error {
-    io::Error::from(io::ErrorKind::Other)
 }
 
 /// The run of median time.
@@ -117,4 +121,13 @@ impl Numbers {
 /// The key of an object by its number: keys aren't in the order of the numbers, and none is 0.
 pub fn key_of(number: u32) -> u32 {
     number.wrapping_add(1).wrapping_mul(2_654_435_761)
+}
+
+/// The default limits, but for as many slots, and as many messages in a queue, as there may be.
+pub fn widest_limits() -> Limits
+    ensures { IsTrue (are_in_range result) }
+{
+    Limits::default()
+        .with_limit(Limit::Slots, Limit::Slots.most())
+        .with_limit(Limit::MsgMnb, Limit::MsgMnb.most())
 }

@@ -1,10 +1,10 @@
-//! Measurements of the table of keys.
+// Measurements of the table of keys.
 
-use crate::measuring::{BATCH, Numbers, Run, add_batch, key_of};
 use ipc_ids::Keys;
 use std::alloc::{AllocError, Global};
 use std::io;
 use std::time::{Clock, Instant};
+use test_support::measuring::{BATCH, Numbers, Run, add_batch, key_of};
 
 /// Binds the key of a number to that number.
 fn bind_number(keys: &mut Keys, number: u32) -> Result<(), AllocError> {
@@ -25,7 +25,7 @@ fn bound(alloc: Global, size: u32) -> Result<Keys, AllocError> {
 }
 
 /// Looks up keys that are bound.
-pub fn find<R: Clock + AllocGlobal>(rt: &R, size: u32, calls: u32) -> io::Result<Run> {
+pub(crate) fn find<R: Clock + AllocGlobal>(rt: &R, size: u32, calls: u32) -> io::Result<Run> {
     let keys = bound(rt.alloc(), size)?;
     let mut numbers = Numbers::new();
     let mut run = Run::new(calls);
@@ -40,7 +40,7 @@ pub fn find<R: Clock + AllocGlobal>(rt: &R, size: u32, calls: u32) -> io::Result
 
 /// Unbinds keys batch by batch, and then looks each key up, which isn't bound, and binds it again: what the
 /// first took, and what the second.
-pub fn unbind_and_bind<R: Clock + AllocGlobal>(
+pub(crate) fn unbind_and_bind<R: Clock + AllocGlobal>(
     rt: &R,
     size: u32,
     calls: u32,
