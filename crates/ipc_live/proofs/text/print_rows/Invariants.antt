@@ -1,0 +1,9 @@
+-- the rows so far
+use Rattle.std.proofs.Common.{◌≡◌, ◌++◌, take}
+use Rattle.std.specs.Prelude.{string_bytes}
+use Rattle.ipc_live.specs.Text.{rows_text}
+use Rattle.ipc_live.proofs.text.print_rows.Given as goal
+
+abbrev pub invariant-loop-row : goal.invariant-loop-row
+invariant-loop-row l =
+    string_bytes l.out ≡ string_bytes l.fn.out ++ rows_text (take l.row-index l.rows)

@@ -1,0 +1,4 @@
+pub mod Orphans
+pub mod Standing
+pub mod Told
+pub mod Text
