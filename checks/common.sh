@@ -60,27 +60,39 @@ built() {
     return 1
 }
 
-# has_program: there is a program for ./ipcsh to run, the proved one but under --unproved.
+# has_program CRATE: there is a program of the crate to run, the proved one but under --unproved.
 has_program() {
     if [ -z "${unproved-}" ]; then
-        built ipcsh_cli
+        built "$1"
         return
     fi
     why='it cannot be built without a proof'
-    is_kept ipcsh_cli || keep ipcsh_cli
+    is_kept "$1" || keep "$1"
 }
 
-# the_program: the file of this program, which is run by itself where ./ipcsh would look at all sources each time.
+# program_to_run CRATE: the file of this program.
+program_to_run() {
+    if [ -n "${unproved-}" ]; then unproved_of "$1"; else program_of "$1"; fi
+}
+
+# the_program: that of ipcsh, which is run by itself where ./ipcsh would look at all sources each time.
 the_program() {
-    if [ -n "${unproved-}" ]; then unproved_of ipcsh_cli; else program_of ipcsh_cli; fi
+    program_to_run ipcsh_cli
 }
 
-# with_program COMMAND..: the checks of a part that runs ./ipcsh. Without the program that is one failure.
-with_program() {
+# with_crate CRATE COMMAND..: the checks of a part that runs the program of the crate. Without it that is one failure.
+with_crate() {
     : >"$scratch/shown"
-    if has_program; then
+    crate=$1
+    shift
+    if has_program "$crate"; then
         "$@"
     else
-        fail ipcsh
+        fail "$crate"
     fi
+}
+
+# with_program COMMAND..: the checks of a part that runs ./ipcsh.
+with_program() {
+    with_crate ipcsh_cli "$@"
 }

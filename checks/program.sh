@@ -2,6 +2,7 @@
 
 check_program() {
     attempt ipcsh built ipcsh_cli
+    attempt ipcwho built ipcwho
     attempt bench built ipc_bench
     attempt 'bench threads' built thread_bench
 }

@@ -252,7 +252,7 @@ def try_bodies(crates, crate, edits):
         kept = f"{room}/kept"
         control = Control(crates, crate, functions, stubbed(crate, {}, room, names), kept)
         failed = [f"crates/{crate}: {it.path} is refused as it stands: {', '.join(sorted(it.open))}" for it in control.refused]
-        failed += [f"crates/{crate}: {it} has no goals: {control.why.rstrip().splitlines()[-1:]}" for it in functions if control.lacks(it)]
+        failed += [f"crates/{crate}: {it} has no goals: {control.said.rstrip().splitlines()[-1:]}" for it in functions if control.lacks(it)]
         for group, texts in groups(TOP / "crates" / crate, edits):
             copy = stubbed(crate, texts, room, {it.function.rpartition("::")[2] for it in group})
             if group[0].bound:

@@ -113,12 +113,12 @@ fn bits_name(bits: u16) -> &'static str {
 fn print_answers(out: &mut String, object: &Object, process: &Process) -> Result<(), AllocError> {
     let told = tell(&process.creds, object);
     print_answer(out, "read", told.read, "CAP_IPC_OWNER")?;
-    print_answer(out, to_write(object), told.write, "CAP_IPC_OWNER")?;
+    print_answer(out, words_to_write(object), told.write, "CAP_IPC_OWNER")?;
     print_answer(out, "set and remove", told.control, "CAP_SYS_ADMIN")
 }
 
 /// What is asked for to write the object.
-fn to_write(object: &Object) -> &'static str {
+fn words_to_write(object: &Object) -> &'static str {
     match object.used {
         Use::Segment { .. } => "write (attached without SHM_RDONLY, which asks for both bits)",
         Use::Queue { .. } | Use::Sems => "write",
