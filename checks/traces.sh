@@ -1,0 +1,145 @@
+# ./ipcsh_trace: each trace of examples/traces has its stored script and verdict, an answer that is altered in it is told,
+# and what is no trace, or none that can be taken whole, has its clear reason.
+
+check_traces() { with_program trace_checks; }
+
+trace_checks() {
+    IPCSH_PROGRAM=$(the_program)
+    export IPCSH_PROGRAM
+    for verdict in examples/traces/*.verdict; do
+        base=${verdict%.verdict}
+        set -- "$base".strace*
+        attempt "$verdict" has_its_verdict "$base.verdict" "$@"
+        attempt "$base.script" has_its_script "$base.script" "$@"
+        attempt "$base.script by ./ipcsh" script_has_no_bad_line "$base.script"
+        attempt "$verdict, an answer altered" tells_an_altered_answer "$base.verdict" "$@"
+    done
+    bad_traces
+}
+
+# traced STATUS ARGUMENT..: runs ./ipcsh_trace, which is to end with this status.
+traced() {
+    wanted=$1
+    shift
+    status=0
+    timeout 60 ./ipcsh_trace "$@" >"$scratch/out" 2>"$scratch/err" || status=$?
+    why="status $status, not $wanted: ./ipcsh_trace $*"
+    [ "$status" = "$wanted" ]
+}
+
+# has_its_verdict STORED FILE..: the status is 1 where a call is answered otherwise.
+has_its_verdict() {
+    stored=$1
+    shift
+    wanted=1
+    ! grep -q '^[0-9]* calls*: .* 0 otherwise' "$stored" || wanted=0
+    traced "$wanted" "$@" && same 'its verdict' "$stored" "$scratch/out"
+}
+
+has_its_script() {
+    stored=$1
+    shift
+    ./ipcsh_trace --script "$@" >"$scratch/out" 2>"$scratch/err" || :
+    same 'its script' "$stored" "$scratch/out"
+}
+
+script_has_no_bad_line() {
+    why='the script has a bad line'
+    ./ipcsh <"$1" >"$scratch/out" 2>"$scratch/shown"
+}
+
+# tells_an_altered_answer VERDICT FILE..: the last answer 0 that is as defined becomes EPERM, which no such call is to be answered.
+tells_an_altered_answer() {
+    stored=$1
+    shift
+    mkdir -p "$scratch/altered"
+    cp "$@" "$scratch/altered"
+    sed -n 's/^\(.* \)\{0,1\}line \([0-9]*\) .* = 0: as defined (.*/\2 \1/p' "$stored" >"$scratch/answers"
+    why='no line to alter'
+    altered=
+    while read -r line file; do
+        target=$scratch/altered/${file:-${1##*/}}
+        ! sed -n "${line}p" "$target" | grep -q ' = 0$' || altered="$line $target"
+    done <"$scratch/answers"
+    [ -n "$altered" ] || return 1
+    line=${altered%% *}
+    target=${altered#* }
+    sed "${line}s/ = 0\$/ = -1 EPERM (Operation not permitted)/" "$target" >"$scratch/other"
+    mv "$scratch/other" "$target"
+    result=0
+    traced 1 "$scratch"/altered/* && tells_otherwise "$line" || result=1
+    rm -r "$scratch/altered"
+    return "$result"
+}
+
+# tells_otherwise LINE: the output says of this line that the definitions answer something else.
+tells_otherwise() {
+    why="line $1 isn't told"
+    cp "$scratch/out" "$scratch/shown"
+    grep -q "line $1 .* = -1 EPERM (Operation not permitted) but the definitions " "$scratch/out"
+}
+
+# bad_traces: a trace that can't be read, or not whole.
+bad_traces() {
+    bad=$scratch/bad.strace
+    : >"$bad"
+    attempt 'an empty file' says 2 'bad.strace: it is empty' "$bad"
+    head -c 4096 /dev/urandom | tr -d '\n' >"$bad"
+    attempt 'random bytes' says 2 'bad.strace: it is no trace: none of its lines is one of strace' "$bad"
+    attempt 'a document' says 2 'README.md: it is no trace' README.md
+    attempt 'no file' says 2 'no-such-file: No such file or directory' no-such-file
+    attempt 'a folder' says 2 'checks: Is a directory' checks
+    attempt 'several files without times' says 2 'its lines have no times' examples/traces/wait.strace examples/traces/stderr.strace
+    attempt 'an unknown word' says 3 'unrecognized arguments: --foo' --foo
+    attempt 'an unknown capability' says 3 'argument --caps' --caps=KILL README.md
+    printf 'msgget(0x5, IPC_CREAT|0600) = 0\nmsgsnd(0, {mtype=1, mtext="hel' >"$bad"
+    attempt 'a line that is cut' says 0 '^line 2 msgsnd(0, {mtype=1, mtext="hel: not taken: the line is cut$' "$bad"
+    attempt 'a line that is cut is counted' says 0 '^1 call: 1 as defined, 0 otherwise, 0 not taken; 1 other line not taken$' "$bad"
+    printf 'msgget(0x5, IPC_CREAT|0600) = 0\n\001\377 not of strace\n' >"$bad"
+    attempt 'a line that is none of strace' says 0 '^line 2 .*: not taken: no line of strace$' "$bad"
+    attempt 'an object made before' says 0 'not taken: object made before the trace$' -- "$(written 'msgctl(7, IPC_RMID, NULL) = 0')"
+    attempt 'values that strace hides' says 0 "not taken: strace doesn't write the values of SETALL" -- "$(written \
+        'semget(0x5, 1, IPC_CREAT|0600) = 0
+semctl(0, 0, SETALL, 0x7ffd7e3c6a40) = 0')"
+    open_calls
+    attempt '65 processes' says 0 '^line 65 \[pid 65\] .*: not taken: process 65: a script has at most 64 clients$' "$(many_processes)"
+    attempt '65 processes are counted' says 0 '^65 calls: 64 as defined, 0 otherwise, 1 not taken; 1 process after the first 64 left out$' "$(many_processes)"
+}
+
+# open_calls: calls whose end isn't in the trace.
+open_calls() {
+    attempt 'a wait at the end' says 0 '^line 2 .*: as defined, it waits at the end of the trace$' -- "$(written \
+        'semget(0x5, 1, IPC_CREAT|0600) = 0
+semop(0, [{0, -1, SEM_UNDO}], 1 <unfinished ...>')"
+    attempt 'no wait at the end' says 1 '^line 2 .* but the definitions answer ok$' -- "$(written \
+        'semget(0x5, 1, IPC_CREAT|0600) = 0
+semop(0, [{0, 1, SEM_UNDO}], 1 <unfinished ...>')"
+    attempt 'a receive at the end' says 0 "^line 2 .*: not taken: it has no end, so strace didn't write what it asks for$" -- "$(written \
+        'msgget(0x5, IPC_CREAT|0600) = 0
+msgrcv(0,  <unfinished ...>')"
+    attempt 'an end without a beginning' says 0 "^line 2 .*: not taken: msgrcv resumed, whose beginning isn't there$" -- "$(written \
+        'msgget(0x5, IPC_CREAT|0600) = 0
+<... msgrcv resumed>{mtype=1, mtext="a"}, 9, 0, 0) = 1')"
+}
+
+# written TEXT: the file that has these lines.
+written() {
+    printf '%s\n' "$1" >"$scratch/bad.strace"
+    printf '%s\n' "$scratch/bad.strace"
+}
+
+many_processes() {
+    awk 'BEGIN { for (pid = 1; pid <= 65; pid++) printf "%d msgget(IPC_PRIVATE, 0600) = %d\n", pid, pid }' >"$scratch/many.strace"
+    printf '%s\n' "$scratch/many.strace"
+}
+
+# says STATUS LINE ARGUMENT..: a line of the output or of standard error is this.
+says() {
+    status=$1
+    line=$2
+    shift 2
+    traced "$status" "$@" || return 1
+    why="it doesn't say '$line'"
+    cat "$scratch/out" "$scratch/err" >"$scratch/shown"
+    grep -q -e "$line" "$scratch/shown"
+}

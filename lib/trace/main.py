@@ -1,0 +1,171 @@
+"""Says of a trace of strace whether the kernel answered what the definitions give: ./ipcsh_trace, whose --help has the words."""
+
+import argparse
+import os
+import pathlib
+import subprocess
+import sys
+
+sys.path.append(str(pathlib.Path(__file__).resolve().parent.parent))
+
+import lines
+import machine
+import orders
+import plan as plans
+import runs
+from creds import CAPABILITIES, Creds
+
+LIMITS = {"slots": 32000, "shmmax": 2**30}
+NAMES = ("slots", "first-seq", "msgmax", "msgmnb", "semmsl", "semopm", "shmmax")
+
+
+class Words(argparse.ArgumentParser):
+    """The words of the command line. Others end the program with status 3."""
+
+    def error(self, message):
+        print(f"ipcsh_trace: {message}; ./ipcsh_trace --help has the words", file=sys.stderr)
+        sys.exit(3)
+
+
+def words():
+    it = Words(add_help=False, allow_abbrev=False)
+    it.add_argument("--script", action="store_true")
+    it.add_argument("--uid", type=int)
+    it.add_argument("--gid", type=int)
+    it.add_argument("--groups", type=listed(int), default=[])
+    it.add_argument("--caps", type=listed(capability))
+    it.add_argument("--limit", type=limit, action="append", default=[])
+    it.add_argument("--output")
+    it.add_argument("--record", nargs=argparse.REMAINDER)
+    it.add_argument("files", nargs="*")
+    given = it.parse_args()
+    if given.record is not None and (given.files or not given.record):
+        it.error("--record takes a program and its arguments, and no file of a trace")
+    if given.output and given.record is None:
+        it.error("--output is of --record")
+    for name, number in [("--uid", given.uid), ("--gid", given.gid), *(("--groups", one) for one in given.groups)]:
+        if number is not None and not 0 <= number < 2**32:
+            it.error(f"{name}: {number} is no user or group")
+    return given
+
+
+def listed(kind):
+    """The type of a list with commas."""
+
+    def read(word):
+        return [kind(it) for it in word.split(",") if it]
+
+    read.__name__ = "list"
+    return read
+
+
+def capability(word):
+    if word not in CAPABILITIES:
+        raise ValueError(word)
+    return word
+
+
+def limit(word):
+    """A pair of a limit's name and its number."""
+    name, _, number = word.partition("=")
+    if name not in NAMES or not number.isdigit():
+        raise ValueError(word)
+    return name, int(number)
+
+
+def opening_of(given):
+    """The credentials that options give, and from where they are."""
+    if given.record:
+        return machine.credentials(), "those of this run"
+    user, group = given.uid or 0, given.gid or 0
+    caps = given.caps if given.caps is not None else CAPABILITIES if user == 0 else ()
+    is_default = given.uid is None and given.gid is None and not given.groups and given.caps is None
+    return Creds(user, group, given.groups, caps), "by default" if is_default else "by options"
+
+
+def run_of(path, records, opening, source, limits):
+    """The run of the plan whose order fits best."""
+    with_system = any(plans.needs_system(it) for it in records)
+    while True:
+        plan = plans.Plan(records, opening, source, with_system)
+        plan.needs_system = False
+        orders.ordered(path, plan, limits)
+        run = runs.Run(path, plan, limits).carry_out()
+        if with_system or not plan.needs_system:
+            return plan, run
+        with_system = True
+
+
+def text_of(record):
+    pid = f" [pid {record.pid}]" if record.pid else ""
+    return f"{record.place}{pid} {record.text or record.place.text.strip()}"
+
+
+def verdict_lines(plan, run):
+    """A line for each call, in the order of the trace, and for what isn't taken."""
+    clients = [f"client {it.name} is {runs.process_text(it)}: {it.opening}, {it.source}" for it in plan.clients.all]
+    found = [(step.record, *run.verdicts[step]) for step in plan.steps if step in run.verdicts]
+    told = [(record.at, f"{text_of(record)}{joined(is_so, text)}") for record, is_so, text in found]
+    told += [(record.at, f"{text_of(record)}: {text}") for record, text in plan.notes + run.notes]
+    return clients + [text for _, text in sorted(told, key=lambda it: it[0])]
+
+
+def joined(is_so, text):
+    if is_so is None:
+        return f": not taken: {text}"
+    return f": as defined{'' if text.startswith('(') else ','} {text}" if is_so else f" but {text}"
+
+
+def last_line(plan, run):
+    kinds = [it[0] for it in run.verdicts.values()]
+    other = sum(text.startswith("not taken") for _, text in plan.notes + run.notes)
+    counts = f"{len(kinds)} call{'s' * (len(kinds) != 1)}: {kinds.count(True)} as defined, {kinds.count(False)} otherwise, {kinds.count(None)} not taken"
+    more = [f"{other} other line{'s' * (other != 1)} not taken"] if other else []
+    if plan.clients.left_out:
+        more.append(f"{len(plan.clients.left_out)} process{'es' * (len(plan.clients.left_out) != 1)} after the first 64 left out")
+    if plan.skipped:
+        names = ", ".join(sorted(plan.skipped)[:3]) + (", .." if len(plan.skipped) > 3 else "")
+        more.append(f"{sum(plan.skipped.values())} calls of other kinds skipped ({names})")
+    return "; ".join([counts, *more])
+
+
+def check_whole(path, run):
+    """The script as a whole answers the same rows as line by line."""
+    script = "".join(f"{it}\n" for it in run.script)
+    it = subprocess.run([path], input=script.encode(), stdout=subprocess.PIPE, stderr=subprocess.PIPE, check=False)
+    if it.stdout.decode().splitlines() != run.rows:
+        raise runs.Stopped("ipcsh answers the whole script otherwise than line by line")
+
+
+def judge(given):
+    """The plan and the run of what the command line names."""
+    path = os.environ.get("IPCSH_PROGRAM") or str(pathlib.Path(__file__).resolve().parent.parent.parent / "ipcsh")
+    opening, source = opening_of(given)
+    with machine.trace(given.record, given.output) as file:
+        records = lines.read([file] if file else given.files, sys.stdin)
+    limits = {**LIMITS, **(machine.limits() if given.record else {}), **dict(given.limit)}
+    plan, run = run_of(path, records, opening, source, limits)
+    check_whole(path, run)
+    return plan, run
+
+
+def main():
+    given = words()
+    try:
+        plan, run = judge(given)
+    except lines.BadFile as why:
+        print(f"ipcsh_trace: {why}", file=sys.stderr)
+        return 2
+    except runs.Stopped as why:
+        print(f"ipcsh_trace: {why}", file=sys.stderr)
+        return 70
+    if given.script:
+        print("\n".join(run.script))
+        return 0
+    for line in [*verdict_lines(plan, run), last_line(plan, run)]:
+        print(line)
+    return 1 if any(it[0] is False for it in run.verdicts.values()) else 0
+
+
+if __name__ == "__main__":
+    sys.exit(main())

@@ -1,0 +1,206 @@
+"""The steps of a script, one for each call of a trace, each exit, and what a fork or an exec does with what is attached."""
+
+import re
+
+import creds
+import kernel
+from processes import Attachment, Clients, Group, Process
+from values import NotTaken, is_address, number
+
+CALLS = {*kernel.KINDS, "msgsnd", "msgrcv", "msgctl", "semop", "semtimedop", "semctl", "shmat", "shmdt", "shmctl"}
+WAITING = {"msgsnd", "msgrcv", "semop", "semtimedop"}
+FORKS = {"fork", "vfork", "clone", "clone3"}
+NOT_IN_THE_END = re.compile(r"ERESTART\w*$|EINTR$")
+
+
+class Step:
+    """A line of the script, or several: what it does, and the record that it is of. `position` is where among the lines of the trace it is
+    done, which is between `record.at` and `record.until`, or of an exit between `since` and there."""
+
+    def __init__(self, kind, record, client, since=None):
+        self.kind, self.record, self.client = kind, record, client
+        self.since = record.at if since is None else since
+        self.until = record.until
+        self.position = record.at
+        self.attachment, self.attachments, self.words, self.group = None, [], [], None
+
+    @property
+    def floats(self):
+        return self.until > self.since and self.kind in ("call", "exit")
+
+
+def was_interrupted(record):
+    return record.error is not None and NOT_IN_THE_END.match(record.error) is not None
+
+
+def has_timeout(record):
+    return record.name == "semtimedop" and len(record.words) > 3 and record.words[3] != "NULL"
+
+
+def needs_system(record):
+    """Whether the script needs a client of its own for it: to interrupt its wait, or to let its time pass."""
+    if record.kind != "call" or record.name not in WAITING:
+        return False
+    return was_interrupted(record) or record.result in (None, "?") or (has_timeout(record) and record.error == "EAGAIN")
+
+
+class Plan:
+    """Goes through the records once. `notes` has what isn't a step: pairs of a record and a text."""
+
+    def __init__(self, records, opening, source, with_system):
+        self.records, self.opening, self.source = records, opening, source
+        self.clients, self.steps, self.notes, self.skipped = Clients(), [], [], {}
+        self.clients.keeps_one = with_system
+        self.living, self.first = {}, None
+        self.calling = {it.pid for it in records if it.kind == "call" and it.name in CALLS}
+        self.births = {it.answer: it for it in records if it.kind == "call" and it.name in FORKS and it.answer}
+        for record in records:
+            self.take(record)
+
+    def take(self, record):
+        if record.kind == "resumed":
+            return
+        process = self.process_of(record)
+        if record.kind == "end":
+            self.end(record, process)
+        elif record.kind == "other":
+            self.notes.append((record, f"not taken: {record.reason}"))
+        elif record.kind == "call":
+            try:
+                self.call(record, process)
+            except (NotTaken, ValueError, IndexError) as why:
+                self.notes.append((record, f"not taken: {reason(why)}"))
+        process.last_at = max(process.last_at, record.at if record.kind == "end" else record.until)
+
+    def process_of(self, record):
+        process = self.living.get(record.pid)
+        if process is None:
+            process = Process(record.pid, *self.credentials(record), Group())
+            process.first_at = record.at
+            self.living[record.pid] = process
+            self.first = self.first or process
+        return process
+
+    def credentials(self, record):
+        """Those of a process of which no call tells that it was born: as options say, or as the first process has them, and as its own calls
+        tell before one changes them."""
+        now = (self.first.creds if self.first else self.opening).copy()
+        source = "as the first process" if self.first else self.source
+        for it in self.records[record.at :] if record.at < len(self.records) else []:
+            if it.pid != record.pid or it.kind != "call":
+                continue
+            if it.name in creds.SETTERS or (it.name == "execve" and it is not record):
+                break
+            if it.name in creds.READERS and it.answer is not None:
+                before = now.key()
+                self.read(now, it)
+                if it.name in ("geteuid", "getresuid") and now.user != 0 and before != now.key() and self.source == "by default":
+                    now.caps = now.permitted = frozenset()
+                source = f"{it.place}" if before != now.key() else source
+        return now, source
+
+    def read(self, now, record):
+        try:
+            creds.read_into(now, record)
+        except (NotTaken, ValueError, IndexError):
+            pass
+
+    def call(self, record, process):
+        if record.name in CALLS:
+            self.steps.append(self.step(record, process))
+        elif record.name in creds.READERS:
+            if record.answer is not None:
+                self.read(process.creds, record)
+        elif record.name in creds.SETTERS:
+            self.change(record, process)
+        elif record.name in FORKS:
+            self.fork(record, process)
+        elif record.name == "execve":
+            self.exec(record, process)
+        else:
+            self.skipped[record.name] = self.skipped.get(record.name, 0) + 1
+
+    def client(self, process):
+        client = self.clients.of(process)
+        if client is None:
+            raise NotTaken(f"process {self.clients.left_out[process.pid] + len(self.clients.all)}: a script has at most 64 clients")
+        return client
+
+    def step(self, record, process):
+        try:
+            step = Step("call", record, self.client(process))
+        except NotTaken as why:
+            step = Step("untaken", record, None)
+            step.why = reason(why)
+            return step
+        if record.name == "shmat":
+            step.attachment = Attachment(step.client, record.words[0], number(record.words[2]))
+            if re.match("0x", record.result or ""):
+                process.group.attached[record.result] = step.attachment
+        elif record.name == "shmdt" and is_address(record.words[0]):
+            attached = process.group.attached
+            step.attachment = attached.pop(record.words[0], None) if record.answer == 0 else attached.get(record.words[0])
+            step.client = step.attachment.client if step.attachment else step.client
+        return step
+
+    def end(self, record, process):
+        process.has_ended = True
+        process.group.alive -= 1
+        del self.living[record.pid]
+        if process.group.alive or not process.group.clients:
+            return
+        step = Step("exit", record, None, process.last_at)
+        step.group = process.group
+        self.steps.append(step)
+
+    def fork(self, record, process):
+        """A new process or thread. A process has attached what its parent has, but where it shares the parent's memory."""
+        if not record.answer or record.answer in self.living:
+            return
+        is_thread = "CLONE_THREAD" in record.text
+        group = process.group if is_thread else Group()
+        child = Process(record.answer, process.creds.copy(), f"as process {record.pid} at {record.place}" if record.pid else f"as its parent at {record.place}", group)
+        child.first_at = record.at
+        self.living[child.pid] = child
+        if is_thread or record.name == "vfork" or "CLONE_VM" in record.text or not process.group.attached:
+            return
+        step = Step("inherit", record, self.client(child))
+        step.position = record.at
+        for address, it in process.group.attached.items():
+            group.attached[address] = Attachment(step.client, it.ident, it.flags)
+            step.attachments.append(group.attached[address])
+        self.steps.append(step)
+
+    def exec(self, record, process):
+        """execve detaches all that is attached."""
+        if record.answer != 0 or record.at == process.first_at:
+            return
+        process.creds.after_exec(self.opening.caps)
+        if process.group.attached:
+            step = Step("exec", record, None)
+            step.attachments = list(process.group.attached.values())
+            process.group.attached = {}
+            self.steps.append(step)
+
+    def change(self, record, process):
+        """A call that changes credentials: a setcreds where that says the same, and else the process goes on as another client."""
+        if record.pid not in self.calling:
+            return
+        users, groups, extra = creds.asked(process.creds, record)
+        now, after = process.creds, creds.followed(process.creds, record)
+        only_effective = all(it[0] == was[0] and it[2] == was[2] for it, was in ((users, now.users), (groups, now.groups_of_ids)))
+        if record.name != "capset" and only_effective and (record.error or after.caps == now.caps) and len(extra or ()) <= 32:
+            step = Step("creds", record, self.client(process))
+            step.words = ["setcreds", str(users[1]), str(groups[1])] + ([] if extra is None else ["groups=" + (",".join(map(str, extra)) or "-")])
+            self.steps.append(step)
+            if not record.error:
+                process.creds, process.client.now = after, after.copy()
+        elif record.error:
+            raise NotTaken("setcreds doesn't change real and saved users, nor capabilities")
+        else:
+            process.creds, process.source = after, f"{record.place}"
+            self.notes.append((record, f"followed: {after}"))
+
+
+def reason(why):
+    return str(why) if isinstance(why, NotTaken) else "strace's line has another form"

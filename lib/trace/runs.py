@@ -1,0 +1,246 @@
+"""A run of a plan's steps by the program, line by line, since the identifiers of later lines are those that it answers."""
+
+import os
+import subprocess
+
+from calls import Objects, judged, octal, remark, timeout_of, words_of
+from plan import has_timeout, was_interrupted
+from processes import SYSTEM
+from values import NotTaken
+
+# A line that the program answers without an event: so all rows of the line before it are read.
+MARK = "?"
+# Limits of the language where no line sets them.
+DEFAULTS = {"msgmax": 8192, "semopm": 500}
+
+
+class Stopped(Exception):
+    """The program can't be run, or has ended; its text says why."""
+
+
+class Program:
+    """./ipcsh, which is given a line and answers its rows."""
+
+    def __init__(self, path):
+        self.process = subprocess.Popen([path], stdin=subprocess.PIPE, stdout=subprocess.PIPE, stderr=subprocess.DEVNULL, bufsize=0)
+        self.count, self.text = 0, b""
+
+    def ask(self, line):
+        """The rows of a line."""
+        try:
+            self.process.stdin.write(f"{line}\n{MARK}\n".encode())
+        except BrokenPipeError:
+            self.stopped()
+        self.count += 2
+        end = f"line {self.count}: ".encode()
+        rows = []
+        while not rows or not rows[-1].startswith(end):
+            rows.append(self.row())
+        return [it.decode() for it in rows[:-1]]
+
+    def row(self):
+        while b"\n" not in self.text:
+            more = os.read(self.process.stdout.fileno(), 1 << 16)
+            if not more:
+                self.stopped()
+            self.text += more
+        row, self.text = self.text.split(b"\n", 1)
+        return row
+
+    def stopped(self):
+        raise Stopped(f"ipcsh ended with status {self.process.wait()}; try ./ipcsh < examples/first-run.ipcsh")
+
+    def end(self):
+        self.process.stdin.close()
+        self.process.stdout.close()
+        self.process.wait()
+
+
+class Otherwise(Exception):
+    """The first call that is answered otherwise, where the run was to stop there."""
+
+    def __init__(self, step):
+        super().__init__()
+        self.step = step
+
+
+class Run:
+    """One run. `verdicts` has for each step whether it is as defined, None where it isn't taken, and the text that says so."""
+
+    def __init__(self, path, plan, limits, stops_at=None):
+        self.plan, self.limits, self.program = plan, limits, Program(path)
+        self.objects, self.numbers, self.answers, self.waiting, self.verdicts = Objects(), {}, {}, {}, {}
+        self.objects.msgmax, self.objects.semopm = (limits.get(it, DEFAULTS[it]) for it in ("msgmax", "semopm"))
+        self.script, self.rows, self.notes, self.now, self.stops_at = [], [], [], 0, stops_at
+        self.deadlines, self.ended_by_exit = {}, set()
+        self.began = next((it.stamp for it in plan.records if it.stamp is not None), 0)
+
+    def carry_out(self):
+        try:
+            self.head()
+            for step, is_end in schedule(self.plan.steps):
+                (self.finish if is_end else self.begin)(step)
+        finally:
+            self.program.end()
+        return self
+
+    def head(self):
+        for name, value in self.limits.items():
+            if DEFAULTS.get(name) != value:
+                self.send(f"limit {name} {value}")
+        for client in self.plan.clients.all:
+            self.send(client.line(), f"{client.name} is {process_text(client)}: {client.opening}, {client.source}")
+        if self.plan.clients.keeps_one:
+            self.send(f"client {SYSTEM} 0 0 caps=SYS_ADMIN", f"{SYSTEM} interrupts calls, and lets the time pass")
+
+    def send(self, line, comment=None, step=None):
+        """Writes a line, and keeps what it answered: to the step itself, and to those whose wait it ended."""
+        if comment:
+            self.script.append(f"# {comment}"[:160].rstrip())
+        self.script.append(line)
+        own = None
+        for row in self.program.ask(line):
+            if row.startswith("line "):
+                own = row
+                continue
+            self.rows.append(row)
+            if row.startswith("  "):
+                continue
+            head, name, text = row.split(" ", 2)
+            if head.endswith(".0") or head == "-":
+                own = text
+            elif name in self.waiting:
+                self.answers[self.waiting.pop(name)] = (text, step)
+        return own
+
+    def pass_time(self, step):
+        """The clock goes on to when the step came, but never to a deadline that the trace hasn't reached. It counts nanoseconds, and stands
+        where nothing asks for it."""
+        if step.record.stamp is None or not (self.deadlines or has_timeout(step.record)):
+            return
+        now = int((step.record.stamp - self.began) * 10**9)
+        now = min([now, *(it - 1 for it in self.deadlines.values())])
+        if now > self.now:
+            self.now = now
+            self.send(f"clock {now}")
+
+    def begin(self, step):
+        if step.kind == "untaken":
+            self.not_taken(step, step.why)
+            return
+        {"call": self.call, "creds": self.call, "exit": self.exit, "inherit": self.inherit, "exec": self.exec}[step.kind](step)
+
+    def not_taken(self, step, why):
+        self.verdicts[step] = (None, why)
+        if step.kind != "creds":
+            self.objects.not_taken(step.record)
+
+    def call(self, step):
+        try:
+            words = step.words or words_of(step, self.objects, self.numbers)
+        except NotTaken as why:
+            self.not_taken(step, str(why))
+            return
+        except (ValueError, KeyError, IndexError, TypeError):
+            self.not_taken(step, "strace's line has another form")
+            return
+        if step.client.name in self.waiting:
+            self.not_taken(step, f"the definitions let {step.client.name} wait in the call of {self.waiting[step.client.name].record.place}")
+            return
+        self.pass_time(step)
+        if words[0] == "semtimedop":
+            self.deadlines[step] = min(self.now + timeout_of(step.record), 2**64 - 1)
+        own = self.send(" ".join([step.client.name, *words]), f"{step.record.place}: {step.record.text}", step)
+        if own == "waits":
+            self.waiting[step.client.name] = step
+        elif own is None or own.startswith("line "):
+            self.not_taken(step, f"the language doesn't take it: {own}")
+        else:
+            self.answers[step] = (own, None)
+            if own.startswith("attached "):
+                self.numbers[step.attachment] = int(own.split()[1])
+
+    def system(self, line, step):
+        """A line of the client that interrupts calls and lets time pass; False where the script hasn't this client yet."""
+        if self.plan.clients.keeps_one:
+            self.send(f"{SYSTEM} {line}", f"{step.record.place}: {step.record.result or 'it has no end'}", step)
+        return self.plan.clients.keeps_one
+
+    def interrupt(self, client, step):
+        return self.system(f"interrupt {self.plan.clients.number(client)}", step)
+
+    def finish(self, step):
+        """The end of a call: here at the latest it must be answered."""
+        if step.kind not in ("call", "creds") or step in self.verdicts:
+            return
+        record = step.record
+        deadline = self.deadlines.pop(step, None)
+        if step not in self.answers:
+            if was_interrupted(record):
+                self.interrupt(step.client, step)
+            elif deadline is not None and record.error == "EAGAIN" and self.plan.clients.keeps_one:
+                self.now = max(self.now, deadline)
+                self.send(f"clock {self.now}")
+                self.system(f"interrupt {len(self.plan.clients.all) + 1}", step)
+        self.verdicts[step] = self.verdict(step)
+        if self.stops_at is not None and self.verdicts[step][0] is False and step not in self.stops_at:
+            raise Otherwise(step)
+
+    def verdict(self, step):
+        record = step.record
+        if step not in self.answers:
+            if record.result is None:
+                return True, "it waits at the end of the trace"
+            self.plan.needs_system = True
+            self.interrupt(step.client, step)
+            return False, "the definitions let it wait"
+        row, ended_by = self.answers[step]
+        if step in self.ended_by_exit or record.result in (None, "?") and row.endswith(" interrupted"):
+            return True, "it waits until its process ends"
+        is_so, text = judged(record, row, self.objects)
+        if ended_by and ended_by is not step and is_so:
+            text += f", after a wait that {cause(ended_by)} ends"
+        return is_so, text + (remark(record) if is_so and not record.error else "")
+
+    def exit(self, step):
+        for client in step.group.clients:
+            waiting = self.waiting.get(client.name)
+            if waiting:
+                self.ended_by_exit.add(waiting)
+                if not self.interrupt(client, step):
+                    continue
+            self.send(f"{client.name} exit", f"{step.record.place}: {step.record.place.text.strip()}", step)
+
+    def inherit(self, step):
+        """A new process has attached what its parent has."""
+        comment = f"{step.record.place}: the new process has attached what its parent has"
+        for it in step.attachments:
+            ident = self.objects.own.get(("m", int(it.ident)))
+            own = self.send(f"{it.client.name} shmat {ident} {octal(it.flags)}", comment, step) if ident is not None else None
+            if own and own.startswith("attached "):
+                self.numbers[it] = int(own.split()[1])
+            elif own:
+                self.notes.append((step.record, f"not taken: the new process can't attach the segment again: {own}"))
+
+    def exec(self, step):
+        for it in step.attachments:
+            if it in self.numbers:
+                self.send(f"{it.client.name} shmdt {self.numbers[it]}", f"{step.record.place}: execve detaches", step)
+
+
+def process_text(client):
+    return f"process {client.process.pid}" if client.process.pid else "the process"
+
+
+def cause(step):
+    name = step.record.name or "exit"
+    return f"{step.record.place}{f' [pid {step.record.pid}]' if step.record.pid else ''} {name}"
+
+
+def schedule(steps):
+    """The steps in their order, each call twice: where it is made, and where it has ended."""
+    found = []
+    for at, step in enumerate(steps):
+        found.append((step.position, 0, at, step))
+        found.append((max(step.until + 0.4, step.position), 1, at, step))
+    return [(step, is_end == 1) for _, is_end, _, step in sorted(found, key=lambda it: it[:3])]

@@ -1,0 +1,103 @@
+"""Arguments as strace writes them: numbers, flags by name, texts, lists and structures."""
+
+import re
+
+NUMBERS = {"NULL": 0, "IPC_PRIVATE": 0, "IPC_CREAT": 0o1000, "IPC_EXCL": 0o2000, "IPC_NOWAIT": 0o4000}
+NUMBERS.update({"MSG_NOERROR": 0o10000, "MSG_EXCEPT": 0o20000, "MSG_COPY": 0o40000, "SEM_UNDO": 0o10000})
+NUMBERS.update({"SHM_RDONLY": 0o10000, "SHM_RND": 0o20000, "SHM_REMAP": 0o40000, "SHM_EXEC": 0o100000})
+NUMBERS.update({"SHM_HUGETLB": 0o4000, "SHM_NORESERVE": 0o10000, "SHM_DEST": 0o1000, "SHM_LOCKED": 0o2000})
+ESCAPES = {"n": 10, "t": 9, "r": 13, "v": 11, "f": 12, "a": 7, "b": 8, "e": 27, "\\": 92, '"': 34}
+OPENING, CLOSING = "([{", ")]}"
+STRING = re.compile(r'"(?:[^"\\]|\\.)*"(?:\.\.\.)?', re.S)
+
+
+class NotTaken(Exception):
+    """A line or a call that can't be translated; its text is the reason."""
+
+
+class Text:
+    """The bytes of a string, of which strace may have cut the end."""
+
+    def __init__(self, word):
+        self.is_cut = word.endswith("...")
+        self.bytes = unescaped(word.rstrip(".")[1:-1])
+
+
+def unescaped(body):
+    """The bytes of a C string's body."""
+    found = bytearray()
+    for it in re.finditer(r"\\x([0-9a-fA-F]{1,2})|\\([0-7]{1,3})|\\(.)|(.)", body, re.S):
+        if it[1]:
+            found.append(int(it[1], 16))
+        elif it[2]:
+            found.append(int(it[2], 8) & 255)
+        else:
+            found.append(ESCAPES.get(it[3], ord(it[3][0]) & 255) if it[3] else ord(it[4]) & 255)
+    return bytes(found)
+
+
+def parts(text):
+    """The parts of a list between its commas, where these aren't inside a bracket or a string."""
+    found, depth, begin, at = [], 0, 0, 0
+    while at < len(text):
+        string = STRING.match(text, at) if text[at] == '"' else None
+        depth += (text[at] in OPENING) - (text[at] in CLOSING)
+        if text[at] == "," and depth == 0:
+            found.append(text[begin:at].strip())
+            begin = at + 1
+        at = string.end() if string else at + 1
+    last = text[begin:].strip()
+    return found + [last] if last or found else []
+
+
+def number(word):
+    """A number, or flags by name and number, as 0600, 0x5, -1 or IPC_CREAT|0600."""
+    total = 0
+    for part in re.sub(r"/\*.*?\*/", "", word).split("|"):
+        part = part.strip()
+        if part in NUMBERS:
+            total |= NUMBERS[part]
+        elif re.fullmatch(r"-?\d+<<\w+", part):
+            continue
+        elif re.fullmatch(r"-?(0x[0-9a-fA-F]+|\d+)", part):
+            digits = part.lstrip("-")
+            value = int(digits, 16 if digits[:2] == "0x" else 8 if digits[0] == "0" else 10)
+            total = total | value if value >= 0 and part[0] != "-" else -value
+        else:
+            raise NotTaken(f"'{word}' is no number that is known")
+    return total
+
+
+def value(word):
+    """An argument: None for an address, a number, a Text, a list, or a structure as a dictionary. `...` in a list is Ellipsis."""
+    if word == "...":
+        return ...
+    if word[:1] == '"':
+        return Text(word)
+    if word[:1] in ("{", "[") and word[-1:] in ("}", "]"):
+        items = parts(word[1:-1])
+        if items and all(re.match(r"\w+=", it) or it == "..." for it in items):
+            return {it.split("=", 1)[0]: it.split("=", 1)[1] for it in items if it != "..."}
+        return [value(it) for it in items]
+    return number(word)
+
+
+def numbers(word):
+    """The numbers of a list; a list that strace cut can't be translated."""
+    found = value(word)
+    if not isinstance(found, list) or ... in found:
+        raise NotTaken("strace cut the list: record with -v")
+    return found
+
+
+def is_address(word):
+    return re.fullmatch(r"0x[0-9a-fA-F]{5,}", word) is not None
+
+
+def int32(found):
+    """A number of 32 bits as the kernel reads it, with its sign."""
+    return (found + 2**31) % 2**32 - 2**31
+
+
+def int64(found):
+    return (found + 2**63) % 2**64 - 2**63
