@@ -92,6 +92,7 @@ bad_traces() {
     attempt 'several files without times' says 2 'its lines have no times' examples/traces/wait.strace examples/traces/stderr.strace
     attempt 'an unknown word' says 3 'unrecognized arguments: --foo' --foo
     attempt 'an unknown capability' says 3 'argument --caps' --caps=KILL README.md
+    attempt 'a limit out of its range' says 3 "'limit msgmax 0' isn't taken by the language" --limit=msgmax=0 examples/traces/wait.strace
     printf 'msgget(0x5, IPC_CREAT|0600) = 0\nmsgsnd(0, {mtype=1, mtext="hel' >"$bad"
     attempt 'a line that is cut' says 0 '^line 2 msgsnd(0, {mtype=1, mtext="hel: not taken: the line is cut$' "$bad"
     attempt 'a line that is cut is counted' says 0 '^1 call: 1 as defined, 0 otherwise, 0 not taken; 1 other line not taken$' "$bad"
@@ -102,8 +103,8 @@ bad_traces() {
         'semget(0x5, 1, IPC_CREAT|0600) = 0
 semctl(0, 0, SETALL, 0x7ffd7e3c6a40) = 0')"
     open_calls
-    attempt '65 processes' says 0 '^line 65 \[pid 65\] .*: not taken: process 65: a script has at most 64 clients$' "$(many_processes)"
-    attempt '65 processes are counted' says 0 '^65 calls: 64 as defined, 0 otherwise, 1 not taken; 1 process after the first 64 left out$' "$(many_processes)"
+    attempt '65 processes' says 0 '^line 65 \[pid 65\] .*: not taken: a script has at most 64 clients, and all are taken$' "$(many_processes)"
+    attempt '65 processes are counted' says 0 '^65 calls: 64 as defined, 0 otherwise, 1 not taken; 1 process left out, since a script has at most 64 clients$' "$(many_processes)"
 }
 
 # open_calls: calls whose end isn't in the trace.

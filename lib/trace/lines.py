@@ -1,5 +1,6 @@
 """The lines of a trace: calls, ends and births of processes, in the order in which they came, and lines that are none of these."""
 
+import bisect
 import pathlib
 import re
 
@@ -53,8 +54,8 @@ class Record:
     @property
     def answer(self):
         """The number that the call answered; None where it failed or didn't end."""
-        found = re.match(r"(-?\d+|0x[0-9a-f]+)", self.result or "")
-        return int(found[1], 0) if found and not self.error else None
+        found = re.match(r"(0x[0-9a-f]+|\d+)", self.result or "")
+        return int(found[1], 0) if found else None
 
     @property
     def is_split(self):
@@ -197,6 +198,7 @@ def merged(files):
         if any(it.stamp is None for it in records):
             raise BadFile(f"{path}: its lines have no times: record several files with -ff -ttt")
     together = sorted((it for _, records in files for it in records), key=lambda it: it.stamp)
+    stamps = [it.stamp for it in together]
     for at, record in enumerate(together):
         record.at = record.until = at
     for _, records in files:
@@ -205,8 +207,8 @@ def merged(files):
                 continue
             record.until = following.at - (record.result != "?") if following else len(together)
             if record.duration is not None:
-                end = record.stamp + record.duration
-                record.until = max(record.at, min(record.until, sum(it.stamp <= end for it in together) - 1))
+                ended = bisect.bisect_right(stamps, record.stamp + record.duration) - 1
+                record.until = max(record.at, min(record.until, ended))
     return together
 
 

@@ -83,14 +83,14 @@ def opening_of(given):
     return Creds(user, group, given.groups, caps), "by default" if is_default else "by options"
 
 
-def run_of(path, records, opening, source, limits):
+def run_of(program, records, opening, source, limits):
     """The run of the plan whose order fits best."""
     with_system = any(plans.needs_system(it) for it in records)
     while True:
         plan = plans.Plan(records, opening, source, with_system)
+        orders.ordered(program, plan, limits)
         plan.needs_system = False
-        orders.ordered(path, plan, limits)
-        run = runs.Run(path, plan, limits).carry_out()
+        run = runs.Run(program, plan, limits).carry_out()
         if with_system or not plan.needs_system:
             return plan, run
         with_system = True
@@ -122,7 +122,8 @@ def last_line(plan, run):
     counts = f"{len(kinds)} call{'s' * (len(kinds) != 1)}: {kinds.count(True)} as defined, {kinds.count(False)} otherwise, {kinds.count(None)} not taken"
     more = [f"{other} other line{'s' * (other != 1)} not taken"] if other else []
     if plan.clients.left_out:
-        more.append(f"{len(plan.clients.left_out)} process{'es' * (len(plan.clients.left_out) != 1)} after the first 64 left out")
+        count = len(plan.clients.left_out)
+        more.append(f"{count} process{'es' * (count != 1)} left out, since a script has at most 64 clients")
     if plan.skipped:
         names = ", ".join(sorted(plan.skipped)[:3]) + (", .." if len(plan.skipped) > 3 else "")
         more.append(f"{sum(plan.skipped.values())} calls of other kinds skipped ({names})")
@@ -144,7 +145,7 @@ def judge(given):
     with machine.trace(given.record, given.output) as file:
         records = lines.read([file] if file else given.files, sys.stdin)
     limits = {**LIMITS, **(machine.limits() if given.record else {}), **dict(given.limit)}
-    plan, run = run_of(path, records, opening, source, limits)
+    plan, run = run_of(runs.Program(path), records, opening, source, limits)
     check_whole(path, run)
     return plan, run
 
@@ -156,6 +157,9 @@ def main():
     except lines.BadFile as why:
         print(f"ipcsh_trace: {why}", file=sys.stderr)
         return 2
+    except runs.BadLine as why:
+        print(f"ipcsh_trace: {why}", file=sys.stderr)
+        return 3
     except runs.Stopped as why:
         print(f"ipcsh_trace: {why}", file=sys.stderr)
         return 70

@@ -53,7 +53,6 @@ class Plan:
         self.clients.keeps_one = with_system
         self.living, self.first = {}, None
         self.calling = {it.pid for it in records if it.kind == "call" and it.name in CALLS}
-        self.births = {it.answer: it for it in records if it.kind == "call" and it.name in FORKS and it.answer}
         for record in records:
             self.take(record)
 
@@ -70,7 +69,7 @@ class Plan:
                 self.call(record, process)
             except (NotTaken, ValueError, IndexError) as why:
                 self.notes.append((record, f"not taken: {reason(why)}"))
-        process.last_at = max(process.last_at, record.at if record.kind == "end" else record.until)
+        process.last_at = max(process.last_at, record.at if record.kind == "end" or record.result in (None, "?") else record.until)
 
     def process_of(self, record):
         process = self.living.get(record.pid)
@@ -123,7 +122,7 @@ class Plan:
     def client(self, process):
         client = self.clients.of(process)
         if client is None:
-            raise NotTaken(f"process {self.clients.left_out[process.pid] + len(self.clients.all)}: a script has at most 64 clients")
+            raise NotTaken("a script has at most 64 clients, and all are taken")
         return client
 
     def step(self, record, process):
@@ -149,9 +148,17 @@ class Plan:
         del self.living[record.pid]
         if process.group.alive or not process.group.clients:
             return
-        step = Step("exit", record, None, process.last_at)
+        step = Step("exit", record, None, self.earliest_exit(record, process))
         step.group = process.group
         self.steps.append(step)
+
+    def earliest_exit(self, record, process):
+        """From where on a process may have ended: strace may write a line of each other process before it writes the end."""
+        seen, at = set(), record.at
+        while at - 1 > process.last_at and self.records[at - 1].pid not in seen:
+            at -= 1
+            seen.add(self.records[at].pid)
+        return at - 1 if at < record.at else record.at
 
     def fork(self, record, process):
         """A new process or thread. A process has attached what its parent has, but where it shares the parent's memory."""
@@ -159,7 +166,8 @@ class Plan:
             return
         is_thread = "CLONE_THREAD" in record.text
         group = process.group if is_thread else Group()
-        child = Process(record.answer, process.creds.copy(), f"as process {record.pid} at {record.place}" if record.pid else f"as its parent at {record.place}", group)
+        source = f"as {f'process {record.pid}' if record.pid else 'its parent'} at {record.place}"
+        child = Process(record.answer, process.creds.copy(), source, group)
         child.first_at = record.at
         self.living[child.pid] = child
         if is_thread or record.name == "vfork" or "CLONE_VM" in record.text or not process.group.attached:

@@ -56,7 +56,7 @@ class Clients:
     """All clients, of which there are at most 64."""
 
     def __init__(self):
-        self.all, self.names, self.left_out, self.keeps_one = [], set(), {}, False
+        self.all, self.names, self.left_out, self.keeps_one = [], set(), set(), False
 
     def name_for(self, pid):
         base = f"p{pid}" if pid else "first"
@@ -73,7 +73,7 @@ class Clients:
         if client and client.now.key() == process.creds.key():
             return client
         if process.pid in self.left_out or len(self.all) >= CLIENTS - self.keeps_one:
-            self.left_out.setdefault(process.pid, len(self.left_out) + 1)
+            self.left_out.add(process.pid)
             return None
         client = Client(self.name_for(process.pid), process, process.creds)
         self.names.add(client.name)

@@ -2,6 +2,7 @@
 
 import os
 import subprocess
+import threading
 
 from calls import Objects, judged, octal, remark, timeout_of, words_of
 from plan import has_timeout, was_interrupted
@@ -18,42 +19,75 @@ class Stopped(Exception):
     """The program can't be run, or has ended; its text says why."""
 
 
+class BadLine(Exception):
+    """A limit or a client that the language doesn't take."""
+
+
 class Program:
-    """./ipcsh, which is given a line and answers its rows."""
+    """./ipcsh, and what it has answered so far: `known` has for each first line its rows and what is known of the lines after it. The program
+    answers the same lines the same, so a run that begins as an earlier one asks it from the first other line on."""
 
     def __init__(self, path):
-        self.process = subprocess.Popen([path], stdin=subprocess.PIPE, stdout=subprocess.PIPE, stderr=subprocess.DEVNULL, bufsize=0)
-        self.count, self.text = 0, b""
+        self.path, self.known = path, {}
+
+
+class Session:
+    """A run of the program, which is given a line and answers its rows."""
+
+    def __init__(self, program):
+        self.program, self.known, self.lines = program, program.known, []
+        self.process, self.count, self.text = None, 0, b""
 
     def ask(self, line):
         """The rows of a line."""
+        if line not in self.known:
+            if self.process is None:
+                self.start()
+            self.known[line] = (self.answer([line])[-1], {})
+        rows, self.known = self.known[line]
+        self.lines.append(line)
+        return rows
+
+    def start(self):
+        """Starts the program, and lets it answer the lines that it has answered before."""
+        self.process = subprocess.Popen([self.program.path], stdin=subprocess.PIPE, stdout=subprocess.PIPE, stderr=subprocess.DEVNULL, bufsize=0)
+        self.answer(self.lines)
+
+    def answer(self, lines):
+        """The rows of each of these lines. They are written beside, as the program may wait until its rows are read."""
+        writer = threading.Thread(target=self.write, args=("".join(f"{it}\n{MARK}\n" for it in lines).encode(),))
+        writer.start()
+        found = []
+        for _ in lines:
+            self.count += 2
+            end, rows = f"line {self.count}: ".encode(), []
+            while not rows or not rows[-1].startswith(end):
+                rows.append(self.row())
+            found.append([it.decode() for it in rows[:-1]])
+        writer.join()
+        return found
+
+    def write(self, text):
         try:
-            self.process.stdin.write(f"{line}\n{MARK}\n".encode())
+            while text:
+                text = text[self.process.stdin.write(text) :]
         except BrokenPipeError:
-            self.stopped()
-        self.count += 2
-        end = f"line {self.count}: ".encode()
-        rows = []
-        while not rows or not rows[-1].startswith(end):
-            rows.append(self.row())
-        return [it.decode() for it in rows[:-1]]
+            return
 
     def row(self):
         while b"\n" not in self.text:
             more = os.read(self.process.stdout.fileno(), 1 << 16)
             if not more:
-                self.stopped()
+                raise Stopped(f"ipcsh ended with status {self.process.wait()}; try ./ipcsh < examples/first-run.ipcsh")
             self.text += more
         row, self.text = self.text.split(b"\n", 1)
         return row
 
-    def stopped(self):
-        raise Stopped(f"ipcsh ended with status {self.process.wait()}; try ./ipcsh < examples/first-run.ipcsh")
-
     def end(self):
-        self.process.stdin.close()
-        self.process.stdout.close()
-        self.process.wait()
+        if self.process:
+            self.process.stdin.close()
+            self.process.stdout.close()
+            self.process.wait()
 
 
 class Otherwise(Exception):
@@ -67,8 +101,8 @@ class Otherwise(Exception):
 class Run:
     """One run. `verdicts` has for each step whether it is as defined, None where it isn't taken, and the text that says so."""
 
-    def __init__(self, path, plan, limits, stops_at=None):
-        self.plan, self.limits, self.program = plan, limits, Program(path)
+    def __init__(self, program, plan, limits, stops_at=None):
+        self.plan, self.limits, self.session = plan, limits, Session(program)
         self.objects, self.numbers, self.answers, self.waiting, self.verdicts = Objects(), {}, {}, {}, {}
         self.objects.msgmax, self.objects.semopm = (limits.get(it, DEFAULTS[it]) for it in ("msgmax", "semopm"))
         self.script, self.rows, self.notes, self.now, self.stops_at = [], [], [], 0, stops_at
@@ -81,17 +115,22 @@ class Run:
             for step, is_end in schedule(self.plan.steps):
                 (self.finish if is_end else self.begin)(step)
         finally:
-            self.program.end()
+            self.session.end()
         return self
 
     def head(self):
         for name, value in self.limits.items():
             if DEFAULTS.get(name) != value:
-                self.send(f"limit {name} {value}")
+                self.head_line(f"limit {name} {value}")
         for client in self.plan.clients.all:
-            self.send(client.line(), f"{client.name} is {process_text(client)}: {client.opening}, {client.source}")
+            self.head_line(client.line(), f"{client.name} is {process_text(client)}: {client.opening}, {client.source}")
         if self.plan.clients.keeps_one:
             self.send(f"client {SYSTEM} 0 0 caps=SYS_ADMIN", f"{SYSTEM} interrupts calls, and lets the time pass")
+
+    def head_line(self, line, comment=None):
+        answer = self.send(line, comment)
+        if answer:
+            raise BadLine(f"'{line}' isn't taken by the language: {answer}")
 
     def send(self, line, comment=None, step=None):
         """Writes a line, and keeps what it answered: to the step itself, and to those whose wait it ended."""
@@ -99,7 +138,7 @@ class Run:
             self.script.append(f"# {comment}"[:160].rstrip())
         self.script.append(line)
         own = None
-        for row in self.program.ask(line):
+        for row in self.session.ask(line):
             if row.startswith("line "):
                 own = row
                 continue

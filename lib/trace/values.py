@@ -1,5 +1,6 @@
 """Arguments as strace writes them: numbers, flags by name, texts, lists and structures."""
 
+import functools
 import re
 
 NUMBERS = {"NULL": 0, "IPC_PRIVATE": 0, "IPC_CREAT": 0o1000, "IPC_EXCL": 0o2000, "IPC_NOWAIT": 0o4000}
@@ -50,6 +51,7 @@ def parts(text):
     return found + [last] if last or found else []
 
 
+@functools.lru_cache(None)
 def number(word):
     """A number, or flags by name and number, as 0600, 0x5, -1 or IPC_CREAT|0600."""
     total = 0
@@ -68,6 +70,7 @@ def number(word):
     return total
 
 
+@functools.lru_cache(None)
 def value(word):
     """An argument: None for an address, a number, a Text, a list, or a structure as a dictionary. `...` in a list is Ellipsis."""
     if word == "...":
