@@ -26,6 +26,7 @@ programs_checks() {
     attempt 'the program behind is killed' outlives_the_program_behind
     attempt 'the program behind cannot be started' goes_on_without_a_program
     attempt 'ipcrun, its status and its words' ipcrun_tells_its_status
+    attempt 'a program that is linked statically' warns_of_a_static_program
     [ -n "${unproved-}" ] || unset IPCSH_PROGRAM
 }
 
@@ -98,7 +99,8 @@ goes_on_without_a_program() {
     status=0
     IPCSH_PROGRAM=$scratch/none timeout 60 ./ipcrun "$scratch/compiled" >"$scratch/out" 2>"$scratch/err" || status=$?
     same 'what it prints' checks/programs/waits.out "$scratch/out" || return 1
-    printf 'ipcrun: the program behind has ended (ipcsh: %s: No such file or directory); calls get EIO from now on\n' "$scratch/none" >"$scratch/wanted"
+    printf 'ipcrun: the program behind has ended (ipcsh: %s: No such file or directory); calls get EIO from now on\n' \
+        "$scratch/none" >"$scratch/wanted"
     same 'its standard error' "$scratch/wanted" "$scratch/err"
 }
 
@@ -116,6 +118,15 @@ ipcrun_tells_its_status() {
     ends_with 0 true && ends_with 1 false && ends_with 7 sh -c 'exit 7' && ends_with 64 && ends_with 64 --nothing && ends_with 64 --script &&
         ends_with 64 --script "$scratch/none/script" true && ends_with 127 no-such-program && ends_with 127 ./no-such-program &&
         ends_with 126 ./VERSION && ends_with 126 ./docs && ends_with 0 --help && ends_with 0 -- true && CC=no-such-cc ends_with 70 true
+}
+
+# Where the compiler can link statically: the calls are then the kernel's, and a line says so.
+warns_of_a_static_program() {
+    printf 'int main(void) { return 0; }\n' >"$scratch/static.c"
+    "${CC-cc}" -static -o "$scratch/static" "$scratch/static.c" 2>/dev/null || return 0
+    ends_with 0 "$scratch/static" || return 1
+    printf "ipcrun: %s is linked statically; its calls are the kernel's\n" "$scratch/static" >"$scratch/wanted"
+    same 'its standard error' "$scratch/wanted" "$scratch/err"
 }
 
 # perl's own tests of IPC::SysV, each with how many of its lines are to be `ok`.

@@ -78,10 +78,10 @@ static void segments(int segment)
     refused("shmat after a removal", (shmctl(segment, IPC_RMID, NULL), (long)shmat(segment, NULL, 0)));
 }
 
-static void *wait_on(void *queue)
+static void *wait_on(void *set)
 {
-    struct { long type; char text; } received;
-    refused("msgrcv while the queue is removed", msgrcv(*(int *)queue, &received, 1, 0, 0));
+    struct sembuf down = {0, -1, 0};
+    refused("semop while the set is removed", semop(*(int *)set, &down, 1));
     return NULL;
 }
 
@@ -95,10 +95,11 @@ int main(void)
     semaphores(set);
     shmctl(segment, IPC_RMID, NULL);
     segments(segment);
-    queue = msgget(IPC_PRIVATE, 0600);
-    pthread_create(&waiting, NULL, wait_on, &queue);
-    usleep(100000);
-    msgctl(queue, IPC_RMID, NULL);
+    set = semget(IPC_PRIVATE, 1, 0600);
+    pthread_create(&waiting, NULL, wait_on, &set);
+    while (semctl(set, 0, GETNCNT) == 0)
+        usleep(10000);
+    semctl(set, 0, IPC_RMID);
     pthread_join(waiting, NULL);
     return 0;
 }

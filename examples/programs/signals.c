@@ -26,6 +26,15 @@ static void tell(const char *call, long answer)
     printf("%s: %s\n", call, answer < 0 ? strerrorname_np(errno) : "granted");
 }
 
+/* Sends the signal when the first thread waits. */
+static void *interrupt(void *first)
+{
+    while (semctl(set, 0, GETNCNT) == 0)
+        usleep(10000);
+    pthread_kill(*(pthread_t *)first, SIGALRM);
+    return NULL;
+}
+
 static void *receive(void *unused)
 {
     struct { long type; char text[8]; } received;
@@ -38,14 +47,15 @@ int main(void)
     struct { long type; char text[8]; } message = {1, "hello"};
     struct sigaction action = {.sa_handler = on_alarm, .sa_flags = SA_RESTART};
     struct sembuf down = {0, -1, 0};
-    pthread_t waiting;
+    pthread_t waiting, first = pthread_self();
     void *result;
     queue = msgget(IPC_PRIVATE, 0600);
     set = semget(IPC_PRIVATE, 2, 0600);
     sigaction(SIGALRM, &action, NULL);
-    alarm(1);
+    pthread_create(&waiting, NULL, interrupt, &first);
     tell("semop", semop(set, &down, 1));
-    alarm(1);
+    pthread_join(waiting, NULL);
+    alarm(2);
     tell("msgrcv", msgrcv(queue, &message, sizeof message.text, 0, 0));
     printf("the handler was called %d times\n", semctl(set, 1, GETVAL));
     pthread_create(&waiting, NULL, receive, NULL);

@@ -134,7 +134,8 @@ static _Noreturn void become(const char *program, int file)
 {
     sigset_t none;
     sigemptyset(&none);
-    if (dup2(file, 0) == 0 && dup2(file, 1) == 1 && dup2(file, 2) == 2) {
+    int spare = fcntl(file, F_DUPFD, STDERR_FILENO + 1); /* where the process has closed a standard file, this one may have its number */
+    if (dup2(spare, 0) == 0 && dup2(spare, 1) == 1 && dup2(spare, 2) == 2) {
         int opened = program_file >= 0 ? dup3(program_file, 3, O_CLOEXEC) : -1;
         close_all_from(opened == 3 ? 4 : 3);
         setsid();

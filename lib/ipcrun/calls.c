@@ -41,14 +41,14 @@ bool call_begin(struct call *call, enum manner manner)
     else if (rows_are_over())
         call->error = EIO;
     if (!call->error) {
-        call->client = call->may_wait ? waiting_client() : NULL;
-        if (!call->client)
-            call->client = process_client();
+        call->client = take_client(call->may_wait);
         if (!client_becomes(call->client, &creds))
             call->error = rows_are_over() ? EIO : ENOSYS;
     }
-    if (call->error)
-        return call_end(call, -1) == 0;
+    if (call->error) {
+        call_end(call, -1);
+        return false;
+    }
     text_clear(&call->client->line);
     text_print(&call->client->line, "%s ", name_of(call->client));
     return true;

@@ -10,10 +10,12 @@
 #include <sys/syscall.h>
 #include <unistd.h>
 
+enum { NAP = 100000 };
+
 static pthread_mutex_t process_lock = PTHREAD_MUTEX_INITIALIZER;
 static pthread_mutex_t pool_lock = PTHREAD_MUTEX_INITIALIZER;
-static int homes; /* how many threads have one; under pool_lock */
-static __thread int home;
+static unsigned homes; /* how many threads have one; under pool_lock */
+static __thread unsigned home;
 static unsigned first_capabilities;
 
 struct client clients[CLIENTS] = {[0 ... CLIENTS - 1] = {.wake = -1}};
@@ -97,8 +99,8 @@ struct client *process_client(void)
     return clients + PROCESS;
 }
 
-/* A client for a call that may wait, or NULL where all of them make one. */
-struct client *waiting_client(void)
+/* The home of this thread where it is free, or another one that is, or NULL. */
+static struct client *take_free(void)
 {
     struct client *found = NULL;
     pthread_mutex_lock(&pool_lock);
@@ -112,6 +114,29 @@ struct client *waiting_client(void)
     if (found)
         found->taken = true;
     pthread_mutex_unlock(&pool_lock);
+    return found;
+}
+
+/* A client for a call that may wait, or NULL where all of them wait. One that doesn't is soon free. */
+static struct client *waiting_client(void)
+{
+    struct client *found;
+    while (!(found = take_free()) && !rows_all_wait() && !rows_are_over())
+        nanosleep(&(struct timespec){.tv_nsec = NAP}, NULL);
+    return found;
+}
+
+/* The client of a call: for one that may wait the process's only where all others wait, also when that is free at last. */
+struct client *take_client(bool may_wait)
+{
+    struct client *found = may_wait ? waiting_client() : NULL;
+    while (!found) {
+        found = process_client();
+        if (!may_wait || rows_all_wait() || rows_are_over())
+            return found;
+        client_give_back(found);
+        found = waiting_client();
+    }
     return found;
 }
 

@@ -74,6 +74,7 @@ struct client;
 enum waited rows_await(struct client *client, const struct wait *how);
 void rows_leave(struct client *client);
 bool rows_are_over(void);
+bool rows_all_wait(void);
 void rows_expect(struct client *client);
 
 /* clients.c */
@@ -88,7 +89,8 @@ struct client {
     bool taken;    /* a call is being made */
     bool called;   /* it has made a call */
     bool expects;  /* a row is to come; this and what follows is under the lock of rows.c */
-    bool answered; /* it has come */
+    bool waits;    /* the call waits, as a row has told */
+    bool answered; /* its answer has come */
     bool asleep;   /* its thread sleeps until `wake` is written */
     int wake;      /* an eventfd, or -1 */
     struct creds told;
@@ -104,7 +106,7 @@ struct client *client_named(const char *name);
 bool creds_now(struct creds *creds);
 bool clients_declare(struct text *lines);
 struct client *process_client(void);
-struct client *waiting_client(void);
+struct client *take_client(bool may_wait);
 void client_give_back(struct client *client);
 bool client_becomes(struct client *client, const struct creds *creds);
 

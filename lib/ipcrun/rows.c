@@ -54,10 +54,22 @@ static void rows_end(const char *why)
     pthread_mutex_unlock(&lock);
 }
 
+/* Whether all clients of calls that may wait do. */
+bool rows_all_wait(void)
+{
+    bool all = true;
+    pthread_mutex_lock(&lock);
+    for (int at = PROCESS + 1; at < CLIENTS; at++)
+        all &= clients[at].waits;
+    pthread_mutex_unlock(&lock);
+    return all;
+}
+
 void rows_expect(struct client *client)
 {
     pthread_mutex_lock(&lock);
     client->expects = true;
+    client->waits = false;
     client->answered = false;
     client->called = true;
     pthread_mutex_unlock(&lock);
@@ -75,7 +87,10 @@ static void hand_out(char *row)
         return;
     }
     const char *answer = name + 4;
-    if (strcmp(answer, "waits") == 0 || !client->expects)
+    if (!client->expects)
+        return;
+    client->waits = strcmp(answer, "waits") == 0;
+    if (client->waits)
         return;
     text_clear(&client->row);
     text_add(&client->row, answer, strlen(answer));

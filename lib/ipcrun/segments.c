@@ -45,9 +45,9 @@ FOR_PROGRAMS int shmget(key_t key, size_t size, int flags)
     return id;
 }
 
-static void *shared_pages(size_t room)
+static void *new_pages(size_t room, int flags)
 {
-    void *pages = mmap(NULL, room, PROT_READ | PROT_WRITE, MAP_SHARED | MAP_ANONYMOUS, -1, 0);
+    void *pages = mmap(NULL, room, PROT_READ | PROT_WRITE, flags | MAP_ANONYMOUS, -1, 0);
     return pages == MAP_FAILED ? NULL : pages;
 }
 
@@ -98,8 +98,8 @@ static struct pages *pages_of(struct call *call, int id, long number)
     pages->uses = 1;
     pages->size = row ? field_of(row, "size", 10) : size_of(SEGMENT, id);
     pages->room = (pages->size + page - 1) / page * page;
-    pages->bytes = shared_pages(pages->room);
-    pages->known = shared_pages(pages->room);
+    pages->bytes = new_pages(pages->room, MAP_SHARED);
+    pages->known = new_pages(pages->room, MAP_PRIVATE);
     pages->next = segments;
     segments = pages;
     if (!pages->bytes || !pages->known || !copy_in(call, number, pages)) {
