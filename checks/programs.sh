@@ -18,7 +18,7 @@ programs_checks() {
         ! has_kernel_calls || attempt "$file, on the kernel" prints_on_the_kernel "${file%.c}"
     done
     has_kernel_calls || echo 'programs: this kernel has no System V IPC, so it is no second judge'
-    for name in forks crowd longest; do
+    for name in forks crowd longest storm; do
         attempt "checks/programs/$name.c" prints_over_ipcsh "checks/programs/$name"
     done
     # Without a proof the program also looks at each access, and takes minutes for so many bytes.

@@ -33,6 +33,7 @@ bool call_begin(struct call *call, enum manner manner)
 {
     struct creds creds;
     memset(call, 0, sizeof *call);
+    call->errno_before = errno;
     call->may_wait = manner == MAY_WAIT;
     block_signals(&call->signals);
     pthread_setcancelstate(PTHREAD_CANCEL_DISABLE, &call->cancel_state);
@@ -146,16 +147,15 @@ const char *call_line(struct call *call, const char *format, ...)
     return call_make(call);
 }
 
-/* Ends a call: the program's signals and its errno are again its own. */
+/* Ends a call: the program's signals are again its own, and so is errno where the call is granted. */
 long call_end(struct call *call, long result)
 {
     int error = call->error;
-    int was = errno;
     if (call->client)
         client_give_back(call->client);
     pthread_setcancelstate(call->cancel_state, &call->cancel_state);
     pthread_sigmask(SIG_SETMASK, &call->signals, NULL);
-    errno = error ? error : was;
+    errno = error ? error : call->errno_before;
     return error ? -1 : result;
 }
 

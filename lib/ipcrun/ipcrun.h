@@ -114,6 +114,7 @@ bool client_becomes(struct client *client, const struct creds *creds);
 struct call {
     struct client *client;
     int error;
+    int errno_before;
     bool may_wait;
     int cancel_state;
     bool may_be_cancelled;
