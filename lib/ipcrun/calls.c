@@ -134,6 +134,16 @@ const char *call_make(struct call *call)
     return call->error ? NULL : client->row.bytes;
 }
 
+/* What follows these words of a row. A row that is no answer to its call is EIO. */
+const char *after(struct call *call, const char *row, const char *words)
+{
+    size_t length = strlen(words);
+    if (strncmp(row, words, length) == 0)
+        return row + length;
+    call->error = EIO;
+    return NULL;
+}
+
 /* Another line of the same call. */
 const char *call_line(struct call *call, const char *format, ...)
 {

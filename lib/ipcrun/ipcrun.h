@@ -131,6 +131,7 @@ void block_signals(sigset_t *before);
 bool call_begin(struct call *call, enum manner manner);
 void call_say(struct call *call, const char *format, ...) __attribute__((format(printf, 2, 3)));
 const char *call_make(struct call *call);
+const char *after(struct call *call, const char *row, const char *words);
 const char *call_line(struct call *call, const char *format, ...) __attribute__((format(printf, 2, 3)));
 long call_end(struct call *call, long result);
 void call_give_up(struct call *call);

@@ -46,12 +46,16 @@ FOR_PROGRAMS int msgsnd(int id, const void *message, size_t size, int flags)
 }
 
 /* `message TYPE x:HEX`, into a message of at most so many bytes. */
-static long take_message(const char *row, void *message, size_t most)
+static long take_message(struct call *call, const char *row, void *message, size_t most)
 {
-    char *text;
-    long type = strtol(row + strlen("message "), &text, 10);
+    char *end;
+    const char *number = after(call, row, "message ");
+    long type = number ? strtol(number, &end, 10) : 0;
+    const char *hex = number ? after(call, end, " x:") : NULL;
+    if (!hex)
+        return -1;
     memcpy(message, &type, sizeof type);
-    return (long)bytes_of_hex(text + strlen(" x:"), (unsigned char *)message + sizeof type, most);
+    return (long)bytes_of_hex(hex, (unsigned char *)message + sizeof type, most);
 }
 
 FOR_PROGRAMS ssize_t msgrcv(int id, void *message, size_t size, long type, int flags)
@@ -69,7 +73,8 @@ FOR_PROGRAMS ssize_t msgrcv(int id, void *message, size_t size, long type, int f
     call_say(&call, "msgrcv %u %zu %ld 0%o", (unsigned)id, size, type, flags_of(&call, flags));
     const char *row = call_make(&call);
     refuse_wait(&call, flags, ENOMSG);
-    return call_end(&call, row ? take_message(row, message, size) : -1);
+    long length = row ? take_message(&call, row, message, size) : -1;
+    return call_end(&call, length);
 }
 
 static int set_queue(int id, const struct msqid_ds *with)

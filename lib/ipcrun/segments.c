@@ -57,9 +57,9 @@ static bool copy_in(struct call *call, long number, struct pages *pages)
     for (size_t at = 0; at < pages->size; at += READ_PIECE) {
         size_t piece = pages->size - at < READ_PIECE ? pages->size - at : READ_PIECE;
         const char *row = call_line(call, "shmread %ld %zu %zu", number, at, piece);
-        if (!row)
+        const char *hex = row ? after(call, row, "bytes x:") : NULL;
+        if (!hex || bytes_of_hex(hex, pages->known + at, piece) != piece)
             return false;
-        bytes_of_hex(row + strlen("bytes x:"), pages->known + at, piece);
     }
     memcpy(pages->bytes, pages->known, pages->size);
     return true;

@@ -120,9 +120,9 @@ static int get_values(int id, unsigned short *values)
         return -1;
     call_say(&call, "getall %u", (unsigned)id);
     const char *row = call_make(&call);
-    char *at = row ? (char *)row + strlen("values") : NULL;
-    while (at && *at)
-        *values++ = (unsigned short)strtoul(at, &at, 10);
+    const char *at = row ? after(&call, row, "values") : NULL;
+    for (char *next; at && *at == ' '; at = next)
+        *values++ = (unsigned short)strtoul(at, &next, 10);
     return (int)call_end(&call, 0);
 }
 
