@@ -7,7 +7,9 @@ import kernel
 from calls import kind_of
 from runs import Otherwise, Run
 
-RUNS = 200
+RUNS = 400
+# After so many runs that bring nothing the call is accepted as otherwise.
+PATIENCE = 60
 # How many of the steps that may be done elsewhere are tried so, those that begin last first.
 NEAR = 16
 
@@ -50,26 +52,52 @@ def moves(plan, step):
     return [(it, position) for it in chosen for position in places(plan.steps, it)]
 
 
+class Search:
+    """A search for places by which the calls are as defined: it goes on from each move by which the first call that is otherwise comes later, and
+    back where none does."""
+
+    def __init__(self, program, plan, limits):
+        self.program, self.plan, self.limits, self.accepted, self.left = program, plan, limits, set(), RUNS
+
+    def first(self):
+        self.left -= 1
+        return first_otherwise(self.program, self.plan, self.limits, self.accepted)
+
+    def positions(self):
+        return [it.position for it in self.plan.steps]
+
+    def settle(self, found):
+        """Places the steps so that the first call that is otherwise comes as late as is found so, and answers that call, None where there is none."""
+        ways, best, patience = [(found, None, iter(moves(self.plan, found)))], (found, self.positions()), PATIENCE
+        while ways and self.left > 0 and patience > 0:
+            reached, back, left = ways[-1]
+            step, position = next(left, (None, None))
+            if step is None:
+                ways.pop()
+                if back:
+                    back[0].position = back[1]
+                continue
+            before, step.position, patience = step.position, position, patience - 1
+            now = self.first()
+            if now is None:
+                return None
+            if now.until <= reached.until:
+                step.position = before
+                continue
+            ways.append((now, (step, before), iter(moves(self.plan, now))))
+            if now.until > best[0].until:
+                best, patience = (now, self.positions()), PATIENCE
+        for step, position in zip(self.plan.steps, best[1]):
+            step.position = position
+        return best[0]
+
+
 def ordered(program, plan, limits):
-    """Places all steps so that as many calls as can be found so are answered as defined. Answers how many runs that took."""
-    accepted, runs = set(), 1
-    found = first_otherwise(program, plan, limits, accepted)
-    while found is not None and runs < RUNS:
-        better = None
-        for step, position in moves(plan, found):
-            before, step.position = step.position, position
-            runs += 1
-            now = first_otherwise(program, plan, limits, accepted)
-            if now is None or now.until > found.until:
-                better = True
-                break
-            step.position = before
-            if runs >= RUNS:
-                break
-        if better:
-            found = now
-        else:
-            accepted.add(found)
-            found = first_otherwise(program, plan, limits, accepted)
-            runs += 1
-    return runs
+    """Places all steps so that as many calls as can be found so are answered as defined; a call that stays otherwise is accepted so."""
+    search = Search(program, plan, limits)
+    found = search.first()
+    while found is not None and search.left > 0:
+        found = search.settle(found)
+        if found is not None:
+            search.accepted.add(found)
+            found = search.first()
