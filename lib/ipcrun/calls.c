@@ -36,6 +36,8 @@ bool call_begin(struct call *call, enum manner manner)
     call->errno_before = errno;
     call->may_wait = manner == MAY_WAIT;
     block_signals(&call->signals);
+    call->signals_before = program_signals;
+    program_signals = &call->signals;
     pthread_setcancelstate(PTHREAD_CANCEL_DISABLE, &call->cancel_state);
     if (!behind_is_there() || !creds_now(&creds))
         call->error = ENOSYS;
@@ -163,6 +165,7 @@ long call_end(struct call *call, long result)
     int error = call->error;
     if (call->client)
         client_give_back(call->client);
+    program_signals = call->signals_before;
     pthread_setcancelstate(call->cancel_state, &call->cancel_state);
     pthread_sigmask(SIG_SETMASK, &call->signals, NULL);
     errno = error ? error : call->errno_before;

@@ -71,6 +71,9 @@ struct wait {
 
 struct client;
 
+/* The signals that the program blocks, while a call of this thread is made. */
+extern __thread const sigset_t *program_signals;
+
 enum waited rows_await(struct client *client, const struct wait *how);
 void rows_leave(struct client *client);
 bool rows_are_over(void);
@@ -119,6 +122,7 @@ struct call {
     int cancel_state;
     bool may_be_cancelled;
     sigset_t signals;
+    const sigset_t *signals_before; /* of the call that a handler has interrupted */
     bool timed;       /* it is a semtimedop; its timeout and its deadline in ticks, and when it ends at the latest, of CLOCK_MONOTONIC */
     uint64_t timeout;
     uint64_t deadline;

@@ -21,6 +21,8 @@ static bool over;         /* no row comes any more */
 static struct text input; /* what was read and isn't a whole row yet; the reader's own */
 static char last_words[200];
 
+__thread const sigset_t *program_signals;
+
 bool rows_are_over(void)
 {
     pthread_mutex_lock(&lock);
@@ -145,11 +147,35 @@ static int pause_on(struct pollfd *file, const struct wait *how, const struct ti
     return ready;
 }
 
+/* The signals that end or stop the process by default are let in, where the program doesn't block them; no handler is. */
+static void block_handlers(sigset_t *blocked)
+{
+    struct sigaction action;
+    sigfillset(blocked);
+    for (int signal = 1; program_signals && signal < NSIG; signal++)
+        if (!sigismember(program_signals, signal) && sigaction(signal, NULL, &action) == 0 && action.sa_handler == SIG_DFL)
+            sigdelset(blocked, signal);
+}
+
+/* poll(2) for a row that comes at once; where it takes its time the process can be killed meanwhile. */
+static void pause_shortly(struct pollfd *file)
+{
+    sigset_t blocked;
+    if (ppoll(file, 1, &(struct timespec){.tv_sec = 1}, NULL) != 0)
+        return;
+    block_handlers(&blocked);
+    ppoll(file, 1, NULL, &blocked);
+}
+
 /* Without the lock: waits until the file has something. */
 static enum waited wait_for(int file, const struct wait *how)
 {
     struct timespec left;
     struct pollfd polled = {.fd = file, .events = POLLIN};
+    if (!how->signals) {
+        pause_shortly(&polled);
+        return ANSWERED;
+    }
     int ready = pause_on(&polled, how, left_until(how->until, &left));
     if (ready == 0)
         return TIMED_OUT;
