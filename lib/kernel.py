@@ -423,6 +423,20 @@ def placed(row):
     return int(place), rest[0] == "+", rest
 
 
+def without_last(rows, pids):
+    """The rows, where of clients whose calls one event ended the lowest stands for who sent or received last: it may be any of them."""
+    lowest, ended, shown = {}, {}, []
+    for row in sorted(rows, key=placed):
+        place, name = row.split(" ", 2)[:2]
+        if place.endswith("+"):
+            ended.setdefault(place, []).append(pids[name])
+            lowest.update(dict.fromkeys(ended[place], min(ended[place])))
+        else:
+            lowest.pop(pids[name], None)
+        shown.append(re.sub(r"( l[sr]pid )(\d+)", lambda it: it[1] + str(lowest.get(int(it[2]), it[2])), row))
+    return shown
+
+
 class Difference:
     """How a script's rows differ on the kernel: those of ipcsh and those of the kernel; or why they can't be compared."""
 
@@ -447,9 +461,10 @@ def difference(task):
     """How a script differs: the text, and what ipcsh prints for it."""
     program, text, output = task
     own, bad = comparable(output)
+    pids = {name: number for number, name in enumerate(Script(text, bad).clients, 1)}
     for step in STEPS:
         try:
-            found = Difference(own, rows_on_kernel(program, text, bad, step))
+            found = Difference(without_last(own, pids), without_last(rows_on_kernel(program, text, bad, step), pids))
         except (Stuck, OSError) as why:
             found = Difference([], [], str(why))
         if not found.is_one() or b" semtimedop " not in text:
