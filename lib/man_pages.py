@@ -1,5 +1,5 @@
 #!/usr/bin/env python3
-"""man_pages.py FOLDER: makes the man pages ipcsh.1, ipcsh.5 and sysvipc-rules.7 of the documents, in this folder. They are
+"""man_pages.py FOLDER: makes the man pages of the commands, ipcsh.5 and sysvipc-rules.7 of the documents, in this folder. They are
 kept in man/, and ./check docs finds them current. A table becomes a list, as a terminal has no room for its columns."""
 import os
 import re
@@ -37,7 +37,7 @@ def escaped(text):
 def pointed_to(words, target):
     """What stands in the place of a link: a page that is a man page too, another document's file, or the link's words."""
     name = os.path.basename(target.partition("#")[0])
-    pages = {"PROFILE.md": "sysvipc-rules(7)", "LANGUAGE.md": "ipcsh(5)"}
+    pages = {"PROFILE.md": "sysvipc-rules(7)", "LANGUAGE.md": "ipcsh(5)", "IPCWHO.md": "ipcwho(1)", "IPCRUN.md": "ipcrun(1)", "TRACE.md": "ipcsh_trace(1)"}
     if name in pages:
         return pages[name]
     return "docs/" + name if words + ".md" == name else words
@@ -173,7 +173,7 @@ def command():
         ("What it isn't", readme["What it isn't"]),
         ("Exit status", language["How the program ends"]),
         ("Environment", language["Before the program is built"]),
-        ("See also", "ipcsh(5), sysvipc-rules(7), ipcs(1), ipcmk(1), ipcrm(1), svipc(7)"),
+        ("See also", "ipcsh(5), sysvipc-rules(7), ipcwho(1), ipcrun(1), ipcsh_trace(1), ipcs(1), ipcmk(1), ipcrm(1), svipc(7)"),
     ]
     return page("ipcsh", 1, "run scripts of System V IPC calls, and tell why each is refused", parts)
 
@@ -193,9 +193,35 @@ def rules():
     return page("sysvipc-rules", 7, "rules of System V IPC as ipcsh(1) follows them, with their sources", parts)
 
 
+def tool(name, file, about, synopsis, others):
+    """The page of a command that has a document of its own."""
+    found = sections(document(file))
+    parts = [("Synopsis", "```text\n" + "\n".join(synopsis) + "\n```")]
+    parts += [("Description" if not head else head, text.split("\n\n", 1)[1] if not head else text) for head, text in found.items()]
+    return page(name, 1, about, [*parts, ("See also", others)])
+
+
+def who():
+    words = ["ipcwho [--proc DIR] [PID..]", "ipcwho [--proc DIR] --why PID KIND ID", "ipcwho [--proc DIR] --orphans [PID..]", "ipcwho --help", "ipcwho --version"]
+    return tool("ipcwho", "docs/IPCWHO.md", "who may do what to the System V IPC objects of this machine", words, "ipcs(1), ipcsh(1), sysvipc-rules(7), sysvipc(7), proc(5), capabilities(7)")
+
+
+def run():
+    words = ["ipcrun [--script FILE] PROGRAM [ARGUMENT..]", "ipcrun --help"]
+    return tool("ipcrun", "docs/IPCRUN.md", "run a program whose System V IPC calls are answered by ipcsh(1)", words, "ipcsh(1), ipcsh(5), sysvipc-rules(7), ld.so(8), svipc(7)")
+
+
+def trace():
+    words = ["ipcsh_trace [--script] [OPTION..] [FILE..]", "ipcsh_trace [--script] [OPTION..] --record PROGRAM [ARGUMENT..]", "ipcsh_trace --help"]
+    return tool("ipcsh_trace", "docs/TRACE.md", "a trace of strace(1) beside the definitions of System V IPC", words, "strace(1), ipcsh(1), ipcsh(5), sysvipc-rules(7)")
+
+
+PAGES = {"ipcsh.1": command, "ipcsh.5": language, "sysvipc-rules.7": rules, "ipcwho.1": who, "ipcrun.1": run, "ipcsh_trace.1": trace}
+
+
 def main():
     os.makedirs(sys.argv[1], exist_ok=True)
-    for name, made in (("ipcsh.1", command), ("ipcsh.5", language), ("sysvipc-rules.7", rules)):
+    for name, made in PAGES.items():
         with open(os.path.join(sys.argv[1], name), "w", encoding="utf-8") as it:
             it.write(made())
 
