@@ -6,8 +6,8 @@ import re
 
 from values import NotTaken, number, numbers, parts
 
-CAPABILITIES = ("IPC_OWNER", "SYS_ADMIN", "SYS_RESOURCE", "SETUID", "SETGID")
 BITS = {"SETGID": 6, "SETUID": 7, "IPC_OWNER": 15, "SYS_ADMIN": 21, "SYS_RESOURCE": 24}
+CAPABILITIES = tuple(BITS)
 READERS = {"getuid", "geteuid", "getgid", "getegid", "getresuid", "getresgid", "getgroups", "capget"}
 SETTERS = {"setuid", "setgid", "setreuid", "setregid", "setresuid", "setresgid", "setgroups", "capset"}
 KEEP = -1
