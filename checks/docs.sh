@@ -13,7 +13,7 @@ documents='README.md CHANGELOG.md docs/*.md examples/README.md examples/traces/R
 
 # A command of the documents that checks them again would never end, so there this fails.
 check_docs() {
-    if [ -z "${in_documents-}" ]; then with_program with_crate ipcwho docs_checks; else attempt docs false; fi
+    if [ -z "${in_documents-}" ]; then with_program with_crate ipcwho with_crate ipcsh_explain with_crate ipcsh_journal docs_checks; else attempt docs false; fi
 }
 
 docs_checks() {

@@ -3,6 +3,8 @@
 check_program() {
     attempt ipcsh built ipcsh_cli
     attempt ipcwho built ipcwho
+    attempt ipcsh_explain built ipcsh_explain
+    attempt ipcsh_journal built ipcsh_journal
     attempt bench built ipc_bench
     attempt 'bench threads' built thread_bench
 }

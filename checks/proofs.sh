@@ -1,6 +1,6 @@
 # Proofs and times.
 
-programs='ipcsh_cli ipcwho ipc_bench thread_bench'
+programs='ipcsh_cli ipcwho ipcsh_explain ipcsh_journal ipc_bench thread_bench'
 
 check_bench() {
     attempt bench measures

@@ -37,7 +37,7 @@ def escaped(text):
 def pointed_to(words, target):
     """What stands in the place of a link: a page that is a man page too, another document's file, or the link's words."""
     name = os.path.basename(target.partition("#")[0])
-    pages = {"PROFILE.md": "sysvipc-rules(7)", "LANGUAGE.md": "ipcsh(5)", "IPCWHO.md": "ipcwho(1)", "IPCRUN.md": "ipcrun(1)", "TRACE.md": "ipcsh_trace(1)"}
+    pages = {"PROFILE.md": "sysvipc-rules(7)", "LANGUAGE.md": "ipcsh(5)", "IPCWHO.md": "ipcwho(1)", "IPCRUN.md": "ipcrun(1)", "TRACE.md": "ipcsh_trace(1)", "EXPLAIN.md": "ipcsh_explain(1)", "JOURNAL.md": "ipcsh_journal(1)"}
     if name in pages:
         return pages[name]
     return "docs/" + name if words + ".md" == name else words
@@ -173,7 +173,7 @@ def command():
         ("What it isn't", readme["What it isn't"]),
         ("Exit status", language["How the program ends"]),
         ("Environment", language["Before the program is built"]),
-        ("See also", "ipcsh(5), sysvipc-rules(7), ipcwho(1), ipcrun(1), ipcsh_trace(1), ipcs(1), ipcmk(1), ipcrm(1), svipc(7)"),
+        ("See also", "ipcsh(5), sysvipc-rules(7), ipcsh_explain(1), ipcwho(1), ipcrun(1), ipcsh_trace(1), ipcsh_journal(1), ipcs(1), ipcmk(1), ipcrm(1), svipc(7)"),
     ]
     return page("ipcsh", 1, "run scripts of System V IPC calls, and tell why each is refused", parts)
 
@@ -216,7 +216,17 @@ def trace():
     return tool("ipcsh_trace", "docs/TRACE.md", "a trace of strace(1) beside the definitions of System V IPC", words, "strace(1), ipcsh(1), ipcsh(5), sysvipc-rules(7)")
 
 
-PAGES = {"ipcsh.1": command, "ipcsh.5": language, "sysvipc-rules.7": rules, "ipcwho.1": who, "ipcrun.1": run, "ipcsh_trace.1": trace}
+def explain():
+    words = ["ipcsh_explain [SCRIPT]", "ipcsh_explain --help", "ipcsh_explain --version"]
+    return tool("ipcsh_explain", "docs/EXPLAIN.md", "what the rows of a script for ipcsh(1) mean", words, "ipcsh(1), ipcsh(5), sysvipc-rules(7), ipcwho(1)")
+
+
+def journal():
+    words = ["ipcsh_journal [FILE]", "ipcsh_journal --replay [FILE]", "ipcsh_journal --help", "ipcsh_journal --version"]
+    return tool("ipcsh_journal", "docs/JOURNAL.md", "the journal of a script as text, and its replay", words, "ipcsh(1), ipcsh(5), sysvipc-rules(7)")
+
+
+PAGES = {"ipcsh.1": command, "ipcsh.5": language, "sysvipc-rules.7": rules, "ipcwho.1": who, "ipcrun.1": run, "ipcsh_trace.1": trace, "ipcsh_explain.1": explain, "ipcsh_journal.1": journal}
 
 
 def main():

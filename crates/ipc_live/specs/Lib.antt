@@ -1,4 +1,3 @@
 pub mod Orphans
-pub mod Standing
 pub mod Told
 pub mod Text

@@ -1,9 +1,5 @@
 -- The text of the table (the project's own; the names of errors are those of errno(3)).
-use Rattle.std.specs.Prelude.{ℕ, ◌-◌, ◌^◌, false, List, [], ◌++◌, codes, decimal, flat_map, string_bytes}
-use Rattle.std.specs.Fmt.{digits, format_spec, padded_integral}
-use Rattle.ipc_call.specs.declared.calls.Kind.{Kind}
-use Rattle.ipc_call.specs.declared.calls.Kind.TheVariants as kinds
-use Rattle.ipc_call.specs.declared.perms.Perm.{Perm}
+use Rattle.std.specs.Prelude.{ℕ, List, ◌++◌, codes, decimal, flat_map, string_bytes}
 use Rattle.ipc_call.specs.Errors.{name_of}
 use Rattle.ipc_call.specs.Rules.{error_of, name_of_rule}
 use Rattle.ipc_perm.specs.declared.access.Ground.{Ground}
@@ -13,11 +9,7 @@ use Rattle.ipc_perm.specs.declared.access.Verdict.TheVariants.{Allowed, Denied}
 use Rattle.ipc_live.specs.declared.objects.Object.{Object}
 use Rattle.ipc_live.specs.declared.table.Told.{Told}
 use Rattle.ipc_live.specs.Told.{EntryOf, RowOf, kind_of}
-
-unfoldable pub name_of_kind : Kind → List ℕ
-name_of_kind kinds.Queue = codes "queue"
-name_of_kind kinds.Sems = codes "set"
-name_of_kind kinds.Segment = codes "segment"
+use Rattle.perm_words.specs.ObjectText.{object_text}
 
 unfoldable pub name_of_ground : Ground → List ℕ
 name_of_ground grounds.Owner = codes "owner"
@@ -26,27 +18,9 @@ name_of_ground grounds.Other = codes "others"
 name_of_ground grounds.IpcOwner = codes "CAP_IPC_OWNER"
 name_of_ground grounds.SysAdmin = codes "CAP_SYS_ADMIN"
 
--- a key: 0x and hexadecimal digits, as {:x} writes them
-unfoldable pub key_text : ℕ → List ℕ
-key_text key = codes "0x" ++ digits 16 false key
-
--- a mode: four octal digits, as {:04o} writes them
-unfoldable pub mode_text : ℕ → List ℕ
-mode_text mode = padded_integral (format_spec 32 0 4 4 (2 ^ 64 - 1)) false [] (digits 8 false mode)
-
-abbrev pub owners_text : Perm → List ℕ
-owners_text a =
-    codes " owner "
-    ++ (decimal a.uid
-    ++ (codes ":"
-    ++ (decimal a.gid ++ (codes " creator " ++ (decimal a.cuid ++ (codes ":" ++ (decimal a.cgid ++ codes "\n")))))))
-
 -- the line of an object
-abbrev pub object_text : Object → List ℕ
-object_text o =
-    name_of_kind (kind_of o.used)
-    ++ (codes " "
-    ++ (decimal o.id ++ (codes " key " ++ (key_text o.perm.key ++ (codes " mode " ++ (mode_text o.perm.mode ++ owners_text o.perm))))))
+abbrev pub object_line : Object → List ℕ
+object_line o = object_text (kind_of o.used) o.id o.perm ++ codes "\n"
 
 -- the ground of a caller that is allowed, or the error and the rule of one that is denied
 abbrev pub verdict_text : Verdict → List ℕ
@@ -71,7 +45,7 @@ rows_text rows = flat_map row_text rows
 
 -- an object and its processes
 abbrev pub entry_text : EntryOf → List ℕ
-entry_text entry = object_text entry.object ++ rows_text entry.rows
+entry_text entry = object_line entry.object ++ rows_text entry.rows
 
 abbrev pub table_text : List EntryOf → List ℕ
 table_text entries = flat_map entry_text entries

@@ -22,4 +22,4 @@ pub use status::process_of;
 pub use sysvipc::{file_of, read_objects};
 pub use table::{Entry, Row, Told, tabulate, tell};
 pub use text::{print_object, print_table};
-pub use why::{Standing, print_why, stands};
+pub use why::print_why;

@@ -1,11 +1,10 @@
 //! The text of the table.
 
 ghost use Rattle.std.specs.Prelude.{◌≡◌, ◌++◌, OnOk, string_bytes};
-ghost use Rattle.ipc_live.specs.Text.{entry_text, key_text, mode_text, name_of_ground, name_of_kind, object_text, owners_text, row_text, rows_text, table_text, told_text, verdict_text};
+ghost use Rattle.ipc_live.specs.Text.{entry_text, name_of_ground, object_line, row_text, rows_text, table_text, told_text, verdict_text};
 
 use crate::objects::Object;
 use crate::table::{Entry, Row, Told};
-use ipc_call::{Kind, Perm};
 use ipc_perm::{Ground, Verdict};
 use std::alloc::AllocError;
 use std::fmt::Write;
@@ -39,41 +38,10 @@ fn print_rows(out: &mut String, rows: &[Row<'_>]) -> Result<(), AllocError>
 
 /// Appends the line of an object: its kind and identifier, key, mode, owner and creator, each a user and a group.
 pub fn print_object(out: &mut String, object: &Object) -> Result<(), AllocError>
-    ensures { OnOk result (string_bytes out.new ≡ string_bytes out.old ++ object_text object.now) }
+    ensures { OnOk result (string_bytes out.new ≡ string_bytes out.old ++ object_line object.now) }
 {
-    let (kind, id, perm) = (kind_name(object.kind()), object.id, object.perm);
-    write!(out, "{kind} {id} key ")?;
-    print_key(out, perm.key)?;
-    out.push_str(" mode ")?;
-    print_mode(out, perm.mode.bits())?;
-    print_owners(out, &perm)
-}
-
-#[tactic(auto, unfolding(crate::specs::Text::key_text))]
-fn print_key(out: &mut String, key: u32) -> Result<(), AllocError>
-    ensures { OnOk result (string_bytes out.new ≡ string_bytes out.old ++ key_text key) }
-{
-    write!(out, "0x{key:x}")
-}
-
-#[tactic(auto, unfolding(crate::specs::Text::mode_text))]
-fn print_mode(out: &mut String, mode: u16) -> Result<(), AllocError>
-    ensures { OnOk result (string_bytes out.new ≡ string_bytes out.old ++ mode_text mode) }
-{
-    write!(out, "{mode:04o}")
-}
-
-fn print_owners(out: &mut String, perm: &Perm) -> Result<(), AllocError>
-    ensures { OnOk result (string_bytes out.new ≡ string_bytes out.old ++ owners_text perm.now) }
-{
-    let Perm {
-        uid,
-        gid,
-        cuid,
-        cgid,
-        ..
-    } = *perm;
-    write!(out, " owner {uid}:{gid} creator {cuid}:{cgid}\n")
+    perm_words::print_object(out, object.kind(), object.id, &object.perm)?;
+    out.push_str("\n")
 }
 
 /// Appends the line of a process.
@@ -121,16 +89,5 @@ fn ground_name(ground: Ground) -> &'static str
         Ground::Other => "others",
         Ground::IpcOwner => "CAP_IPC_OWNER",
         Ground::SysAdmin => "CAP_SYS_ADMIN",
-    }
-}
-
-#[tactic(auto, unfolding(crate::specs::Text::name_of_kind))]
-pub(crate) fn kind_name(kind: Kind) -> &'static str
-    ensures { result.now ≡ name_of_kind kind }
-{
-    match kind {
-        Kind::Queue => "queue",
-        Kind::Sems => "set",
-        Kind::Segment => "segment",
     }
 }

@@ -368,6 +368,21 @@ impl Namespace {
         ensures few { vec_len ended.new + length self.new.parked ≡ vec_len ended.old + length self.old.parked }
         ensures room { vec_capacity ended.old ≤ vec_capacity ended.new }
     {
+        if self.first_due().is_some() {
+            self.expire_due(ended);
+        }
+    }
+
+    /// The same, where there is one.
+    #[cold]
+    #[inline(never)]
+    fn expire_due(&mut self, ended: &mut Vec<Completion>)
+        requires { vec_len ended.old + length self.old.parked ≤ vec_capacity ended.old }
+        ensures state { self.new ≡ (expire self.old).state }
+        ensures ended { ended.new.items ≡ ended.old.items ++ (expire self.old).ended }
+        ensures few { vec_len ended.new + length self.new.parked ≡ vec_len ended.old + length self.old.parked }
+        ensures room { vec_capacity ended.old ≤ vec_capacity ended.new }
+    {
         while let Some(client) = self.first_due() {
             let ending = self.end_as(client, Err(Rule::TimedOut));
             ended.push(ending).unwrap();

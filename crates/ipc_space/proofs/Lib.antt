@@ -5,6 +5,7 @@ pub mod Fronts
 pub mod Histories
 pub mod Longest
 pub mod Once
+pub mod Parting
 pub mod Permitted
 pub mod Quiet
 pub mod Waited

@@ -1,12 +1,9 @@
 -- How rows are followed, an event at a time.
-use Rattle.std.specs.Prelude.{◌≡◌, ℕ, Bool, true, false, Option, Some, None, List}
-use Rattle.ipc_call.specs.declared.limits.Limits.{Limits}
+use Rattle.std.specs.Prelude.{◌≡◌, ℕ, Bool, true, false}
 use Rattle.ipc_call.specs.declared.replies.JournalRow.{JournalRow}
 use Rattle.ipc_call.specs.declared.replies.JournalRow.TheVariants.{Called, Answered}
-use Rattle.ipc_creds.specs.Credentials.{Credentials}
-use Rattle.ipc_history.specs.History.{History, IsLegalAt, rows_of, run, with_event}
+use Rattle.ipc_history.specs.History.{History, IsLegalAt, run, with_event}
 use Rattle.ipc_model.specs.Step.{Event}
-use Rattle.ipc_space.specs.Replays.{AreNoJournal, IsHistoryOf}
 
 -- the row of an event's call
 abbrev pub call_row : Event → JournalRow
@@ -21,8 +18,3 @@ IsAnswered (Answered client place turn rule) = Unit {0}
 abbrev pub Enters : History → History → JournalRow → Bool → Type 0
 Enters old new row true = (e : Event) × IsLegalAt (run old) e × (call_row e ≡ row) × (new ≡ with_event old e)
 Enters old new row false = (new ≡ old) × ((e : Event) → IsLegalAt (run old) e → call_row e ≡ row → ⊥)
-
--- the rows are the journal of this history; or of none, and so many begin one
-abbrev pub Followed : Limits → List Credentials → List JournalRow → History → Option ℕ → Type 0
-Followed limits clients rows h None = IsHistoryOf limits clients h × (rows_of h ≡ rows)
-Followed limits clients rows h (Some count) = AreNoJournal limits clients rows count

@@ -1,4 +1,5 @@
 pub mod Answers
+pub mod Comparing
 pub mod Following
 pub mod Replays
 pub mod Spaces

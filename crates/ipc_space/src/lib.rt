@@ -3,12 +3,14 @@
 //! crate alone: the types of calls, replies and credentials are re-exported here.
 #![tactic(auto)]
 
+mod comparing;
 pub mod laws;
 mod looking;
 mod replaying;
 mod space;
 
 pub use bitflags::Flags;
+pub use comparing::{Compared, compare};
 pub use ipc_call::{
     Answer, Boxed, Call, Errno, IPC_CREAT, IPC_EXCL, IPC_NOWAIT, Items, JournalRow, Kind, Limits,
     Listed, MSG_EXCEPT, MSG_NOERROR, Memory, Mode, Outcome, Perm, QueueStatus, Reply, Row, Rule,

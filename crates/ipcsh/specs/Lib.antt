@@ -1,4 +1,5 @@
 pub mod Commands
+pub mod Ended
 pub mod Inputs
 pub mod Inside
 pub mod Leading

@@ -5,6 +5,7 @@ ghost use Rattle.ipcsh.specs.Commands.{id_answered, made, part_made};
 ghost use Rattle.ipcsh.specs.Leading.{Leads};
 ghost use Rattle.ipcsh.specs.Output.{CarriesOut};
 
+use crate::listeners::Listener;
 use crate::readings::Reading;
 use crate::session::Session;
 use ipc_call::{Call, Memory, Reply};
@@ -15,12 +16,13 @@ use std::alloc::Global;
 
 impl Session {
     /// Makes the calls of a line in turn, and prints their rows. Where one waits, those behind it aren't made.
-    pub(crate) fn make_all(
+    pub(crate) fn make_all<L: Listener>(
         &mut self,
         alloc: Global,
         client: u32,
         command: Command,
         rows: &mut String,
+        listener: &mut L,
     ) -> Result<(), Memory>
         requires { client < length self.old.names }
         ensures does { OnOk result (CarriesOut self.old (Reading.Command client command) self.new (string_bytes rows.old) (string_bytes rows.new)) }
@@ -28,18 +30,19 @@ impl Session {
     {
         let parts = command.into_vec();
         for part in parts {
-            self.make(alloc, client, part, rows)?;
+            self.make(alloc, client, part, rows, listener)?;
         }
         Ok(())
     }
 
     /// Makes the calls of a part in turn, and prints their rows.
-    fn make(
+    fn make<L: Listener>(
         &mut self,
         alloc: Global,
         client: u32,
         part: Part,
         rows: &mut String,
+        listener: &mut L,
     ) -> Result<(), Memory>
         requires { client < length self.old.names }
         ensures does { OnOk result (Leads (λ p. part_made client p part) (λ p. p) self.old self.new (string_bytes rows.old) (string_bytes rows.new)) }
@@ -48,11 +51,11 @@ impl Session {
     {
         match part {
             Part::Plain(call) => {
-                self.call(alloc, client, call, rows)?;
+                self.call(alloc, client, call, rows, listener)?;
             }
             Part::RemoveByKey(kind, key) => {
-                if let Some(id) = self.call(alloc, client, get_of(kind, key), rows)? {
-                    self.call(alloc, client, Call::IpcRmid { kind, id }, rows)?;
+                if let Some(id) = self.call(alloc, client, get_of(kind, key), rows, listener)? {
+                    self.call(alloc, client, Call::IpcRmid { kind, id }, rows, listener)?;
                 }
             }
         }
@@ -61,12 +64,13 @@ impl Session {
 
     /// Makes a call, unless the client waits, and prints the rows of its event, or the row of a refusal of
     /// memory. Gives the identifier that it is answered.
-    fn call(
+    fn call<L: Listener>(
         &mut self,
         alloc: Global,
         client: u32,
         call: Call,
         rows: &mut String,
+        listener: &mut L,
     ) -> Result<Option<u32>, Memory>
         requires { client < length self.old.names }
         ensures does { IfOk result (λ id. Leads (made client call) (λ p. (p, id)) self.old self.new (string_bytes rows.old) (string_bytes rows.new)) }
@@ -80,6 +84,7 @@ impl Session {
         match self.apply(client, call) {
             Ok(effects) => {
                 self.print_effects(client, &effects, rows)?;
+                self.tell_effects(client, &effects, listener);
                 Ok(id_of(&effects))
             }
             Err(_) => {

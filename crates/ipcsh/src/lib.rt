@@ -11,8 +11,10 @@ mod readings;
 mod runs;
 mod scripts;
 mod session;
+mod texts;
 
 pub use listeners::Listener;
 pub use output::write_bytes;
 pub use runs::{Fault, Summary, run, run_with};
 pub use scripts::{Script, read_script, read_script_with};
+pub use texts::{Ended, run_text};

@@ -1,9 +1,12 @@
-// What hears of the lines of a script while they are read.
+// What hears of the lines of a script while they are read, and of its calls while they are made.
 
+ghost use Rattle.std.specs.Prelude.{◌≡◌};
+
+use ipc_space::{Effects, Space};
 use ipc_text::{Command, Line, Reason};
 
-/// Hears of lines as they are read, in their order and by their numbers from 1. What it does is its own: it can't fail,
-/// and changes no row, count or status.
+/// Hears of lines as they are read, in their order and by their numbers from 1, and of calls as they are answered. What it
+/// does is its own: it can't fail, and changes no row, count or status. It may look at the namespace, and leaves it as it is.
 pub trait Listener {
     /// The line of a new client.
     fn client(&mut self, number: u64, text: &[u8]);
@@ -13,6 +16,14 @@ pub trait Listener {
 
     /// A bad line.
     fn bad(&mut self, number: u64, line: &Line<'_>, reason: Reason);
+
+    /// A call of this client was entered as the latest event, whose rows have been printed.
+    fn answered(&mut self, space: &mut Space, client: u32, effects: &Effects)
+        ensures { space.new ≡ space.old };
+
+    /// The script has ended, and some call was made.
+    fn ended(&mut self, space: &mut Space)
+        ensures { space.new ≡ space.old };
 
     /// The rows of the lines so far were written; the next read comes after this, or the script has ended.
     fn written(&mut self);
@@ -25,6 +36,10 @@ impl Listener for () {
     fn calls(&mut self, _number: u64, _client: u32, _text: &[u8], _command: &Command) {}
 
     fn bad(&mut self, _number: u64, _line: &Line<'_>, _reason: Reason) {}
+
+    fn answered(&mut self, _space: &mut Space, _client: u32, _effects: &Effects) {}
+
+    fn ended(&mut self, _space: &mut Space) {}
 
     fn written(&mut self) {}
 }

@@ -110,6 +110,7 @@ fn answer_all<R: Read, W: Write, L: Listener>(
             input.finish(alloc, listener)?;
             input.flush(writer)?;
             listener.written();
+            input.session.tell_end(listener);
             return Ok(input.session.summary());
         }
         if count == INPUT_MAX {

@@ -156,7 +156,9 @@ impl Planning {
         match reading {
             Reading::Command(client, command) => self.add_job(alloc, client, command),
             Reading::Client(name, creds) => self.add_client(alloc, name, creds),
-            reading => self.session.carry_out(alloc, reading, &mut self.rows),
+            reading => self
+                .session
+                .carry_out(alloc, reading, &mut self.rows, listener),
         }
     }
 

@@ -139,6 +139,13 @@ impl Session {
         (names, clients, limits)
     }
 
+    /// The namespace, once it was started.
+    pub(crate) fn into_space(self) -> Option<Space>
+        ensures { result ≡ self.history }
+    {
+        self.space
+    }
+
     /// One more line was read.
     pub(crate) fn count_line(&mut self)
         requires { self.old.lines + 1 < 2 ^ 64 }
@@ -164,7 +171,7 @@ impl Session {
         self.count_line();
         let reading = self.read(alloc, line)?;
         self.tell(line, &reading, listener);
-        self.carry_out(alloc, reading, rows)
+        self.carry_out(alloc, reading, rows, listener)
     }
 
     /// Lets a listener hear what the line just counted says.
@@ -179,12 +186,36 @@ impl Session {
         }
     }
 
+    /// Lets a listener hear what an event of a client did.
+    pub(crate) fn tell_effects<L: Listener>(
+        &mut self,
+        client: u32,
+        effects: &Effects,
+        listener: &mut L,
+    )
+        ensures { self.new ≡ self.old }
+    {
+        if let Some(space) = &mut self.space {
+            listener.answered(space, client, effects);
+        }
+    }
+
+    /// Lets a listener hear of the end of a script with calls.
+    pub(crate) fn tell_end<L: Listener>(&mut self, listener: &mut L)
+        ensures { self.new ≡ self.old }
+    {
+        if let Some(space) = &mut self.space {
+            listener.ended(space);
+        }
+    }
+
     /// Does what a line says, and prints its rows.
-    pub(crate) fn carry_out(
+    pub(crate) fn carry_out<L: Listener>(
         &mut self,
         alloc: Global,
         reading: Reading,
         rows: &mut String,
+        listener: &mut L,
     ) -> Result<(), Memory>
         requires sound { IsSound self.old reading }
         requires counted { self.old.bad < self.old.lines }
@@ -203,7 +234,9 @@ impl Session {
                 self.set_time(now);
                 Ok(())
             }
-            Reading::Command(client, command) => self.make_all(alloc, client, command, rows),
+            Reading::Command(client, command) => self.make_all(
+                alloc, client, command, rows, listener,
+            ),
         }
     }
 

@@ -2,6 +2,7 @@
 
 use ipc_call::Memory;
 use ipc_hints::Hints;
+use ipc_space::{Effects, Space};
 use ipc_text::{Command, Line, Reason};
 use ipcsh::Listener;
 use std::alloc::Global;
@@ -72,6 +73,10 @@ impl<P: Eprint> Listener for Explainer<'_, P> {
             self.keep(whole, &hint);
         }
     }
+
+    fn answered(&mut self, _space: &mut Space, _client: u32, _effects: &Effects) {}
+
+    fn ended(&mut self, _space: &mut Space) {}
 
     fn written(&mut self) {
         if !self.text.is_empty() {

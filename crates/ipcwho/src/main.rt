@@ -13,10 +13,8 @@ use ipc_live::{
     Object, Process, is_unattached, print_orphan, print_remover, print_table, print_why, tabulate,
     users_are_gone,
 };
-use std::alloc::{AllocError, Global};
-use std::env;
-use std::env::Args;
-use std::io::ErrorKind;
+use program_words::called_with;
+use std::alloc::AllocError;
 use std::process::ExitCode;
 use std::rt::{Env, Files};
 use thiserror::Error;
@@ -52,17 +50,11 @@ impl From<AllocError> for Fault {
 
 /// What the words ask for; `None` where the program doesn't take them. A word that is no text it doesn't take.
 fn asked<R: Env + AllocGlobal>(rt: &R) -> Result<Option<Asked>, AllocError> {
-    match env::args(rt) {
-        Ok(given) => read_words(rt.alloc(), given),
-        Err(error) if error.kind() == ErrorKind::OutOfMemory => Err(AllocError),
-        Err(_) => Ok(None),
-    }
-}
-
-fn read_words(alloc: Global, given: Args) -> Result<Option<Asked>, AllocError> {
-    let texts: Vec<String> = given.collect(alloc)?;
-    let words: Vec<&str> = texts.iter().map(|text| text.as_str()).collect(alloc)?;
-    asked_of(alloc, words.as_slice())
+    let Some(texts) = called_with(rt)? else {
+        return Ok(None);
+    };
+    let words: Vec<&str> = texts.iter().map(|text| text.as_str()).collect(rt.alloc())?;
+    asked_of(rt.alloc(), words.as_slice())
 }
 
 /// Does what is asked, and answers the status.

@@ -30,7 +30,7 @@ use ipc_call::{
     Answer, Get, Items, Limits, Memory, Outcome, Receive, Rule, Sending, creates, may_wait,
 };
 use ipc_objects::Object;
-use ipc_perm::{Perm, TO_ALTER, TO_READ, Verdict, decide};
+use ipc_perm::{Perm, TO_ALTER, TO_READ};
 use object_calls::{Caller, may_open, new_object};
 use std::alloc::Global;
 
@@ -79,10 +79,7 @@ impl Queues {
             ≡ left_by (queues_of self.old) (receiving (queues_of self.old) who.entry.now id asked) }
         ensures room { (j : ℕ) → room self.new j ≡ room self.old j }
     {
-        let Some(queue) = self.get(id) else {
-            return Some(Err(Rule::BadId));
-        };
-        if let Verdict::Denied(rule) = decide(who.creds(), &queue.perm, TO_READ) {
+        if let Err(rule) = self.permitted(who, id, TO_READ) {
             return Some(Err(rule));
         }
         self.take_chosen(who, id, asked)
@@ -106,12 +103,10 @@ impl Queues {
         if asked.len as u64 > u64::from(limits.msg_max) {
             return Some(Err(Rule::TextTooLong));
         }
-        let Some(queue) = self.get(id) else {
-            return Some(Err(Rule::BadId));
+        let queue = match self.permitted(who, id, TO_ALTER) {
+            Ok(queue) => queue,
+            Err(rule) => return Some(Err(rule)),
         };
-        if let Verdict::Denied(rule) = decide(who.creds(), &queue.perm, TO_ALTER) {
-            return Some(Err(rule));
-        }
         if queue.contents.fits(asked.len) {
             Some(Ok(()))
         } else if may_wait(asked.flags) {

@@ -11,6 +11,7 @@ ghost use Rattle.std.specs.Prelude.{
   Some,
   None,
   IfOk,
+  IfErr,
   OnOk,
   OnErr,
   IfSome,
@@ -23,18 +24,23 @@ ghost use Rattle.ipc_ids.specs.Table.{empty_table, find_object, ids_of, next_id 
 ghost use Rattle.ipc_ids.specs.Table.{with_object, without_object};
 ghost use Rattle.ipc_model.specs.Controls.{perm_in, with_settings};
 ghost use Rattle.ipc_model.specs.Gets.{object_of_key};
-ghost use Rattle.ipc_model.specs.Decision.{left_by, outcome_of};
+ghost use Rattle.ipc_model.specs.Decision.{Refused as RefusedBy, left_by, outcome_of};
 ghost use Rattle.ipc_model.specs.Messages.{queue_at, with_message};
+ghost use Rattle.ipc_model.specs.Plan.{Plan, decision};
+ghost use Rattle.ipc_model.specs.State.{Queue as Contents, Queues as Table};
+ghost use Rattle.ipc_objects.specs.declared.object.Object.{Object as Entry};
 ghost use Rattle.ipc_objects.specs.Objects.{changed, has_key, with_contents};
 ghost use Rattle.ipc_objects.specs.Seen.{seen};
+ghost use Rattle.ipc_perm.specs.Access.{Permission, denial};
+ghost use Rattle.object_calls.specs.Permitted.{permitted};
 ghost use Rattle.msg_queue.specs.Messages.{is_full};
 ghost use Rattle.msg_calls.specs.Calls.{taking_in};
 ghost use Rattle.msg_calls.specs.WithRoom.{one_if, queue_of, queues_of, room};
 
 use crate::queue::Queue;
-use ipc_call::{Items, Memory, Outcome, Receive, Settings};
+use ipc_call::{Items, Memory, Outcome, Receive, Rule, Settings};
 use ipc_objects::{Object, Objects};
-use ipc_perm::Perm;
+use ipc_perm::{Perm, Want};
 use object_calls::{Caller, owner_of};
 use std::alloc::Global;
 use std::marker::Model;
@@ -100,6 +106,21 @@ impl Queues {
             ≡ queue_at (queues_of self.now) id }
     {
         self.objects.get(id)
+    }
+
+    /// The queue of an identifier, where there is one and the caller has these rights at it.
+    pub(super) fn permitted(
+        &self,
+        who: &Caller,
+        id: u32,
+        want: Want,
+    ) -> Result<&Object<Queue>, Rule>
+        ensures there { IfOk result (λ queue. queue_at (queues_of self.now) id ≡ Some (seen queue_of queue.now)) }
+        ensures permitted { IfOk result (λ queue. denial who.entry.now.creds (Permission queue.now.perm want) ≡ None) }
+        ensures refused { (rest : Entry Contents → Plan Table) → IfErr result (λ rule.
+            decision who.entry.now.creds (permitted (queue_at (queues_of self.now) id) want rest) ≡ RefusedBy rule) }
+    {
+        who.permitted(self.get(id), want)
     }
 
     /// The permissions of the queue of an identifier.

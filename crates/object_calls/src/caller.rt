@@ -1,9 +1,14 @@
 //! Who calls.
 
-ghost use Rattle.std.specs.Prelude.{◌≡◌, ◌<◌};
+ghost use Rattle.std.specs.Prelude.{◌≡◌, ◌<◌, Some, None, IfOk, IfErr, option_copied};
 ghost use Rattle.ipc_model.specs.State.{pid_of};
+ghost use Rattle.ipc_perm.specs.Access.{Permission, denial};
+ghost use Rattle.object_calls.specs.Permitted.{refusal};
 
+use ipc_call::Rule;
 use ipc_creds::Creds;
+use ipc_objects::Object;
+use ipc_perm::{Verdict, Want, decide};
 use std::marker::Model;
 
 /// A client that calls, with its credentials, and when.
@@ -61,5 +66,24 @@ impl<'a> Caller<'a> {
         ensures { result ≡ self.entry.now.now }
     {
         self.now
+    }
+
+    /// The object that was looked up by its identifier, where there is one and the caller has these rights at it.
+    pub fn permitted<'o, T>(
+        &self,
+        there: Option<&'o Object<T>>,
+        want: Want,
+    ) -> Result<&'o Object<T>, Rule>
+        ensures there { IfOk result (λ object. option_copied there.entry ≡ Some object.now) }
+        ensures permitted { IfOk result (λ object. denial self.entry.now.creds (Permission object.now.perm want) ≡ None) }
+        ensures refused { IfErr result (λ rule. refusal self.entry.now.creds want (option_copied there.entry) ≡ Some rule) }
+    {
+        let Some(object) = there else {
+            return Err(Rule::BadId);
+        };
+        match decide(self.creds, &object.perm, want) {
+            Verdict::Denied(rule) => Err(rule),
+            Verdict::Allowed(_) => Ok(object),
+        }
     }
 }

@@ -39,7 +39,7 @@ use crate::set::Set;
 use crate::sets::Sets;
 use ipc_call::{Answer, Get, GetSet, Items, Limits, Memory, Outcome, Rule, creates};
 use ipc_objects::Object;
-use ipc_perm::{TO_ALTER, TO_READ, Verdict, decide};
+use ipc_perm::{TO_ALTER, TO_READ};
 use object_calls::{Caller, may_open, new_object};
 use sem_set::{SemSet, is_value};
 
@@ -121,12 +121,7 @@ impl Sets {
             ≡ Some (Ok (Value (tell semaphores.now))))
             (λ rule. outcome_of (looking (sems_of self.now) who.entry.now id num tell) ≡ Some (Err rule)) }
     {
-        let Some(set) = self.get(id) else {
-            return Err(Rule::BadId);
-        };
-        if let Verdict::Denied(rule) = decide(who.creds(), &set.perm, TO_READ) {
-            return Err(rule);
-        }
+        let set = self.permitted(who, id, TO_READ)?;
         let semaphores = &set.contents.semaphores;
         if num as usize >= semaphores.len() {
             return Err(Rule::BadSem);
@@ -140,12 +135,10 @@ impl Sets {
             outcome_of (telling_all (sems_of self.now) who.entry.now id) ≡ Some outcome) }
         ensures same { left_by (sems_of self.now) (telling_all (sems_of self.now) who.entry.now id) ≡ sems_of self.now }
     {
-        let Some(set) = self.get(id) else {
-            return Ok(Err(Rule::BadId));
+        let set = match self.permitted(who, id, TO_READ) {
+            Ok(set) => set,
+            Err(rule) => return Ok(Err(rule)),
         };
-        if let Verdict::Denied(rule) = decide(who.creds(), &set.perm, TO_READ) {
-            return Ok(Err(rule));
-        }
         let values = set.contents.semaphores.values(self.alloc)?;
         Ok(Ok(Answer::Values(Items::new(values))))
     }
@@ -160,12 +153,7 @@ impl Sets {
         if !is_value(value) {
             return Err(Rule::ValueRange);
         }
-        let Some(set) = self.get(id) else {
-            return Err(Rule::BadId);
-        };
-        if let Verdict::Denied(rule) = decide(who.creds(), &set.perm, TO_ALTER) {
-            return Err(rule);
-        }
+        let set = self.permitted(who, id, TO_ALTER)?;
         if num as usize >= set.contents.semaphores.len() {
             return Err(Rule::BadSem);
         }
@@ -202,12 +190,7 @@ impl Sets {
         if !are_values(values) {
             return Err(Rule::ValueRange);
         }
-        let Some(set) = self.get(id) else {
-            return Err(Rule::BadId);
-        };
-        if let Verdict::Denied(rule) = decide(who.creds(), &set.perm, TO_ALTER) {
-            return Err(rule);
-        }
+        let set = self.permitted(who, id, TO_ALTER)?;
         if values.len() != set.contents.semaphores.len() {
             return Err(Rule::BadSize);
         }

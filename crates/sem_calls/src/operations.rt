@@ -29,7 +29,7 @@ ghost use Rattle.sem_calls.specs.Operations.{IsOperated, MayOperate, StayInRange
 use crate::set::Set;
 use crate::sets::Sets;
 use ipc_call::{Answer, Limits, Memory, Outcome, Rule, SemOper, undoes};
-use ipc_perm::{Verdict, Want, decide};
+use ipc_perm::Want;
 use object_calls::Caller;
 use sem_set::Trial;
 use sem_undo::Undo;
@@ -141,12 +141,10 @@ impl Sets {
         if ops.len() as u64 > u64::from(limits.sem_opm) {
             return Some(Err(Rule::TooManyOperations));
         }
-        let Some(set) = self.sets.get(id) else {
-            return Some(Err(Rule::BadId));
+        let set = match self.permitted(who, id, wanted_by(ops)) {
+            Ok(set) => set,
+            Err(rule) => return Some(Err(rule)),
         };
-        if let Verdict::Denied(rule) = decide(who.creds(), &set.perm, wanted_by(ops)) {
-            return Some(Err(rule));
-        }
         if !are_in(&set.contents, ops) {
             return Some(Err(Rule::SemOutOfSet));
         }

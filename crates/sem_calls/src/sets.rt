@@ -1,20 +1,26 @@
 //! The semaphore sets of a namespace.
 
-ghost use Rattle.std.specs.Prelude.{◌≡◌, ◌≤◌, ℕ, true, IfOk, IsSome, option_copied, option_map};
+ghost use Rattle.std.specs.Prelude.{◌≡◌, ◌≤◌, ℕ, true, IfOk, IfErr, IsSome, None, Some, option_copied, option_map};
 ghost use Rattle.std.specs.FinMap as finite;
 ghost use Rattle.ipc_ids.specs.Table.{empty_table, ids_of};
 ghost use Rattle.ipc_model.specs.Controls.{perm_in, with_new_owner, without_set};
+ghost use Rattle.ipc_model.specs.Decision.{Refused as RefusedBy};
 ghost use Rattle.ipc_model.specs.Gets.{object_of_key};
+ghost use Rattle.ipc_model.specs.Plan.{Plan, decision};
 ghost use Rattle.ipc_model.specs.Semaphores.{set_at, values_at};
+ghost use Rattle.ipc_model.specs.State.{SemSet, Sems};
 ghost use Rattle.ipc_objects.specs.Objects.{changed};
+ghost use Rattle.ipc_objects.specs.declared.object.Object.{Object as Entry};
+ghost use Rattle.ipc_perm.specs.Access.{Permission, denial};
+ghost use Rattle.object_calls.specs.Permitted.{permitted};
 ghost use Rattle.sem_undo.specs.Entries.{adj_of, nothing_undone};
 ghost use Rattle.sem_calls.specs.WithRows.{row_at, sems_of};
 
 use crate::set::Set;
-use ipc_call::{Memory, Settings};
+use ipc_call::{Memory, Rule, Settings};
 use ipc_objects::{Object, Objects};
-use ipc_perm::Perm;
-use object_calls::owner_of;
+use ipc_perm::{Perm, Want};
+use object_calls::{Caller, owner_of};
 use sem_undo::Undo;
 use std::alloc::Global;
 use std::marker::Model;
@@ -65,6 +71,16 @@ impl Sets {
         ensures { option_copied result ≡ set_at (sems_of self.now) id }
     {
         self.sets.get(id)
+    }
+
+    /// The set of an identifier, where there is one and the caller has these rights at it.
+    pub(super) fn permitted(&self, who: &Caller, id: u32, want: Want) -> Result<&Object<Set>, Rule>
+        ensures there { IfOk result (λ set. set_at (sems_of self.now) id ≡ Some set.now) }
+        ensures permitted { IfOk result (λ set. denial who.entry.now.creds (Permission set.now.perm want) ≡ None) }
+        ensures refused { (rest : Entry SemSet → Plan Sems) → IfErr result (λ rule.
+            decision who.entry.now.creds (permitted (set_at (sems_of self.now) id) want rest) ≡ RefusedBy rule) }
+    {
+        who.permitted(self.get(id), want)
     }
 
     /// The permissions of the set of an identifier.

@@ -10,7 +10,7 @@ ghost use Rattle.shm_seg.specs.Attachments.{attachment_at};
 
 use crate::segments::Segments;
 use ipc_call::{Answer, Memory, Outcome, Rule, is_read_only};
-use ipc_perm::{Verdict, Want, decide};
+use ipc_perm::Want;
 use object_calls::Caller;
 use shm_seg::Attachment;
 
@@ -24,10 +24,7 @@ impl Segments {
         ensures shared { OnOk result (self.new ≡ left_by self.old (attaching self.old who.entry.now id flags)) }
         ensures err { OnErr result (self.new ≡ self.old) }
     {
-        let Some(segment) = self.get(id) else {
-            return Ok(Err(Rule::BadId));
-        };
-        if let Verdict::Denied(rule) = decide(who.creds(), &segment.perm, wanted_by(flags)) {
+        if let Err(rule) = self.permitted(who, id, wanted_by(flags)) {
             return Ok(Err(rule));
         }
         let Some(number) = self.attached.free_number(who.client()) else {

@@ -1,18 +1,24 @@
 //! The shared memory segments of a namespace.
 
-ghost use Rattle.std.specs.Prelude.{◌≡◌, ◌≤◌, IfOk, IsSome, option_copied, option_map};
+ghost use Rattle.std.specs.Prelude.{◌≡◌, ◌≤◌, IfOk, IfErr, IsSome, None, Some, option_copied, option_map};
 ghost use Rattle.ipc_ids.specs.Table.{empty_table, ids_of};
 ghost use Rattle.ipc_model.specs.Controls.{marked, perm_in, with_new_owner, without_segment};
+ghost use Rattle.ipc_model.specs.Decision.{Refused as RefusedBy};
 ghost use Rattle.ipc_model.specs.Gets.{object_of_key};
+ghost use Rattle.ipc_model.specs.Plan.{Plan, decision};
 ghost use Rattle.ipc_model.specs.Segments.{segment_at};
+ghost use Rattle.ipc_model.specs.State.{Segment as Contents, Shared};
 ghost use Rattle.ipc_objects.specs.Objects.{changed};
+ghost use Rattle.ipc_objects.specs.declared.object.Object.{Object as Entry};
+ghost use Rattle.ipc_perm.specs.Access.{Permission, denial};
+ghost use Rattle.object_calls.specs.Permitted.{permitted};
 ghost use Rattle.shm_seg.specs.Attachments.{attach_count, attachment_at, none_attached};
 
 use crate::segment::Segment;
-use ipc_call::{Memory, Settings};
+use ipc_call::{Memory, Rule, Settings};
 use ipc_objects::{Object, Objects};
-use ipc_perm::Perm;
-use object_calls::owner_of;
+use ipc_perm::{Perm, Want};
+use object_calls::{Caller, owner_of};
 use shm_seg::{Attachment, Attachments};
 use std::alloc::Global;
 use std::marker::Model;
@@ -70,6 +76,21 @@ impl Segments {
         ensures { option_copied result ≡ segment_at self.now id }
     {
         self.segments.get(id)
+    }
+
+    /// The segment of an identifier, where there is one and the caller has these rights at it.
+    pub(super) fn permitted(
+        &self,
+        who: &Caller,
+        id: u32,
+        want: Want,
+    ) -> Result<&Object<Segment>, Rule>
+        ensures there { IfOk result (λ segment. segment_at self.now id ≡ Some segment.now) }
+        ensures permitted { IfOk result (λ segment. denial who.entry.now.creds (Permission segment.now.perm want) ≡ None) }
+        ensures refused { (rest : Entry Contents → Plan Shared) → IfErr result (λ rule.
+            decision who.entry.now.creds (permitted (segment_at self.now id) want rest) ≡ RefusedBy rule) }
+    {
+        who.permitted(self.get(id), want)
     }
 
     /// The permissions of the segment of an identifier.

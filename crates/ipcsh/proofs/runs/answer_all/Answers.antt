@@ -46,7 +46,7 @@ pub returns-then-taken-eq0-clause-ok : goal.returns-then-taken-eq0-clause-ok
 returns-then-taken-eq0-clause-ok g c =
     let h = c.pieces.invariant.going in
     let none : Consumes (g.R.Read.remaining c.pieces.reader) (g.R.Read.remaining c.read_piece.new.reader) [] = subst (λ (n : ℕ). Consumes (g.R.Read.remaining c.pieces.reader) (g.R.Read.remaining c.read_piece.new.reader) (take n c.read_piece.new.piece)) c.if-taken-eq0.true c.in_ok-taken.ensures.bytes in
-    at_end _ _ _ _ _ _ h.0 h.1 c.pieces.input c.finish.new.self c.summary.result h.3 none (c.in_ok-taken.ensures.end c.if-taken-eq0.true) (c.in_ok-finish.ensures h.0 h.1 h.3.held) c.in_ok-flush.ensures.ok (c.summary.ensures ∙ ap (λ (s : Session). summary_of s) c.in_ok-flush.ensures.session)
+    at_end _ _ _ _ _ _ h.0 h.1 c.pieces.input c.finish.new.self c.summary.result h.3 none (c.in_ok-taken.ensures.end c.if-taken-eq0.true) (c.in_ok-finish.ensures h.0 h.1 h.3.held) c.in_ok-flush.ensures.ok (c.summary.ensures ∙ ap (λ (s : Session). summary_of s) (c.tell_end.ensures ∙ c.in_ok-flush.ensures.session))
 
 pub returns-then-count-eq-INPUT_MAX-clause-fault : goal.returns-then-count-eq-INPUT_MAX-clause-fault
 returns-then-count-eq-INPUT_MAX-clause-fault g c =

@@ -9,7 +9,7 @@ use Rattle.ipcsh.proofs.CommandLemmas.{CarriesOut-parts, Leads-more, Leads-none}
 use Rattle.ipcsh.proofs.session.Session.make_all.Goals as goal
 
 pub loop-part-init : goal.loop-part-init
-loop-part-init c = record {
+loop-part-init g c = record {
   split = refl;
   count = search rules;
   made = Leads-none (parts_made c.args.client []) (λ p. p) c.args.self.now (string_bytes c.args.rows.now) (λ p is. refl);
@@ -18,7 +18,7 @@ loop-part-init c = record {
 }
 
 pub loop-part-preserved : goal.loop-part-preserved
-loop-part-preserved c =
+loop-part-preserved g c =
     let at = c.loop-part in
     let part = c.in-Some.part in
     let steps : into_iter_items at.part-iterator ≡ part ∷ into_iter_items c.next.new.self = c.in-Some.ensures.steps.0 in
@@ -31,7 +31,7 @@ loop-part-preserved c =
     }
 
 pub returns-clause-does : goal.returns-clause-does
-returns-clause-does c =
+returns-clause-does g c =
     let at = c.loop-part in
     let none = c.in-None.ensures.steps in
     let empty : into_iter_items at.part-iterator ≡ [] = nil_from_length _ (sym at.invariant.count ∙ none.0) in

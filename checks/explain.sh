@@ -1,0 +1,91 @@
+# ipcsh_explain: over every script of examples/ and crates/rows/data it prints the stored rows once its notes are taken out, and
+# each refusal, bad line, wait and end of a wait has a note; the stored explanations of crates/ipcsh_explain/data and of
+# examples/; and how long it takes beside ipcsh.
+
+check_explain() { with_program with_crate ipcsh_explain explain_checks; }
+
+explain_checks() {
+    for file in examples/*.ipcsh; do
+        attempt "explained $file" explains "$file" "${file%.ipcsh}"
+    done
+    for file in crates/rows/data/*.in; do
+        attempt "explained $file" explains "$file" "${file%.in}"
+    done
+    for file in crates/ipcsh_explain/data/*.in examples/explained/*.ipcsh; do
+        attempt "$file" matches "${file%.*}" "${file##*.}" "$(program_to_run ipcsh_explain)"
+    done
+    attempt 'ipcsh_explain of a file' explains_a_file
+    attempt 'ipcsh_explain of no file' explains_no_file
+    attempt 'ipcsh_explain, output that cannot be written' explain_cannot_write
+    attempt 'ipcsh_explain, 100,000 lines' explains_in_time
+}
+
+# explains SCRIPT BASE: without the notes its output is that of BASE.out, with the status of BASE.status, and each row that wants
+# a note has one. The scripts of threads are others.
+explains() {
+    [ ! -f "$2.words" ] || return 0
+    wanted=0
+    [ ! -f "$2.status" ] || wanted=$(cat "$2.status")
+    status=0
+    timeout 60 "$(program_to_run ipcsh_explain)" <"$1" >"$scratch/explained" 2>"$scratch/err" || status=$?
+    grep -v '^    ' "$scratch/explained" >"$scratch/out" || :
+    same 'its output without the notes' "$2.out" "$scratch/out" || return 1
+    why="status $status, not $wanted"
+    [ "$status" = "$wanted" ] || return 1
+    why='a row has no note:'
+    each_has_a_note "$scratch/explained" >"$scratch/shown"
+}
+
+# each_has_a_note FILE: below each row of a refusal, a wait, the end of a wait or a bad line stands a note. A row of which memory
+# was refused wants none.
+each_has_a_note() {
+    awk '
+        wants != "" && !/^    / { print wants; missing = 1 }
+        { wants = "" }
+        /^line [0-9]+: / || /^[0-9]+\.[0-9]+ [a-z0-9]+ (error |waits$)/ || /^[0-9]+\.[1-9]/ { wants = $0 }
+        END { if (wants != "") { print wants; missing = 1 }; exit missing }' "$1"
+}
+
+explains_a_file() {
+    "$(program_to_run ipcsh_explain)" examples/waiting.ipcsh >"$scratch/wanted" || return 1
+    "$(program_to_run ipcsh_explain)" <examples/waiting.ipcsh >"$scratch/out" || return 1
+    same 'its output' "$scratch/wanted" "$scratch/out"
+}
+
+explains_no_file() {
+    status=0
+    "$(program_to_run ipcsh_explain)" "$scratch/there is no such file" >"$scratch/out" 2>"$scratch/err" || status=$?
+    why="status $status, not 2, or it printed"
+    [ "$status" = 2 ] && [ ! -s "$scratch/out" ] && grep -q '^ipcsh_explain: ' "$scratch/err"
+}
+
+explain_cannot_write() {
+    status=0
+    "$(program_to_run ipcsh_explain)" examples/waiting.ipcsh >/dev/full 2>"$scratch/err" || status=$?
+    why="status $status, not 2"
+    [ "$status" = 2 ] || return 1
+    echo 'ipcsh_explain: write failed' >"$scratch/wanted"
+    same 'its standard error' "$scratch/wanted" "$scratch/err"
+}
+
+# A hundred thousand lines, of which a third is refused and a sixth waits, in at most twice the time of ipcsh; and a second for the
+# machine.
+explains_in_time() {
+    {
+        printf 'client alice 100 10\nclient bob 200 20\nalice msgget 5 01600\nalice msgget 6 01666\n'
+        seq 16666 | awk '{
+            print "bob msgget 5 0600\nbob msgsnd 0 1 t:x 0\nbob msgrcv 1 10 0 0\nalice msgsnd 1 1 t:x 0\nalice getval 0 0\nalice stat q 1" }'
+    } >"$scratch/long.ipcsh"
+    milliseconds "$(program_to_run ipcsh_cli)" "$scratch/long.ipcsh" || return 1
+    plain=$taken
+    milliseconds "$(program_to_run ipcsh_explain)" "$scratch/long.ipcsh" || return 1
+    why="it takes $taken ms, and ipcsh $plain ms"
+    [ "$taken" -le $((2 * plain + 1000)) ]
+}
+
+# milliseconds PROGRAM SCRIPT: sets `taken`.
+milliseconds() {
+    start=$(date +%s%N)
+    "$1" <"$2" >/dev/null || return 1
+    taken=$((($(date +%s%N) - start) / 1000000))
+}

@@ -1,0 +1,4 @@
+pub mod Asked
+pub mod Cases
+pub mod Denials
+pub mod Waits

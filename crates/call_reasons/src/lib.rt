@@ -1,0 +1,28 @@
+//! Why a call was refused, what it waits for, and what ended its wait, in words: what can be seen of it in the namespace that its
+//! event left.
+//!
+//! The words are for people, and the project's own: what a call is answered is said by its row alone.
+#![tactic(auto)]
+
+mod asked;
+mod calls;
+mod cases;
+mod cycles;
+mod denials;
+mod ends;
+mod objects;
+mod processes;
+mod queues;
+mod refusals;
+mod segments;
+mod sets;
+mod trials;
+mod waits;
+
+pub use asked::{Asked, Target, asked_by, controlled_by};
+pub use cases::{Case, NamedObject, latest_call, object_named};
+pub use cycles::Graph;
+pub use denials::{Denial, denial_of};
+pub use ends::{Ender, Wait, explain_end};
+pub use refusals::explain_refusal;
+pub use waits::{Awaited, awaited_by, print_awaited};

@@ -1,0 +1,220 @@
+//! What refuses calls on objects of any kind.
+
+use crate::asked::{Target, asked_by, controlled_by};
+use crate::calls::{object_of, word_of};
+use crate::cases::{Case, NamedObject, Told, object_named};
+use crate::denials::{Denial, denial_of};
+use ipc_call::{Call, Kind, Perm};
+use ipc_perm::Want;
+use perm_words::{
+    Standing, class_bits, is_within, kind_name, print_class, print_object, rights_in, rights_name,
+};
+use std::fmt::Write;
+
+/// The classes, each with its name.
+static CLASSES: [(Standing, &str); 3] = [
+    (Standing::Owner, "the owner"),
+    (Standing::OwnersGroup, "the group"),
+    (Standing::Other, "others"),
+];
+
+/// Tells which permission bits decided, and what would have allowed it.
+pub(crate) fn explain_bits(out: &mut String, case: Case<'_>) -> Told {
+    let Some(asked) = asked_by(case.call) else {
+        return Ok(());
+    };
+    let (Some(object), Some(creds)) = (
+        object_named(case.space, asked.target),
+        case.space.creds_of(case.client),
+    ) else {
+        return Ok(());
+    };
+    print_object(out, object.kind, object.id, &object.perm)?;
+    out.push_str("\n")?;
+    if let Some(denial) = denial_of(creds, &object.perm, asked.want) {
+        print_class(out, creds, &object.perm)?;
+        out.push_str("\n")?;
+        explain_denial(out, case.call, &object.perm, denial)?;
+    }
+    Ok(())
+}
+
+fn explain_denial(out: &mut String, call: &Call, perm: &Perm, denial: Denial) -> Told {
+    print_asking(out, call)?;
+    let (rights, more) = (rights_in_words(denial.want), asking_detail(call));
+    write!(out, " to {rights}{more}; ")?;
+    print_allowed(out, perm, denial.want)?;
+    out.push_str("CAP_IPC_OWNER allows it to any caller\n")
+}
+
+/// Appends what of the call asks.
+fn print_asking(out: &mut String, call: &Call) -> Told {
+    let word = word_of(call);
+    match call {
+        Call::MsgGet { flags, .. } | Call::SemGet { flags, .. } | Call::ShmGet { flags, .. } => {
+            let bits = *flags & 0o777;
+            write!(out, "the bits {bits:04o} in the flags of {word} ask")
+        }
+        Call::ShmAt { flags, .. } => {
+            let with = if *flags & 0o10000 == 0 {
+                "without"
+            } else {
+                "with"
+            };
+            write!(out, "shmat {with} SHM_RDONLY asks")
+        }
+        Call::SemOp { .. } | Call::SemTimedOp { .. } => {
+            write!(out, "the operations of {word} ask")
+        }
+        _ => write!(out, "{word} asks"),
+    }
+}
+
+/// What of the call asks for which right, where it may ask for several.
+fn asking_detail(call: &Call) -> &'static str {
+    match call {
+        Call::MsgGet { .. } | Call::SemGet { .. } | Call::ShmGet { .. } => {
+            " (0444 to read, 0222 to write)"
+        }
+        Call::SemOp { .. } | Call::SemTimedOp { .. } => " (one of 0 to read, any other to write)",
+        _ => "",
+    }
+}
+
+/// Rights in words.
+pub(crate) fn rights_in_words(want: Want) -> &'static str {
+    match (want.read, want.alter) {
+        (true, true) => "read and to write",
+        (true, false) => "read",
+        (false, true) => "write",
+        (false, false) => "do nothing",
+    }
+}
+
+/// Appends to which classes the mode gives the rights.
+pub(crate) fn print_allowed(out: &mut String, perm: &Perm, want: Want) -> Told {
+    let mode = perm.mode.bits();
+    let mut are_some = false;
+    for (standing, name) in &CLASSES {
+        let rights = rights_in(class_bits(*standing, mode));
+        if is_within(want, rights) {
+            let shown = rights_name(rights);
+            let before = if are_some {
+                " and "
+            } else {
+                "the mode allows that to "
+            };
+            write!(out, "{before}{name} ({shown})")?;
+            are_some = true;
+        }
+    }
+    out.push_str(if are_some {
+        "; "
+    } else {
+        "the mode allows that to no class; "
+    })
+}
+
+/// Tells whose the object is that only its owner or creator may set and remove.
+pub(crate) fn explain_control(out: &mut String, case: Case<'_>) -> Told {
+    let Some((kind, id)) = controlled_by(case.call) else {
+        return Ok(());
+    };
+    let (Some(NamedObject { perm, .. }), Some(creds)) = (
+        object_named(case.space, Target::Id(kind, id)),
+        case.space.creds_of(case.client),
+    ) else {
+        return Ok(());
+    };
+    print_object(out, kind, id, &perm)?;
+    let (user, word) = (creds.euid(), word_of(case.call));
+    write!(
+        out,
+        "\nuser {user} is neither its owner nor its creator; {word} asks for no permission bit, and CAP_SYS_ADMIN allows it to any caller\n"
+    )
+}
+
+/// Tells that the identifier names no object.
+pub(crate) fn explain_bad_id(out: &mut String, case: Case<'_>) -> Told {
+    let Some((kind, id)) = object_of(case.call) else {
+        return Ok(());
+    };
+    let kind = kind_name(kind);
+    write!(out, "there is no {kind} {id} now\n")
+}
+
+/// The kind and the key of a get.
+fn key_of(call: &Call) -> Option<(Kind, u32)> {
+    match call {
+        Call::MsgGet { key, .. } => Some((Kind::Queue, *key)),
+        Call::SemGet { key, .. } => Some((Kind::Sems, *key)),
+        Call::ShmGet { key, .. } => Some((Kind::Segment, *key)),
+        _ => None,
+    }
+}
+
+/// Tells that a key has no object.
+pub(crate) fn explain_no_key(out: &mut String, case: Case<'_>) -> Told {
+    let Some((kind, key)) = key_of(case.call) else {
+        return Ok(());
+    };
+    let kind = kind_name(kind);
+    write!(
+        out,
+        "no {kind} has the key 0x{key:x}, and the flags lack IPC_CREAT (01000), which would create one\n"
+    )
+}
+
+/// Tells which object has the key of an exclusive get.
+pub(crate) fn explain_key_exists(out: &mut String, case: Case<'_>) -> Told {
+    let Some((kind, key)) = key_of(case.call) else {
+        return Ok(());
+    };
+    let Some(object) = object_named(case.space, Target::Key(kind, key)) else {
+        return Ok(());
+    };
+    print_object(out, object.kind, object.id, &object.perm)?;
+    out.push_str(
+        "\nthe flags have both IPC_CREAT (01000) and IPC_EXCL (02000), which ask for a key that no object has\n",
+    )
+}
+
+/// Tells how many slots a kind has.
+pub(crate) fn explain_no_slot(out: &mut String, case: Case<'_>) -> Told {
+    let Some((kind, _)) = key_of(case.call) else {
+        return Ok(());
+    };
+    let (kind, slots) = (kind_name(kind), case.space.limits().slots);
+    write!(
+        out,
+        "each of the {slots} slots for a {kind} holds one or is used up; this isn't disk space\n"
+    )
+}
+
+/// Tells why the caller may not raise msg_qbytes.
+pub(crate) fn explain_resource(out: &mut String, case: Case<'_>) -> Told {
+    let Call::IpcSet {
+        qbytes: Some(qbytes),
+        ..
+    } = case.call
+    else {
+        return Ok(());
+    };
+    let most = case.space.limits().msg_mnb;
+    write!(
+        out,
+        "msg_qbytes {qbytes} is above MSGMNB {most}, which asks for CAP_SYS_RESOURCE\n"
+    )
+}
+
+/// Tells why msg_qbytes doesn't fit.
+pub(crate) fn explain_bad_argument(out: &mut String, case: Case<'_>) -> Told {
+    let Some((kind, id)) = object_of(case.call) else {
+        return Ok(());
+    };
+    let kind = kind_name(kind);
+    write!(
+        out,
+        "msg_qbytes is of queues alone, and this names {kind} {id}\n"
+    )
+}

@@ -1,0 +1,359 @@
+//! A script that is run and explained.
+
+ghost use Rattle.std.specs.Prelude.{◌≡◌, [], Some, List, ℕ, IfOk};
+ghost use Rattle.row_notes.specs.Merging.{IsExplained};
+ghost use Rattle.ipcsh.specs.Runs.{EndsBy, transfer};
+
+use call_reasons::{
+    Awaited, Case, Ender, Graph, Wait, asked_by, awaited_by, explain_end, explain_refusal,
+    latest_call, print_awaited,
+};
+use ipc_call::{Memory, Reply};
+use ipc_hints::Hints;
+use ipc_space::{Effects, Space};
+use ipc_text::{Command, Line, Reason, split_word};
+use ipcsh::{Fault, Listener, Summary, run_with};
+use row_notes::{Head, Notes, merge};
+use std::alloc::Global;
+use std::fmt::Write;
+use std::io::Read;
+
+/// What is told may fail where an allocation does; then a part of the text may stand in the string.
+type Told = Result<(), Memory>;
+
+/// What a run printed, with notes below its rows, and how it ended.
+#[derive(Debug, Drop)]
+pub struct Explained {
+    /// The rows with the notes.
+    pub text: Vec<u8>,
+    /// How the run ended.
+    pub ended: Result<Summary, Fault>,
+}
+
+/// Runs a script to its end, and explains its rows. The error comes only where an allocation for the text fails; one that
+/// fails for a note leaves that note out.
+pub fn explain<R: Read>(alloc: Global, reader: &mut R) -> Result<Explained, Memory>
+    ensures { IfOk result (λ e. (rows : List ℕ)
+        × EndsBy (transfer (R.remaining reader.old) (R.remaining reader.new) (Some []) (Some rows)) e.ended
+        × IsExplained rows e.text.items) }
+{
+    let mut rows = Vec::new(alloc);
+    let mut explainer = Explainer::new(alloc);
+    let ended = run_with(alloc, reader, &mut rows, &mut explainer);
+    explainer.finish();
+    let text = merge(alloc, rows.as_slice(), &explainer.notes)?;
+    Ok(Explained { text, ended })
+}
+
+/// A client of the script.
+#[derive(Debug, Drop)]
+struct Client {
+    name: String,
+    /// Since when its call waits.
+    wait: Option<Wait>,
+}
+
+/// Collects the notes of a run.
+#[derive(Debug, Drop)]
+struct Explainer {
+    alloc: Global,
+    /// None since a client couldn't be noted.
+    hints: Option<Hints>,
+    clients: Vec<Client>,
+    /// Warnings of the latest line with calls, which stand below the row of its first call.
+    warnings: String,
+    notes: Notes,
+}
+
+impl Explainer {
+    fn new(alloc: Global) -> Explainer {
+        Explainer {
+            alloc,
+            hints: Some(Hints::new(alloc)),
+            clients: Vec::new(alloc),
+            warnings: String::new(alloc),
+            notes: Notes::new(alloc),
+        }
+    }
+
+    /// Adds what is told at the end.
+    fn finish(&mut self) {
+        let mut hint = String::new(self.alloc);
+        if let Some(hints) = &self.hints {
+            if hints.finish(&mut hint).is_ok() {
+                self.keep(Head::End, hint.as_str());
+            }
+        }
+    }
+
+    /// Adds a note of whole lines; what begins a line for standard error is cut off.
+    fn keep(&mut self, head: Head, text: &str) {
+        let mut note = String::new(self.alloc);
+        if push_bare(&mut note, text).is_ok() {
+            let _ = self.notes.add(head, note.as_str());
+        }
+    }
+
+    fn add_client(&mut self, text: &[u8]) -> Told {
+        let name = second_word(text);
+        let name = String::from_str(self.alloc, str::from_utf8(name).unwrap_or(""))?;
+        self.clients.push(Client { name, wait: None })?;
+        Ok(())
+    }
+
+    fn name(&self, client: u32) -> &str {
+        match self.clients.get(client as usize) {
+            Some(client) => client.name.as_str(),
+            None => "",
+        }
+    }
+
+    /// Explains the event's own call.
+    fn explain_own(&mut self, case: Case<'_>, effects: &Effects, awaited: Option<Awaited>) -> Told {
+        let mut text = String::new(self.alloc);
+        text.push_str(self.warnings.as_str())?;
+        self.warnings.clear();
+        match &effects.own {
+            Some(
+                Reply::Entered {
+                    outcome: Err(rule),
+                    ..
+                },
+            ) => explain_refusal(&mut text, case, *rule)?,
+            Some(_) => {}
+            None => {
+                if let Some(awaited) = awaited {
+                    print_awaited(&mut text, case.space, case.client, awaited)?;
+                    text.push_str("\n")?;
+                }
+                self.begin_wait(case, effects.place);
+            }
+        }
+        let place = effects.place;
+        self.notes
+            .add(Head::Event { place, turn: 0 }, text.as_str())
+    }
+
+    /// Explains what an event did.
+    fn explain_event(
+        &mut self,
+        space: &Space,
+        client: u32,
+        effects: &Effects,
+        awaited: Option<Awaited>,
+    ) {
+        let Some(call) = latest_call(space) else {
+            return;
+        };
+        let case = Case {
+            space,
+            client,
+            call,
+        };
+        let _ = self.explain_own(case, effects, awaited);
+        for (other, reply) in effects.others.iter() {
+            let _ = self.explain_other(case, effects.place, *other, reply);
+        }
+    }
+
+    fn begin_wait(&mut self, case: Case<'_>, place: u64) {
+        if let Some(client) = self.clients.get_mut(case.client as usize) {
+            let (clock, asked) = (case.space.clock(), asked_by(case.call));
+            client.wait = Some(Wait {
+                place,
+                clock,
+                asked,
+            });
+        }
+    }
+
+    /// Explains how the event ended the wait of a client.
+    fn explain_other(&mut self, case: Case<'_>, place: u64, client: u32, reply: &Reply) -> Told {
+        let Reply::Entered { turn, outcome, .. } = reply else {
+            return Ok(());
+        };
+        let Some(wait) = self.end_wait(client) else {
+            return Ok(());
+        };
+        let mut text = String::new(self.alloc);
+        let ender = Ender {
+            place,
+            name: self.name(case.client),
+            call: case.call,
+        };
+        explain_end(&mut text, case.space, client, ender, wait, outcome)?;
+        let turn = *turn;
+        self.notes.add(Head::Event { place, turn }, text.as_str())
+    }
+
+    fn end_wait(&mut self, client: u32) -> Option<Wait> {
+        self.clients.get_mut(client as usize)?.wait.take()
+    }
+
+    /// Explains who waits at the end.
+    fn explain_last(&mut self, space: &mut Space) -> Told
+        ensures { space.new ≡ space.old }
+    {
+        let mut text = String::new(self.alloc);
+        let mut graph = Graph::new(self.alloc, space.clients())?;
+        self.print_waiters(&mut text, &mut graph, space)?;
+        self.print_cycle(&mut text, &graph, space.clients())?;
+        self.notes.add(Head::End, text.as_str())
+    }
+
+    /// Appends a line for each client that waits, and notes for whom.
+    fn print_waiters(&self, text: &mut String, graph: &mut Graph, space: &mut Space) -> Told
+        ensures { space.new ≡ space.old }
+    {
+        for client in 0..space.clients() {
+            if let Some(awaited) = awaited_by(space, client) {
+                self.print_waiter(text, space, client, awaited)?;
+                add_edges(graph, space, client, awaited);
+            }
+        }
+        Ok(())
+    }
+
+    fn print_waiter(
+        &self,
+        text: &mut String,
+        space: &Space,
+        client: u32,
+        awaited: Awaited,
+    ) -> Told {
+        let name = self.name(client);
+        write!(text, "at the end {name} waits ")?;
+        print_awaited(text, space, client, awaited)?;
+        if let Some(arrival) = space.waiting_of(client) {
+            let place = arrival.place;
+            write!(text, "; since event {place}")?;
+        }
+        text.push_str("\n")
+    }
+
+    /// Appends a list of clients, each of which waits for the next, and the last for the first.
+    fn print_deadlock(&self, text: &mut String, cycle: &[u32]) -> Told {
+        text.push_str("a deadlock, by what they took with SEM_UNDO: ")?;
+        let first = cycle.first().copied().unwrap_or(0);
+        for (index, client) in cycle.iter().enumerate() {
+            let next = cycle.get(index.saturating_add(1)).copied().unwrap_or(first);
+            let (name, other) = (self.name(*client), self.name(next));
+            let between = if index == 0 { "" } else { ", " };
+            write!(text, "{between}{name} waits for {other}")?;
+        }
+        text.push_str("\n")
+    }
+
+    /// Tells the first cycle of clients that wait for one another.
+    fn print_cycle(&self, text: &mut String, graph: &Graph, count: u32) -> Told {
+        for start in 0..count {
+            let cycle = graph.cycle_from(self.alloc, start)?;
+            if !cycle.is_empty() {
+                return self.print_deadlock(text, cycle.as_slice());
+            }
+        }
+        Ok(())
+    }
+}
+
+/// What an event's own call waits for, where it waits.
+fn newly_awaited(space: &mut Space, client: u32, effects: &Effects) -> Option<Awaited>
+    ensures { space.new ≡ space.old }
+{
+    match effects.own {
+        None => awaited_by(space, client),
+        Some(_) => None,
+    }
+}
+
+/// The client waits for each that has taken some of the semaphore with SEM_UNDO.
+fn add_edges(graph: &mut Graph, space: &Space, client: u32, awaited: Awaited) {
+    if let Awaited::Semaphore { id, oper } = awaited {
+        if oper.op < 0 {
+            for other in 0..space.clients() {
+                if space.semadj_of(other, id, oper.num) > 0 {
+                    graph.add(client, other);
+                }
+            }
+        }
+    }
+}
+
+/// The second word of a line.
+fn second_word(text: &[u8]) -> &[u8] {
+    match split_word(text) {
+        Some((_, rest)) => match split_word(rest) {
+            Some((word, _)) => word,
+            None => b"",
+        },
+        None => b"",
+    }
+}
+
+/// Appends lines without what begins them on standard error, `ipcsh: line 3: `.
+fn push_bare(out: &mut String, text: &str) -> Told {
+    for line in text.lines() {
+        let line = line.strip_prefix("ipcsh: ").unwrap_or(line);
+        let bare = match (line.starts_with("line "), line.find(": ")) {
+            (true, Some(place)) => line.get(place.saturating_add(2)..).unwrap_or(line),
+            _ => line,
+        };
+        out.push_str(bare)?;
+        out.push_str("\n")?;
+    }
+    Ok(())
+}
+
+impl Listener for Explainer {
+    fn client(&mut self, number: u64, text: &[u8]) {
+        let _ = self.add_client(text);
+        if let Some(hints) = &mut self.hints {
+            if hints.client(number, text).is_err() {
+                self.hints = None;
+            }
+        }
+    }
+
+    fn calls(&mut self, number: u64, client: u32, text: &[u8], command: &Command) {
+        let mut hint = String::new(self.alloc);
+        if let Some(hints) = &mut self.hints {
+            if hints.calls(number, client, command) && hints.warn(number, text, &mut hint).is_ok() {
+                self.warnings.clear();
+                let _ = push_bare(&mut self.warnings, hint.as_str());
+            }
+        }
+    }
+
+    fn bad(&mut self, number: u64, line: &Line<'_>, reason: Reason) {
+        let mut hint = String::new(self.alloc);
+        if let Some(hints) = &mut self.hints {
+            if hints.bad(number, line, reason, &mut hint).is_ok() {
+                let text = if hint.is_empty() {
+                    unhinted(reason)
+                } else {
+                    hint.as_str()
+                };
+                self.keep(Head::Line(number), text);
+            }
+        }
+    }
+
+    fn answered(&mut self, space: &mut Space, client: u32, effects: &Effects) {
+        let awaited = newly_awaited(space, client, effects);
+        self.explain_event(space, client, effects, awaited);
+    }
+
+    fn ended(&mut self, space: &mut Space) {
+        let _ = self.explain_last(space);
+    }
+
+    fn written(&mut self) {}
+}
+
+/// What is told of a bad line that has no text of its own, since an earlier line of its first word has it.
+fn unhinted(reason: Reason) -> &'static str {
+    match reason {
+        Reason::Busy => "its call still waits, as told above\n",
+        _ => "no client, as told above\n",
+    }
+}

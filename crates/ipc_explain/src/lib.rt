@@ -1,0 +1,7 @@
+//! What a script did, in words: its rows with notes below them, of each refusal, of each call that waits and of each wait that
+//! ends.
+#![tactic(auto)]
+
+mod explainer;
+
+pub use explainer::{Explained, explain};

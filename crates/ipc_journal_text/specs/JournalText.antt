@@ -1,0 +1,86 @@
+-- A journal as text: a heading with the version, the limits and the clients' credentials at the start, and then a line for
+-- each row. The text is the project's own.
+use Rattle.std.specs.Prelude.{ℕ, ◌+◌, ◌==◌, List, [], ◌∷◌, ◌++◌, codes, decimal, flat_map, bit_and, Option, Some, None, if◌then◌else◌}
+use Rattle.ipc_call.specs.Rules.{error_of, name_of_rule}
+use Rattle.ipc_call.specs.declared.limits.Limits.{Limits}
+use Rattle.ipc_call.specs.declared.replies.JournalRow.{JournalRow}
+use Rattle.ipc_call.specs.declared.replies.JournalRow.TheVariants.{Called, Answered}
+use Rattle.ipc_call.specs.declared.rules.Rule.{Rule}
+use Rattle.ipc_creds.specs.Credentials.{Credentials, cap_ipc_owner, cap_setgid, cap_setuid, cap_sys_admin, cap_sys_resource}
+use Rattle.ipc_journal_text.specs.CallText.{call_text, numbers_text}
+use Rattle.ipc_text.specs.Rows.{error_text}
+
+unfoldable pub limit_text : List ℕ → ℕ → List ℕ
+limit_text name value = codes "limit " ++ (name ++ (codes " " ++ (decimal value ++ codes "\n")))
+
+unfoldable pub message_limits : Limits → List ℕ
+message_limits l =
+    limit_text (codes "slots") l.slots
+    ++ (limit_text (codes "first-seq") l.first_seq
+    ++ (limit_text (codes "msgmax") l.msg_max ++ limit_text (codes "msgmnb") l.msg_mnb))
+
+unfoldable pub other_limits : Limits → List ℕ
+other_limits l =
+    limit_text (codes "semmsl") l.sem_msl
+    ++ (limit_text (codes "semopm") l.sem_opm ++ limit_text (codes "shmmax") l.shm_max)
+
+-- the heading, with the version of the text
+unfoldable pub heading_text : List ℕ
+heading_text = codes "ipcsh journal 1\n"
+
+-- a capability by its name, where the set has it
+unfoldable pub capability_text : ℕ → List ℕ → ℕ → List ℕ
+capability_text caps name cap = if bit_and caps cap == cap then codes "," ++ name else []
+
+-- the set of capabilities as a number, and the names of those that are known
+unfoldable pub capabilities_text : ℕ → List ℕ
+capabilities_text caps =
+    codes " caps "
+    ++ (decimal caps
+    ++ (capability_text caps (codes "IPC_OWNER") cap_ipc_owner
+    ++ (capability_text caps (codes "SYS_ADMIN") cap_sys_admin
+    ++ (capability_text caps (codes "SYS_RESOURCE") cap_sys_resource
+    ++ (capability_text caps (codes "SETUID") cap_setuid ++ capability_text caps (codes "SETGID") cap_setgid)))))
+
+unfoldable pub id_pair_text : List ℕ → ℕ → ℕ → List ℕ
+id_pair_text name user group = name ++ (decimal user ++ (codes ":" ++ decimal group))
+
+-- the users and groups of a client: the effective, the real and the saved ones
+unfoldable pub ids_text : Credentials → List ℕ
+ids_text c =
+    id_pair_text (codes ": effective ") c.euid c.egid
+    ++ (id_pair_text (codes " real ") c.ruid c.rgid ++ id_pair_text (codes " saved ") c.suid c.sgid)
+
+unfoldable pub supplementary_text : List ℕ → List ℕ
+supplementary_text groups = codes " groups " ++ numbers_text groups
+
+-- a client by its number, and all of its credentials
+abbrev pub client_text : ℕ → Credentials → List ℕ
+client_text client c =
+    codes "client "
+    ++ (decimal client ++ (ids_text c ++ (supplementary_text c.groups ++ (capabilities_text c.caps ++ codes "\n"))))
+
+-- clients that are numbered from this number on
+abbrev pub clients_text : ℕ → List Credentials → List ℕ
+clients_text first [] = []
+clients_text first (c ∷ cs) = client_text first c ++ clients_text (first + 1) cs
+
+-- granted, or the error with its number and its name and the rule that decided
+abbrev pub ending_text : Option Rule → List ℕ
+ending_text None = codes "granted\n"
+ending_text (Some rule) = error_text (error_of rule) (name_of_rule rule)
+
+-- a call with its time and its client; an answer with the place and turn of the event that gave it, and the client
+abbrev pub row_text : JournalRow → List ℕ
+row_text (Called client now call) =
+    codes "at " ++ (decimal now ++ (codes " client " ++ (decimal client ++ (codes ": " ++ (call_text call ++ codes "\n")))))
+row_text (Answered client place turn rule) =
+    codes "  "
+    ++ (decimal place
+    ++ (codes "." ++ (decimal turn ++ (codes " client " ++ (decimal client ++ (codes ": " ++ ending_text rule))))))
+
+-- the limits and the credentials at the start, and a line for each row
+abbrev pub text_of : Limits → List Credentials → List JournalRow → List ℕ
+text_of limits clients rows =
+    heading_text
+    ++ (message_limits limits ++ (other_limits limits ++ (clients_text 0 clients ++ flat_map row_text rows)))

@@ -1,0 +1,19 @@
+//! A journal as text, with all that replays it: the limits and the clients' credentials at the start, and a line for each
+//! row. The text is the project's own; calls are in the words of the script language.
+#![tactic(auto)]
+
+mod calls;
+mod credentials;
+mod errors;
+mod heads;
+mod printing;
+mod reading;
+mod rows;
+mod rules;
+mod writing;
+
+pub use calls::print_call;
+pub use errors::{Unread, Wanted};
+pub use printing::{print_journal, print_row};
+pub use reading::{Recorded, read_journal};
+pub use writing::{Unwritten, write_journal};

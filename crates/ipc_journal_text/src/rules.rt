@@ -1,0 +1,54 @@
+// Rules by their names.
+
+use ipc_call::Rule;
+
+/// All rules.
+const RULES: [Rule; 37] = [
+    Rule::NotOwner,
+    Rule::NeedsResource,
+    Rule::NotSameUser,
+    Rule::NotOwnUser,
+    Rule::NotOwnGroup,
+    Rule::NeedsSetgid,
+    Rule::TooManyGroups,
+    Rule::NoKey,
+    Rule::Ended,
+    Rule::NoProcess,
+    Rule::Interrupted,
+    Rule::MessageTooLong,
+    Rule::TooManyOperations,
+    Rule::QueueFull,
+    Rule::WouldWait,
+    Rule::TimedOut,
+    Rule::OwnerBits,
+    Rule::GroupBits,
+    Rule::OtherBits,
+    Rule::ReadOnly,
+    Rule::KeyExists,
+    Rule::BadId,
+    Rule::BadType,
+    Rule::TextTooLong,
+    Rule::BadSize,
+    Rule::BadSem,
+    Rule::BadArgument,
+    Rule::NoOperations,
+    Rule::SemOutOfSet,
+    Rule::NotAttached,
+    Rule::OutOfSegment,
+    Rule::TooManyAttached,
+    Rule::NoSlot,
+    Rule::ValueRange,
+    Rule::UndoRange,
+    Rule::NoMessage,
+    Rule::Removed,
+];
+
+/// The rule of this name.
+pub(crate) fn rule_named(word: &[u8]) -> Option<Rule> {
+    for rule in &RULES {
+        if rule.name().as_bytes() == word {
+            return Some(*rule);
+        }
+    }
+    None
+}

@@ -1,0 +1,2 @@
+pub mod ObjectText
+pub mod Standing
