@@ -95,7 +95,8 @@ impl Queues {
         asked: Sending,
     ) -> Option<Result<(), Rule>>
         ensures { (text : List ℕ) → length text ≡ asked.len → result ≡ without_answer
-            (sending limits.now (queues_of self.now) who.entry.now id asked.flags (record { mtype = asked.mtype; text = text })) }
+            (sending limits.now (queues_of self.now) who.entry.now id asked.flags
+                (record { mtype = asked.mtype; text = text })) }
     {
         if asked.mtype < 1 {
             return Some(Err(Rule::BadType));
@@ -149,7 +150,8 @@ impl Queues {
 /// msgget with a key that a queue has.
 fn found_queue(who: &Caller, id: u32, perm: &Perm, flags: u32) -> Outcome
     ensures outcome { (t : Table) (key : ℕ) (limits : LimitsOf) (queue : Entry Contents) → queue.perm ≡ perm.now
-        → outcome_of (getting_found limits t who.entry.now (record { key = key; flags = flags }) (Some (id, queue))) ≡ Some result }
+        → outcome_of (getting_found limits t who.entry.now (record { key = key; flags = flags })
+            (Some (id, queue))) ≡ Some result }
 {
     may_open(who, perm, flags)?;
     Ok(Answer::Id(id))

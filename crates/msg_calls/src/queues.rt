@@ -199,8 +199,8 @@ impl Queues {
         queue.release();
     }
 
-    /// Adds a message of the caller at the end of the queue of an identifier, which there is (msgsnd of msgop(2)). Memory
-    /// comes where a growth was refused, and then nothing has changed.
+    /// Adds a message of the caller at the end of the queue of an identifier, which there is (msgsnd of msgop(2)).
+    /// Memory comes where a growth was refused, and then nothing has changed.
     pub(super) fn send(
         &mut self,
         id: u32,

@@ -75,8 +75,10 @@ impl<'a> Caller<'a> {
         want: Want,
     ) -> Result<&'o Object<T>, Rule>
         ensures there { IfOk result (λ object. option_copied there.entry ≡ Some object.now) }
-        ensures permitted { IfOk result (λ object. denial self.entry.now.creds (Permission object.now.perm want) ≡ None) }
-        ensures refused { IfErr result (λ rule. refusal self.entry.now.creds want (option_copied there.entry) ≡ Some rule) }
+        ensures permitted { IfOk result (λ object.
+            denial self.entry.now.creds (Permission object.now.perm want) ≡ None) }
+        ensures refused { IfErr result (λ rule.
+            refusal self.entry.now.creds want (option_copied there.entry) ≡ Some rule) }
     {
         let Some(object) = there else {
             return Err(Rule::BadId);

@@ -46,8 +46,8 @@ impl Segments {
         asked: GetSegment,
     ) -> Result<Outcome, Memory>
         requires { object_of_key self.old.segments asked.get.key ≡ None }
-        ensures outcome { IfOk result (λ outcome.
-            outcome_of (getting_found limits.now self.old.segments who.entry.now asked.get asked.size None) ≡ Some outcome) }
+        ensures outcome { IfOk result (λ outcome. outcome_of
+            (getting_found limits.now self.old.segments who.entry.now asked.get asked.size None) ≡ Some outcome) }
         ensures segments { OnOk result (self.new.segments ≡ left_by self.old.segments
             (getting_found limits.now self.old.segments who.entry.now asked.get asked.size None)) }
         ensures attached { self.new.attached ≡ self.old.attached }
@@ -72,7 +72,8 @@ impl Segments {
 /// shmget with a key that a segment has.
 fn found_segment(who: &Caller, id: u32, segment: &Object<Segment>, size: u64, flags: u32) -> Outcome
     ensures { (t : Table (Entry Contents)) (limits : LimitsOf) (key : ℕ)
-        → outcome_of (getting_found limits t who.entry.now (record { key = key; flags = flags }) size (Some (id, segment.now))) ≡ Some result }
+        → outcome_of (getting_found limits t who.entry.now (record { key = key; flags = flags }) size
+            (Some (id, segment.now))) ≡ Some result }
 {
     may_open(who, &segment.perm, flags)?;
     if size > segment.contents.memory.len() {

@@ -86,7 +86,8 @@ impl Segments {
         want: Want,
     ) -> Result<&Object<Segment>, Rule>
         ensures there { IfOk result (λ segment. segment_at self.now id ≡ Some segment.now) }
-        ensures permitted { IfOk result (λ segment. denial who.entry.now.creds (Permission segment.now.perm want) ≡ None) }
+        ensures permitted { IfOk result (λ segment.
+            denial who.entry.now.creds (Permission segment.now.perm want) ≡ None) }
         ensures refused { (rest : Entry Contents → Plan Shared) → IfErr result (λ rule.
             decision who.entry.now.creds (permitted (segment_at self.now id) want rest) ≡ RefusedBy rule) }
     {
