@@ -6,8 +6,8 @@
 #   KIND FILE    lines that stand in this file as they are; of kind `rust` always.
 #   sh, text     what has no output: commands to be copied, a picture, a grammar.
 #
-# Their links lead somewhere, the pictures are those of the tables that they are drawn of, and the man pages those that
-# lib/man_pages.py makes of the documents. What the part `wrong` tries fits the code.
+# Their links lead somewhere, the pictures and tables of threads are those of docs/threads.rows, and the man pages those that lib/man_pages.py
+# makes of the documents. What the part `wrong` tries fits the code.
 
 documents='README.md CHANGELOG.md docs/*.md examples/README.md examples/traces/README.md'
 
@@ -29,8 +29,8 @@ docs_checks() {
     done
     attempt 'docs/PROFILE.md' names_each_refusal
     attempt 'links' links_lead_somewhere
-    attempt 'docs/hand-over.svg' is_drawn_by hand_over_picture docs/hand-over.svg
-    attempt 'docs/threads.svg' is_drawn_by threads_picture docs/threads.svg
+    attempt 'pictures of docs/threads.rows' threads_are_drawn
+    attempt 'tables of docs/threads.rows' threads_are_told
     attempt 'wrong bodies' edits_are_current
     attempt 'man/' man_pages_are_current
     ! command -v man >/dev/null || attempt 'man -l' man_pages_show
@@ -65,10 +65,24 @@ links_lead_somewhere() {
     python3 lib/links.py $documents >"$scratch/shown"
 }
 
-# is_drawn_by NAME FILE: the picture is that of the tables of docs/SPEED.md.
-is_drawn_by() {
-    awk -f "lib/$1.awk" docs/SPEED.md >"$scratch/drawn"
-    same "what lib/$1.awk draws of docs/SPEED.md" "$scratch/drawn" "$2"
+# The pictures of docs/ are those of docs/threads.rows, which `./bench threads` has printed.
+threads_are_drawn() {
+    why='./bench threads draws another picture of docs/threads.rows:'
+    mkdir "$scratch/pictures"
+    draw_threads docs/threads.rows "$scratch/pictures"
+    for file in "$scratch/pictures"/*; do
+        cmp "$file" "docs/${file##*/}" >>"$scratch/shown" 2>&1 || return 1
+    done
+}
+
+# The tables of docs/SPEED.md and docs/THREADS.md are those of docs/threads.rows.
+threads_are_told() {
+    why='docs/SPEED.md or docs/THREADS.md lacks a row of docs/threads.rows:'
+    for objects in own one; do
+        table_of_threads docs/threads.rows "$objects" | grep -v -x -F -f docs/SPEED.md >>"$scratch/shown" || :
+    done
+    table_of_threads docs/threads.rows one | grep -v -x -F -f docs/THREADS.md >>"$scratch/shown" || :
+    [ ! -s "$scratch/shown" ]
 }
 
 # cut_blocks FILE..: of each block a file NUMBER.place, NUMBER.kind and NUMBER.body in $scratch/blocks.

@@ -5,6 +5,17 @@ programs='ipcsh_cli ipcwho ipcsh_explain ipcsh_journal ipc_bench thread_bench'
 check_bench() {
     attempt bench measures
     attempt 'bench threads' measures_threads
+    ! command -v valgrind >/dev/null || attempt 'bench instructions' counts_instructions
+}
+
+# The instructions of docs/SPEED.md are those that valgrind counts, within 2 %. Those of more than 64 objects, bytes or the like take long, and
+# aren't counted here.
+counts_instructions() {
+    built ipc_bench || return 1
+    ./bench instructions 64 >"$scratch/out" || return 1
+    why='docs/SPEED.md has other figures, or less than ten of them:'
+    awk -f lib/instructions.awk "$scratch/out" docs/SPEED.md >"$scratch/shown"
+    [ ! -s "$scratch/shown" ]
 }
 
 measures() {
@@ -15,14 +26,17 @@ measures() {
     [ "$(grep -c '\.' "$scratch/out")" = "$rows" ]
 }
 
-# Two rows of a head, and one for each of 7 tasks and 5 numbers of clients. Where the kernel is measured, it is in each.
+# Two rows of a head, and one for each of 11 tasks and 5 numbers of clients. Where the kernel is measured, it is in each.
 measures_threads() {
     built thread_bench || return 1
-    ./bench threads 200 "$scratch/picture" >"$scratch/out" || return 1
-    why='it prints no table of 35 rows'
-    [ "$(sed 1,2d "$scratch/out" | grep -c '^[a-z].*\.\.')" = 35 ] || return 1
-    why='it draws no picture'
-    [ "$(tail -n 1 "$scratch/picture")" = '</svg>' ]
+    mkdir "$scratch/drawn"
+    ./bench threads 200 "$scratch/drawn" >"$scratch/out" || return 1
+    why='it prints no table of 55 rows'
+    [ "$(sed 1,2d "$scratch/out" | grep -c '^[a-z].*\.\.')" = 55 ] || return 1
+    why='it draws no pictures'
+    for picture in threads one-object one-client hand-over; do
+        [ "$(tail -n 1 "$scratch/drawn/$picture.svg")" = '</svg>' ] || return 1
+    done
 }
 
 # programs_made: what the programs are made of.

@@ -1,14 +1,12 @@
-# A picture of one task of the table in docs/SPEED.md: a message that is handed over between two clients. Nanoseconds a
-# call upwards, on a linear scale, and the number of clients to the right. Each way has a mark and a stroke of its own.
+# A picture of one task in rows `TASK WAY CLIENTS MEDIAN LOWER UPPER`: a message that is handed over between two clients. Nanoseconds a call
+# upwards, on a linear scale, and the number of clients to the right. Each way has a mark and a stroke of its own.
 #
-#   awk -f lib/hand_over_picture.awk docs/SPEED.md >docs/hand-over.svg
+#   awk -f lib/hand_over_picture.awk docs/threads.rows >docs/hand-over.svg
+BEGIN { number["service"] = 1; number["mutex"] = 2; number["kernel"] = 3 }
 
-function number(cell) { sub(/ \(.*/, "", cell); gsub(/[ ,]/, "", cell); return cell + 0 }
-
-/^\| a message handed over between two \|/ {
-    split($0, cell, "|")
-    clients[++count] = number(cell[3])
-    for (i = 1; i <= 3; i++) median[i, count] = number(cell[i + 3])
+$1 == "hand-over" && $2 in number {
+    if (!($3 in place)) { place[$3] = ++count; clients[count] = $3 }
+    median[number[$2], place[$3]] = $4
 }
 
 function across(i) { return 90 + (i - 1) * 120 }

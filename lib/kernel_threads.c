@@ -9,12 +9,14 @@
 #include <sys/ipc.h>
 #include <sys/msg.h>
 #include <sys/sem.h>
+#include <sys/shm.h>
 #include <time.h>
 #include <unistd.h>
 
-enum task { GET, MESSAGE_64, MESSAGE_8192, SEMOP, MIX, HAND_OVER, DENIED, TASKS };
+enum task { GET, MESSAGE_64, MESSAGE_8192, SEMOP, MIX, HAND_OVER, DENIED, ONE_QUEUE, ONE_COUNTER, ONE_LOCK, ONE_SEGMENT, TASKS };
 
-static const char *const words[TASKS] = {"get", "message-64", "message-8192", "semop", "mix", "hand-over", "denied"};
+static const char *const words[TASKS] = {"get",       "message-64",  "message-8192", "semop",      "mix", "hand-over", "denied",
+                                         "one-queue", "one-counter", "one-lock",     "one-segment"};
 static const int counts[] = {1, 2, 4, 16, 64};
 
 enum { MOST = 64, LONGEST = 8192 };
@@ -32,8 +34,10 @@ struct client {
     long failed;
     int queue;
     int set;
+    int segment;
     int peer;
-    int holds; /* whether it has the message */
+    int holds; /* whether it has the message, or the lock */
+    void *attached;
     pthread_t thread;
     struct message message;
 };
@@ -47,7 +51,11 @@ static void fail(const char *what) {
 }
 
 static key_t key_of(const struct client *c) {
-    return c->task == GET ? first_key : first_key + c->number;
+    return c->task == GET || c->task == ONE_QUEUE ? first_key : first_key + c->number;
+}
+
+static key_t key_of_set(const struct client *c) {
+    return c->task == ONE_COUNTER || c->task == ONE_LOCK ? first_key : IPC_PRIVATE;
 }
 
 /* A send where the client has the message, and else a receive. */
@@ -65,6 +73,23 @@ static long operate(const struct client *c, int op) {
     return semop(c->set, &oper, 1);
 }
 
+/* Takes the lock, whose semaphore is 1 while a client holds it, or gives it back. */
+static long lock(struct client *c) {
+    struct sembuf opers[] = {{0, 0, 0}, {0, 1, 0}};
+    c->holds = !c->holds;
+    return c->holds ? semop(c->set, opers, 2) : operate(c, -1);
+}
+
+static long attach(struct client *c) {
+    void *attached = c->attached;
+    if (attached) {
+        c->attached = NULL;
+        return shmdt(attached);
+    }
+    c->attached = shmat(c->segment, NULL, 0);
+    return c->attached == (void *)-1 ? -1 : 0;
+}
+
 static long mixed(struct client *c, long turn) {
     struct msqid_ds status;
     switch (turn) {
@@ -80,11 +105,15 @@ static long mixed(struct client *c, long turn) {
 static long call(struct client *c, long turn) {
     switch (c->task) {
     case GET: return msgget(key_of(c), 0600) == c->queue ? 0 : -1;
-    case MESSAGE_64: return message(c, c->queue, 64, IPC_NOWAIT);
+    case MESSAGE_64:
+    case ONE_QUEUE: return message(c, c->queue, 64, IPC_NOWAIT);
     case MESSAGE_8192: return message(c, c->queue, LONGEST, IPC_NOWAIT);
-    case SEMOP: return operate(c, turn % 2 ? -1 : 1);
+    case SEMOP:
+    case ONE_COUNTER: return operate(c, turn % 2 ? -1 : 1);
     case MIX: return mixed(c, turn % 6);
     case HAND_OVER: return message(c, c->peer, 64, 0);
+    case ONE_LOCK: return lock(c);
+    case ONE_SEGMENT: return attach(c);
     default: return msgrcv(c->queue, &c->message, LONGEST, 0, IPC_NOWAIT) < 0 ? 0 : -1;
     }
 }
@@ -96,19 +125,28 @@ static void *ask(void *argument) {
     return NULL;
 }
 
+/* Whole turns of two, so that a client gives back what it took. */
+static long calls_each(long calls, int count) {
+    long turns = calls / count / 2;
+    return turns < 1 ? 2 : turns * 2;
+}
+
 static void begin(struct client *c, enum task task, int number, int count, long calls) {
-    *c = (struct client){.task = task, .number = number, .clients = count, .calls = calls / count};
+    *c = (struct client){.task = task, .number = number, .clients = count, .calls = calls_each(calls, count)};
     memset(c->message.text, 'a', LONGEST);
     c->message.type = 1;
-    c->holds = task != HAND_OVER || number % 2 == 0;
+    c->holds = task == HAND_OVER ? number % 2 == 0 : task != ONE_LOCK;
     c->queue = msgget(key_of(c), IPC_CREAT | (task == DENIED ? 0 : 0600));
-    c->set = semget(IPC_PRIVATE, 1, IPC_CREAT | 0600);
-    if (c->queue < 0 || c->set < 0) fail("msgget or semget");
+    c->set = semget(key_of_set(c), 1, IPC_CREAT | 0600);
+    c->segment = shmget(first_key, 1, IPC_CREAT | 0600);
+    if (c->queue < 0 || c->set < 0 || c->segment < 0) fail("msgget, semget or shmget");
 }
 
 static void end(const struct client *c) {
     msgctl(c->queue, IPC_RMID, NULL);
     semctl(c->set, 0, IPC_RMID);
+    if (c->attached) shmdt(c->attached);
+    shmctl(c->segment, IPC_RMID, NULL);
     if (c->failed) fprintf(stderr, "%s: %ld calls of the kernel failed\n", words[c->task], c->failed);
 }
 
@@ -123,7 +161,7 @@ static double measure(enum task task, int count, long calls) {
     clock_gettime(CLOCK_MONOTONIC, &to);
     for (int i = 0; i < count; i++) end(&clients[i]);
     double passed = (double)(to.tv_sec - from.tv_sec) * 1e9 + (double)(to.tv_nsec - from.tv_nsec);
-    return passed / (double)(calls / count * count);
+    return passed / (double)(calls_each(calls, count) * count);
 }
 
 int main(int argc, char **argv) {

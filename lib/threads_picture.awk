@@ -1,8 +1,8 @@
-# A picture of the same rows, as SVG: for each task a panel, with a line for each way from 1 to 64 clients, each way with a
-# mark and a stroke of its own. Both axes are logarithmic: clients from left to right, nanoseconds a call upwards. It also
-# reads the table of docs/SPEED.md, of which docs/threads.svg is made:
+# A picture of rows `TASK WAY CLIENTS MEDIAN LOWER UPPER`, as SVG: for each task a panel, with a line for each way from 1 to 64 clients, each
+# way with a mark and a stroke of its own. Both axes are logarithmic: clients from left to right, nanoseconds a call upwards. With `objects`
+# it draws some of the tasks: `own`, clients at objects of their own, or `one`, all at the same.
 #
-#   awk -f lib/threads_picture.awk docs/SPEED.md >docs/threads.svg
+#   awk -v objects=one -f lib/threads_words.awk -f lib/threads_picture.awk docs/threads.rows >docs/one-object.svg
 function keep(task, way, clients, time) {
     if (!(task in known)) { known[task] = 1; tasks[++count] = task }
     median[task, way, clients] = time
@@ -11,29 +11,7 @@ function keep(task, way, clients, time) {
     if (!least || time < least) least = time
 }
 
-function figure(cell) { sub(/ \(.*/, "", cell); gsub(/[ ,]/, "", cell); return cell + 0 }
-
-# A row of the table: six cells, of which the third to the fifth have a median with its quartiles.
-/^\| .* \| [0-9]+ \| [0-9,]+ \([0-9,.]+\) \| [0-9,]+ \([0-9,.]+\) \| [0-9,]+ \([0-9,.]+\) \|/ {
-    split($0, cell, " *\\| *")
-    keep(cell[2], "service", figure(cell[3]), figure(cell[4]))
-    keep(cell[2], "mutex", figure(cell[3]), figure(cell[5]))
-    keep(cell[2], "kernel", figure(cell[3]), figure(cell[6]))
-    next
-}
-
-NF >= 4 && $2 ~ /^(service|mutex|kernel|space)$/ && $3 ~ /^[0-9]+$/ { keep(name_of($1), $2, $3, $4) }
-
-# The documents' names of the tasks.
-function name_of(task) {
-    if (task == "get") return "msgget of a key"
-    if (task == "message-64") return "msgsnd or msgrcv of 64 bytes"
-    if (task == "message-8192") return "msgsnd or msgrcv of 8,192 bytes"
-    if (task == "mix") return "a mix of calls"
-    if (task == "hand-over") return "a message handed over between two"
-    if (task == "denied") return "a denied msgrcv"
-    return task
-}
+is_drawn($1, objects) { keep(words_of($1), $2, $3, $4) }
 
 function across(clients) { return left + 54 + log(clients) / log(64) * 170 }
 function up(time) { return top + 150 - log(time / lowest) / log(highest / lowest) * 130 }

@@ -5,7 +5,7 @@ use std::alloc::{AllocError, Global};
 use std::mem;
 use test_support::calls::answer_in;
 
-/// The key of the first client's queue.
+/// The key of the first client's queue, and of what all share.
 const KEY: u32 = 5;
 
 /// The type of the messages.
@@ -29,14 +29,30 @@ pub enum Task {
     HandOver,
     /// To receive from a queue that denies its own user.
     Denied,
+    /// To send a text of 64 bytes and to receive one, by turns, all at one queue.
+    OneQueue,
+    /// To add 1 to a semaphore and to take it away, by turns, all at one.
+    OneCounter,
+    /// To take a lock, which is a semaphore, and to give it back, by turns, all the same.
+    OneLock,
+    /// To attach a segment and to detach it, by turns, all the same.
+    OneSegment,
 }
 
-/// How a client receives in `Task::HandOver`.
+/// What a client makes before it begins.
 #[derive(Clone, Copy, Debug, PartialEq, Eq)]
-pub enum Receiving {
-    /// Its call waits until there is a message.
+pub enum Made {
+    Queue,
+    Set,
+    Segment,
+}
+
+/// How a client comes to a message in `Task::HandOver`, and to the lock in `Task::OneLock`.
+#[derive(Clone, Copy, Debug, PartialEq, Eq)]
+pub enum Patience {
+    /// Its call waits until it is there.
     Waits,
-    /// It asks again until there is one.
+    /// It asks again until it is there.
     AsksAgain,
 }
 
@@ -45,7 +61,7 @@ pub enum Receiving {
 pub enum Took {
     /// What the task wants.
     Wanted,
-    /// No message yet: the client asks again.
+    /// No message yet, or the lock is taken: the client asks again.
     NotYet,
     /// Something else.
     Unwanted,
@@ -56,22 +72,26 @@ pub enum Took {
 pub struct Asker {
     alloc: Global,
     task: Task,
-    receiving: Receiving,
+    patience: Patience,
     client: u32,
     clients: u32,
     turn: u32,
     queue: u32,
     set: u32,
+    segment: u32,
     peer: Option<u32>,
     text: Option<Items<u8>>,
+    attached: Option<u32>,
+    // The lock, in `Task::OneLock`.
+    holds: bool,
 }
 
 impl Asker {
-    /// The calls of one of so many clients, which has no queue and no set yet.
+    /// The calls of one of so many clients, which has made nothing yet.
     pub fn new(
         alloc: Global,
         task: Task,
-        receiving: Receiving,
+        patience: Patience,
         client: u32,
         clients: u32,
     ) -> Result<Asker, AllocError> {
@@ -88,51 +108,68 @@ impl Asker {
         Ok(Asker {
             alloc,
             task,
-            receiving,
+            patience,
             client,
             clients,
             turn: 0,
             queue: 0,
             set: 0,
+            segment: 0,
             peer: None,
             text,
+            attached: None,
+            holds: false,
         })
     }
 
-    /// The call that makes its queue, which is one for all where it is asked for by its key.
-    pub fn queue_call(&self) -> Call {
+    /// The call that makes its queue, set of one semaphore or segment of one byte, or finds that of all.
+    pub fn making(&self, made: Made) -> Call {
         let mode = if self.task == Task::Denied { 0 } else { 0o600 };
-        Call::MsgGet {
-            key: self.key_of(self.client),
-            flags: IPC_CREAT | mode,
+        let flags = IPC_CREAT | mode;
+        match made {
+            Made::Queue => Call::MsgGet {
+                key: self.key_of(self.client),
+                flags,
+            },
+            Made::Set => Call::SemGet {
+                key: self.key_of_set(),
+                nsems: 1,
+                flags,
+            },
+            Made::Segment => Call::ShmGet {
+                key: KEY,
+                size: 1,
+                flags,
+            },
         }
     }
 
     /// Takes the answer to that call: whether it is one.
-    pub fn take_queue(&mut self, reply: Reply) -> bool {
-        identifier(reply, &mut self.queue)
-    }
-
-    /// The call that makes its set of one semaphore.
-    pub fn set_call(&self) -> Call {
-        Call::SemGet {
-            key: 0,
-            nsems: 1,
-            flags: IPC_CREAT | 0o600,
+    pub fn take_made(&mut self, made: Made, reply: Reply) -> bool {
+        let Some(Answer::Id(id)) = answer_in(reply) else {
+            return false;
+        };
+        match made {
+            Made::Queue => self.queue = id,
+            Made::Set => self.set = id,
+            Made::Segment => self.segment = id,
         }
-    }
-
-    /// Takes the answer to that call: whether it is one.
-    pub fn take_set(&mut self, reply: Reply) -> bool {
-        identifier(reply, &mut self.set)
+        true
     }
 
     /// The key of a client's queue: one for all where that is asked for, and else one for each.
     fn key_of(&self, client: u32) -> u32 {
-        if self.task == Task::Get {
-            KEY
-        } else {
-            KEY.wrapping_add(client)
+        match self.task {
+            Task::Get | Task::OneQueue => KEY,
+            _ => KEY.wrapping_add(client),
+        }
+    }
+
+    /// The key of its set: one for all, or none.
+    fn key_of_set(&self) -> u32 {
+        match self.task {
+            Task::OneCounter | Task::OneLock => KEY,
+            _ => 0,
         }
     }
 
@@ -142,11 +179,13 @@ impl Asker {
         self.turn = turn.wrapping_add(1) % (2 * MIXED);
         match self.task {
             Task::Get => Ok(self.get(self.client)),
-            Task::Message(_) => Ok(self.message(self.queue)),
-            Task::Operate => self.operate(turn % 2 == 0),
+            Task::Message(_) | Task::OneQueue => Ok(self.message(self.queue)),
+            Task::Operate | Task::OneCounter => self.operate(turn % 2 == 0),
             Task::Mix => self.mixed(turn % MIXED),
             Task::HandOver => Ok(self.hand_over()),
             Task::Denied => Ok(self.receive(IPC_NOWAIT)),
+            Task::OneLock => self.lock(),
+            Task::OneSegment => Ok(self.attach()),
         }
     }
 
@@ -171,15 +210,38 @@ impl Asker {
 
     /// Adds 1 to the semaphore, or takes it away.
     fn operate(&self, adds: bool) -> Result<Call, AllocError> {
-        let op = SemOper {
-            num: 0,
-            op: if adds { 1 } else { -1 },
-            flags: 0,
+        let op = on_first(if adds { 1 } else { -1 }, 0);
+        self.semop(vec![in self.alloc; op; 1]?)
+    }
+
+    /// Takes the lock, whose semaphore is 1 while a client holds it, or gives it back.
+    fn lock(&self) -> Result<Call, AllocError> {
+        if self.holds {
+            return self.operate(false);
+        }
+        let flags = match self.patience {
+            Patience::Waits => 0,
+            Patience::AsksAgain => IPC_NOWAIT as u16,
         };
+        self.semop(vec![in self.alloc; on_first(0, flags), on_first(1, flags)]?)
+    }
+
+    fn semop(&self, ops: Vec<SemOper>) -> Result<Call, AllocError> {
         Ok(Call::SemOp {
             id: self.set,
-            ops: Items::new(vec![in self.alloc; op; 1]?),
+            ops: Items::new(ops),
         })
+    }
+
+    /// Attaches the segment, or detaches it where it is attached.
+    fn attach(&self) -> Call {
+        match self.attached {
+            Some(att) => Call::ShmDt { att },
+            None => Call::ShmAt {
+                id: self.segment,
+                flags: 0,
+            },
+        }
     }
 
     /// Sends the text to the queue where the client has it, and else receives it from its own.
@@ -209,9 +271,9 @@ impl Asker {
         if self.text.is_some() {
             return self.message(peer);
         }
-        match self.receiving {
-            Receiving::Waits => self.receive(0),
-            Receiving::AsksAgain => self.receive(IPC_NOWAIT),
+        match self.patience {
+            Patience::Waits => self.receive(0),
+            Patience::AsksAgain => self.receive(IPC_NOWAIT),
         }
     }
 
@@ -229,7 +291,7 @@ impl Asker {
         match (self.task, answer_in(reply)) {
             (Task::Denied, None) => Took::Wanted,
             (Task::Denied, Some(_)) => Took::Unwanted,
-            (Task::HandOver, None) => Took::NotYet,
+            (Task::HandOver | Task::OneLock, None) => Took::NotYet,
             (_, Some(answer)) => self.keep(answer),
             _ => Took::Unwanted,
         }
@@ -242,8 +304,19 @@ impl Asker {
                 self.text = Some(text);
                 Took::Wanted
             }
-            _ => Took::Wanted,
+            Answer::Attached(number) => {
+                self.attached = Some(number);
+                Took::Wanted
+            }
+            _ => self.keep_done(),
         }
+    }
+
+    /// A semop takes the lock or gives it back, and a segment is detached.
+    fn keep_done(&mut self) -> Took {
+        self.holds = !self.holds;
+        self.attached = None;
+        Took::Wanted
     }
 
     /// In `Task::HandOver` it is the other's queue, and else the client's own.
@@ -257,13 +330,13 @@ impl Asker {
     }
 }
 
-/// Puts the identifier that was answered into its place: whether there is one.
-fn identifier(reply: Reply, place: &mut u32) -> bool {
-    match answer_in(reply) {
-        Some(Answer::Id(id)) => {
-            *place = id;
-            true
-        }
-        _ => false,
-    }
+/// How many calls each of so many clients makes where they make so many together: whole turns of two, at least one,
+/// so that a client gives back what it took.
+pub fn calls_each(calls: u32, clients: u32) -> u32 {
+    (calls / clients.max(1) / 2).max(1).saturating_mul(2)
+}
+
+/// An operation on the first semaphore.
+fn on_first(op: i16, flags: u16) -> SemOper {
+    SemOper { num: 0, op, flags }
 }

@@ -1,6 +1,6 @@
 //! Measurements of a namespace alone, and of a mutex round one, beside those of the service.
 
-use crate::asking::{Asker, Receiving, Task, Took};
+use crate::asking::{Asker, Made, Patience, Task, Took, calls_each};
 use crossbeam_utils::Backoff;
 use ipc_call::{Call, Reply};
 use ipc_space::{Effects, Space};
@@ -12,7 +12,7 @@ use std::{io, thread};
 use test_support::clients::few_users;
 use test_support::measuring::{Run, unanswered, widest_limits};
 
-/// How often a client asks for a message before it gives up.
+/// How often a client asks for a message, or for the lock, before it gives up.
 const TURNS: u64 = 10_000_000;
 
 /// A client by its number, and its calls.
@@ -33,25 +33,25 @@ fn call(space: &mut Space, client: u32, asked: Call) -> Option<Reply> {
     }
 }
 
-/// A client makes its queue and its set.
+/// A client makes what it needs.
 fn begin(rt: &HostRuntime, space: &mut Space, task: Task, client: u32) -> io::Result<Worker> {
     let mut asker = Asker::new(
         rt.alloc(),
         task,
-        Receiving::AsksAgain,
+        Patience::AsksAgain,
         client,
         space.clients(),
     )?;
-    let queue = call(space, client, asker.queue_call()).ok_or(unanswered())?;
-    let set = call(space, client, asker.set_call()).ok_or(unanswered())?;
-    if asker.take_queue(queue) && asker.take_set(set) {
-        Ok(Worker { client, asker })
-    } else {
-        Err(unanswered())
+    for made in [Made::Queue, Made::Set, Made::Segment] {
+        let reply = call(space, client, asker.making(made)).ok_or(unanswered())?;
+        if !asker.take_made(made, reply) {
+            return Err(unanswered());
+        }
     }
+    Ok(Worker { client, asker })
 }
 
-/// Each of so many clients makes its queue and its set.
+/// Each of so many clients makes what it needs.
 fn begun(rt: &HostRuntime, space: &mut Space, task: Task, clients: u32) -> io::Result<Vec<Worker>> {
     let mut workers = Vec::new(rt.alloc());
     for client in 0..clients {
@@ -80,7 +80,7 @@ fn ask_alone(space: &mut Space, mut asker: Asker, calls: u32) -> u32 {
     answered
 }
 
-/// One call of a client under the lock, again and again while there is no message yet.
+/// One call of a client under the mutex, again and again while it has to wait.
 fn ask_locked<R: Wait>(rt: &R, space: &Mutex<Space>, client: u32, asker: &mut Asker) -> Took {
     let backoff = Backoff::new();
     for _ in 0..TURNS {
@@ -144,7 +144,7 @@ pub fn of_space(rt: &HostRuntime, task: Task, calls: u32) -> io::Result<Run> {
     run
 }
 
-/// A namespace of so many clients under a mutex, in which each has made its queue and its set.
+/// A namespace of so many clients under a mutex, in which each has made what it needs.
 fn shared(rt: &HostRuntime, task: Task, clients: u32) -> io::Result<(Mutex<Space>, Vec<Worker>)> {
     let mut space = opened(rt, clients)?;
     match begun(rt, &mut space, task, clients) {
@@ -164,7 +164,7 @@ pub fn of_mutex<W: Threads + Wait + Sync>(
     clients: u32,
     calls: u32,
 ) -> io::Result<Run> {
-    let each = calls / clients.max(1);
+    let each = calls_each(calls, clients);
     let (space, workers) = shared(rt, task, clients)?;
     let start = Instant::now(rt)?;
     let answered = asked(threads, &space, workers, each)?;

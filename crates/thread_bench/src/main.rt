@@ -24,7 +24,7 @@ const ONE: [u32; 1] = [1];
 /// How many calls a measurement makes where the program has no word.
 const CALLS: u32 = 1_000;
 
-const TASKS: [Task; 7] = [
+const TASKS: [Task; 11] = [
     Task::Get,
     Task::Message(64),
     Task::Message(8_192),
@@ -32,6 +32,10 @@ const TASKS: [Task; 7] = [
     Task::Mix,
     Task::HandOver,
     Task::Denied,
+    Task::OneQueue,
+    Task::OneCounter,
+    Task::OneLock,
+    Task::OneSegment,
 ];
 
 /// What serves the calls.
@@ -59,6 +63,10 @@ fn word_of(task: Task) -> &'static str {
         Task::Mix => "mix",
         Task::HandOver => "hand-over",
         Task::Denied => "denied",
+        Task::OneQueue => "one-queue",
+        Task::OneCounter => "one-counter",
+        Task::OneLock => "one-lock",
+        Task::OneSegment => "one-segment",
     }
 }
 

@@ -2,10 +2,10 @@
 ghost use Rattle.std.specs.Prelude.{All, IfOk, IfSome};
 ghost use Rattle.thread_bench.specs.Service.{IsClientOf, IsNewOf};
 
-use crate::asking::{Asker, Receiving, Task, Took};
+use crate::asking::{Asker, Made, Patience, Task, Took, calls_each};
 use crossbeam_utils::Backoff;
 use ipc_call::{Call, Reply};
-use ipc_combiner::{Idle, Pass, Polled, Service, Unjoined};
+use ipc_combiner::{Idle, Polled, Service, Unjoined};
 use std::alloc::{AllocError, Global};
 use std::thread::Threads;
 use std::time::Instant;
@@ -32,19 +32,30 @@ fn call(service: &Service, idle: Idle, asked: Call) -> Option<(Idle, Reply)>
     let mut flight = idle.post(service, 0, asked);
     let backoff = Backoff::new();
     for _ in 0..TURNS {
-        let pass = flight.combine(service);
+        flight.combine(service);
         match flight.poll(service) {
             Polled::Done(idle, reply) => return Some((idle, reply)),
             Polled::Still(still, _) => flight = still,
         }
-        if let Pass::Busy(_) = pass {
-            backoff.snooze();
-        }
+        backoff.snooze();
     }
     None
 }
 
-/// A client of so many joins, and makes its queue and its set.
+/// A client makes a queue, a set or a segment.
+fn make(service: &Service, idle: Idle, asker: &mut Asker, made: Made) -> Option<Idle>
+    requires { IsClientOf service.now idle }
+    ensures { IfSome result (λ idle. IsClientOf service.now idle) }
+{
+    let (idle, reply) = call(service, idle, asker.making(made))?;
+    if asker.take_made(made, reply) {
+        Some(idle)
+    } else {
+        None
+    }
+}
+
+/// A client of so many joins, and makes what it needs.
 fn begin(
     service: &Service,
     unjoined: Unjoined,
@@ -56,14 +67,11 @@ fn begin(
     ensures { IfSome result (λ w. IsClientOf service.now w.idle) }
 {
     let idle = unjoined.join(service);
-    let mut asker = Asker::new(alloc, task, Receiving::Waits, idle.client(), clients).ok()?;
-    let (idle, queue) = call(service, idle, asker.queue_call())?;
-    let (idle, set) = call(service, idle, asker.set_call())?;
-    if asker.take_queue(queue) && asker.take_set(set) {
-        Some(Worker { idle, asker })
-    } else {
-        None
-    }
+    let mut asker = Asker::new(alloc, task, Patience::Waits, idle.client(), clients).ok()?;
+    let idle = make(service, idle, &mut asker, Made::Queue)?;
+    let idle = make(service, idle, &mut asker, Made::Set)?;
+    let idle = make(service, idle, &mut asker, Made::Segment)?;
+    Some(Worker { idle, asker })
 }
 
 /// So many calls of a client that joined: how many were answered as they should be.
@@ -149,7 +157,7 @@ pub fn of_service<W: Threads + Sync>(
     clients: u32,
     calls: u32,
 ) -> io::Result<Run> {
-    let each = calls / clients.max(1);
+    let each = calls_each(calls, clients);
     let (service, unjoined) = started(rt, clients)?;
     let workers = begun(threads, &service, unjoined, rt.alloc(), task)?;
     let start = Instant::now(rt)?;
