@@ -13,8 +13,8 @@ use Rattle.ipc_space.specs.Answers.{can_give}
 use Rattle.ipc_space.specs.Spaces.{other_replies, own_reply}
 use Rattle.ipc_space.specs.Telling.{replies_in}
 use Rattle.ipc_space.proofs.Answering.{own_answer, who_waits}
-use Rattle.ipc_desk.specs.declared.failure.Failure.{Failure}
-use Rattle.ipc_desk.specs.declared.failure.Failure.TheVariants.{NoClient, Waiting}
+use Rattle.call_values.specs.declared.failure.Failure.{Failure}
+use Rattle.call_values.specs.declared.failure.Failure.TheVariants.{NoClient, Waiting}
 use Rattle.ipc_desk.specs.Desks.{Comes, IsMade, answer_told, hindrance_of, untaken}
 use Rattle.ipc_desk.specs.Kept.{AreKept, DeskState, kept_for}
 use Rattle.ipc_desk.proofs.Given.{given-after}

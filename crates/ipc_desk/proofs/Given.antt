@@ -108,9 +108,9 @@ module _ (h : History) (e : Event) (place : ℕ) (is_place : place ≡ length h.
     few-kept r = ⊎_elim
         (λ (own : (e.client == r) ≡ true). omega (arith, ap length (none-own r own), ap length (none-told r own)))
         (λ (other : (e.client == r) ≡ false). ⊎_elim
-          (λ (waits : is_waiting (run h) r ≡ true). let less = waits-less r other in let was = ap {B = ℕ} (λ b. cond b 1 0) waits in let empty = ap length (kept.apart r waits) in by_wait (is_waiting (run (with_event h e)) r) (length (replies_in others r)) (length (kept_for slots r)) (less ∙ was) empty)
-          (λ (free : is_waiting (run h) r ≡ false). let less = waits-less r other in let was = ap {B = ℕ} (λ b. cond b 1 0) free in let one = few (slice_get slots r) in by_free (is_waiting (run (with_event h e)) r) (length (replies_in others r)) (length (kept_for slots r)) (less ∙ was) one)
-          (cases_Bool (is_waiting (run h) r)))
+        (λ (waits : is_waiting (run h) r ≡ true). let less = waits-less r other in let was = ap {B = ℕ} (λ b. cond b 1 0) waits in let empty = ap length (kept.apart r waits) in by_wait (is_waiting (run (with_event h e)) r) (length (replies_in others r)) (length (kept_for slots r)) (less ∙ was) empty)
+        (λ (free : is_waiting (run h) r ≡ false). let less = waits-less r other in let was = ap {B = ℕ} (λ b. cond b 1 0) free in let one = few (slice_get slots r) in by_free (is_waiting (run (with_event h e)) r) (length (replies_in others r)) (length (kept_for slots r)) (less ∙ was) one)
+        (cases_Bool (is_waiting (run h) r)))
         (cases_Bool (e.client == r))
       where
         by_wait : (b : Bool) (n k : ℕ) → n + cond b 1 0 ≡ 1 → k ≡ 0 → k + n ≤ 1

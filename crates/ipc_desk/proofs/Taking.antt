@@ -10,8 +10,8 @@ use Rattle.ipc_call.specs.declared.replies.Answer.{Answer}
 use Rattle.ipc_call.specs.declared.replies.Reply.{Reply}
 use Rattle.ipc_creds.specs.Credentials.{Credentials}
 use Rattle.ipc_history.specs.History.{History, replies}
-use Rattle.ipc_desk.specs.declared.failure.Failure.{Failure}
-use Rattle.ipc_desk.specs.declared.values.Ended.{Ended}
+use Rattle.call_values.specs.declared.failure.Failure.{Failure}
+use Rattle.call_values.specs.declared.values.Ended.{Ended}
 use Rattle.ipc_desk.specs.Desks.{IsTaken, outcome_in, told_taken}
 use Rattle.ipc_desk.specs.Kept.{AreKept, DeskState, is_of_waiting, kept_for, kept_in}
 use Rattle.ipc_desk.proofs.Slots.{length-slice_set, slice_get-set_other}

@@ -10,12 +10,12 @@ use Rattle.ipc_model.specs.State.{is_waiting}
 use Rattle.ipc_model.specs.Step.{Event}
 use Rattle.ipc_history.specs.History.{History, next_step, replies, run, with_event}
 use Rattle.ipc_space.specs.Spaces.{own_reply}
-use Rattle.ipc_desk.specs.declared.failure.Failure.{Failure}
-use Rattle.ipc_desk.specs.declared.failure.Failure.TheVariants.{Refused, Memory, NoClient, Waiting, Untaken}
-use Rattle.ipc_desk.specs.declared.values.Ended.{Ended}
-use Rattle.ipc_desk.specs.declared.values.Ended.TheVariants as ends
-use Rattle.ipc_desk.specs.declared.values.Progress.{Progress}
-use Rattle.ipc_desk.specs.declared.values.Progress.TheVariants as progress
+use Rattle.call_values.specs.declared.failure.Failure.{Failure}
+use Rattle.call_values.specs.declared.failure.Failure.TheVariants.{Refused, Memory, NoClient, Waiting, Untaken}
+use Rattle.call_values.specs.declared.values.Ended.{Ended}
+use Rattle.call_values.specs.declared.values.Ended.TheVariants as ends
+use Rattle.call_values.specs.declared.values.Progress.{Progress}
+use Rattle.call_values.specs.declared.values.Progress.TheVariants as progress
 use Rattle.ipc_desk.specs.Kept.{DeskState, kept_for}
 
 -- the replies of the history that a client has been given: all but the last ones, which are kept

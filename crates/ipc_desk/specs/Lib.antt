@@ -1,6 +1,4 @@
+pub mod Accesses
 pub mod Answered
 pub mod Desks
-pub mod Failures
 pub mod Kept
-pub mod Operations
-pub mod Users

@@ -10,9 +10,7 @@ ghost use Rattle.ipc_desk.specs.Desks.{Comes, told, told_progress};
 ghost use Rattle.ipc_desk.specs.Answered.{GivesOnly, is_attached, is_bytes, is_done, is_id, is_message, is_queue_status, is_rows, is_segment_status, is_set_status, is_status, is_value, is_values};
 
 use crate::desk::Desk;
-use crate::failure::Failure;
-use crate::ids::Client;
-use crate::values::{Message, Progress};
+use call_values::{Client, Failure, Message, Progress};
 use ipc_call::{Answer, Boxed, Call, QueueStatus, Row, SegmentStatus, SetStatus, Status};
 
 impl Desk {
@@ -105,7 +103,11 @@ impl Desk {
         }
     }
 
-    pub(crate) fn ask_queue_status(&mut self, client: Client, call: Call) -> Result<QueueStatus, Failure>
+    pub(crate) fn ask_queue_status(
+        &mut self,
+        client: Client,
+        call: Call,
+    ) -> Result<QueueStatus, Failure>
         requires sort { GivesOnly call is_queue_status }
         requires at_once { can_wait call ≡ false }
         ensures { Comes self.old self.new client.0 call (told (λ status. answers.Status (statuses.Queue status)) result) }
@@ -116,7 +118,11 @@ impl Desk {
         }
     }
 
-    pub(crate) fn ask_set_status(&mut self, client: Client, call: Call) -> Result<SetStatus, Failure>
+    pub(crate) fn ask_set_status(
+        &mut self,
+        client: Client,
+        call: Call,
+    ) -> Result<SetStatus, Failure>
         requires sort { GivesOnly call is_set_status }
         requires at_once { can_wait call ≡ false }
         ensures { Comes self.old self.new client.0 call (told (λ status. answers.Status (statuses.Set status)) result) }
@@ -127,7 +133,11 @@ impl Desk {
         }
     }
 
-    pub(crate) fn ask_segment_status(&mut self, client: Client, call: Call) -> Result<SegmentStatus, Failure>
+    pub(crate) fn ask_segment_status(
+        &mut self,
+        client: Client,
+        call: Call,
+    ) -> Result<SegmentStatus, Failure>
         requires sort { GivesOnly call is_segment_status }
         requires at_once { can_wait call ≡ false }
         ensures { Comes self.old self.new client.0 call (told (λ status. answers.Status (statuses.Segment status)) result) }
@@ -138,7 +148,11 @@ impl Desk {
         }
     }
 
-    pub(crate) fn ask_done_or_wait(&mut self, client: Client, call: Call) -> Result<Progress<()>, Failure>
+    pub(crate) fn ask_done_or_wait(
+        &mut self,
+        client: Client,
+        call: Call,
+    ) -> Result<Progress<()>, Failure>
         requires { GivesOnly call is_done }
         ensures { Comes self.old self.new client.0 call (told_progress (λ done. answers.Done) result) }
     {
@@ -149,7 +163,11 @@ impl Desk {
         }
     }
 
-    pub(crate) fn ask_message_or_wait(&mut self, client: Client, call: Call) -> Result<Progress<Message>, Failure>
+    pub(crate) fn ask_message_or_wait(
+        &mut self,
+        client: Client,
+        call: Call,
+    ) -> Result<Progress<Message>, Failure>
         requires { GivesOnly call is_message }
         ensures { Comes self.old self.new client.0 call (told_progress (λ message. answers.Message message.mtype message.text.items) result) }
     {

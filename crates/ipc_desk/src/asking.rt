@@ -8,9 +8,7 @@ ghost use Rattle.ipc_desk.specs.Desks.{Comes, IsTaken, answer_of, answer_told, h
 ghost use Rattle.ipc_desk.specs.Kept.{is_of_waiting, kept_for};
 
 use crate::desk::Desk;
-use crate::failure::Failure;
-use crate::ids::Client;
-use crate::values::{Ended, Message};
+use call_values::{Client, Ended, Failure, Message};
 use ipc_call::{Answer, Call, Reply};
 use ipc_space::Effects;
 

@@ -2,9 +2,9 @@
 
 ghost use Rattle.std.specs.Prelude.{◌≡◌, ◌≤◌, [], length, map, None, replicate, vec_len, IsTrue, IfOk};
 ghost use Rattle.ipc_call.specs.Limits.{are_in_range, default_limits};
-ghost use Rattle.ipc_desk.specs.Users.{creds_of_user};
+ghost use Rattle.call_values.specs.Users.{creds_of_user};
 
-use crate::values::User;
+use call_values::User;
 use ipc_call::{Limits, Memory, Reply};
 use ipc_creds::Creds;
 use ipc_space::Space;

@@ -3,26 +3,27 @@
 //! namespace from one thread names this crate alone. It is the project's own.
 #![tactic(auto)]
 
+mod access;
 mod answers;
 mod asking;
 mod desk;
-mod failure;
-mod flags;
-mod ids;
 pub mod laws;
 mod messages;
 mod processes;
 mod segments;
 mod semaphores;
-mod values;
 
+pub use access::{Access, May};
 pub use bitflags::Flags;
+pub use call_values::{
+    AttachFlags, Attached, Client, Ended, Failure, GetFlags, Message, Object, Owner, Progress,
+    QueueId, Receive, ReceiveFlags, SegmentId, SemFlags, SemOp, SendFlags, SetId, User,
+};
 pub use desk::Desk;
-pub use failure::Failure;
-pub use flags::{AttachFlags, GetFlags, ReceiveFlags, SemFlags, SendFlags};
-pub use ids::{Attached, Client, QueueId, SegmentId, SetId};
-pub use ipc_call::{Errno, Kind, Limits, Listed, Memory, Mode, Perm, Row, Rule, Settings};
-pub use ipc_call::{QueueStatus, SegmentStatus, SetStatus};
+pub use ipc_call::{
+    Errno, Kind, Limits, Listed, Memory, Mode, Perm, QueueStatus, Row, Rule, SegmentStatus,
+    SetStatus, Settings,
+};
 pub use ipc_creds::{Caps, Creds, GROUPS_MAX};
+pub use ipc_perm::{Ground, Verdict};
 pub use ipc_space::Space;
-pub use values::{Ended, Message, Owner, Progress, Receive, SemOp, User};

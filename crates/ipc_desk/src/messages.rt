@@ -8,11 +8,8 @@ ghost use Rattle.ipc_call.specs.declared.replies.Status.TheVariants as statuses;
 ghost use Rattle.ipc_desk.specs.Desks.{Comes, told, told_progress};
 
 use crate::desk::Desk;
-use crate::failure::Failure;
-use crate::flags::{GetFlags, SendFlags};
-use crate::ids::{Client, QueueId};
-use crate::values::{Message, Progress, Receive};
 use bitflags::Flags;
+use call_values::{Client, Failure, GetFlags, Message, Progress, QueueId, Receive, SendFlags};
 use ipc_call::{Call, Items, Kind, QueueStatus, Settings};
 
 impl Desk {
@@ -27,7 +24,13 @@ impl Desk {
     }
 
     /// Sends a message to a queue (msgsnd of msgop(2)). Where the queue is full it waits, or is refused where `NOWAIT` is given.
-    pub fn msgsnd(&mut self, client: Client, queue: QueueId, message: Message, flags: SendFlags) -> Result<Progress<()>, Failure>
+    pub fn msgsnd(
+        &mut self,
+        client: Client,
+        queue: QueueId,
+        message: Message,
+        flags: SendFlags,
+    ) -> Result<Progress<()>, Failure>
         ensures { Comes self.old self.new client.0 (calls.MsgSnd queue.0 message.mtype message.text.items flags.0) (told_progress (λ done. answers.Done) result) }
     {
         let Message { mtype, text } = message;
@@ -42,7 +45,12 @@ impl Desk {
 
     /// Receives a message from a queue (msgrcv of msgop(2)). Where there is none to choose it waits, or is refused where
     /// `NOWAIT` is given.
-    pub fn msgrcv(&mut self, client: Client, queue: QueueId, asked: Receive) -> Result<Progress<Message>, Failure>
+    pub fn msgrcv(
+        &mut self,
+        client: Client,
+        queue: QueueId,
+        asked: Receive,
+    ) -> Result<Progress<Message>, Failure>
         ensures { Comes self.old self.new client.0 (calls.MsgRcv queue.0 asked.size asked.msgtyp asked.flags.0) (told_progress (λ message. answers.Message message.mtype message.text.items) result) }
     {
         let Receive {
@@ -71,7 +79,12 @@ impl Desk {
     }
 
     /// Sets owner, mode and, where it is given, msg_qbytes of a queue (IPC_SET of msgctl(2)).
-    pub fn msg_set(&mut self, client: Client, queue: QueueId, settings: Settings) -> Result<(), Failure>
+    pub fn msg_set(
+        &mut self,
+        client: Client,
+        queue: QueueId,
+        settings: Settings,
+    ) -> Result<(), Failure>
         ensures { Comes self.old self.new client.0 (calls.IpcSet kinds.Queue queue.0 settings.uid settings.gid settings.mode settings.qbytes) (told (λ done. answers.Done) result) }
     {
         let Settings {

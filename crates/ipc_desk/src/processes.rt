@@ -6,8 +6,7 @@ ghost use Rattle.ipc_call.specs.declared.replies.Answer.TheVariants as answers;
 ghost use Rattle.ipc_desk.specs.Desks.{Comes, told};
 
 use crate::desk::Desk;
-use crate::failure::Failure;
-use crate::ids::Client;
+use call_values::{Client, Failure};
 use ipc_call::{Call, Items, Kind, Row};
 
 impl Desk {
@@ -28,7 +27,13 @@ impl Desk {
 
     /// Gives the client another effective user and group, and other supplementary groups where some are given (seteuid(2),
     /// setegid(2) and setgroups(2) in one); None keeps them. It is the project's own.
-    pub fn setcreds(&mut self, client: Client, euid: u32, egid: u32, groups: Option<Vec<u32>>) -> Result<(), Failure>
+    pub fn setcreds(
+        &mut self,
+        client: Client,
+        euid: u32,
+        egid: u32,
+        groups: Option<Vec<u32>>,
+    ) -> Result<(), Failure>
         ensures { Comes self.old self.new client.0 (calls.SetCreds euid egid (option_map (λ list. list.items) groups)) (told (λ done. answers.Done) result) }
     {
         let call = Call::SetCreds {

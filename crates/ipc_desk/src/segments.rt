@@ -9,17 +9,20 @@ ghost use Rattle.ipc_call.specs.declared.replies.Status.TheVariants as statuses;
 ghost use Rattle.ipc_desk.specs.Desks.{Comes, told};
 
 use crate::desk::Desk;
-use crate::failure::Failure;
-use crate::flags::{AttachFlags, GetFlags};
-use crate::ids::{Attached, Client, SegmentId};
-use crate::values::Owner;
 use bitflags::Flags;
+use call_values::{AttachFlags, Attached, Client, Failure, GetFlags, Owner, SegmentId};
 use ipc_call::{Call, Items, Kind, SegmentStatus};
 
 impl Desk {
     /// The segment of a key, of at least `size` bytes, which is created where `CREAT` is given and the key has none
     /// (shmget(2)). Key 0 is IPC_PRIVATE and creates a segment each time.
-    pub fn shmget(&mut self, client: Client, key: u32, size: u64, flags: GetFlags) -> Result<SegmentId, Failure>
+    pub fn shmget(
+        &mut self,
+        client: Client,
+        key: u32,
+        size: u64,
+        flags: GetFlags,
+    ) -> Result<SegmentId, Failure>
         ensures { Comes self.old self.new client.0 (calls.ShmGet key size flags.0) (told (λ segment. answers.Id segment.0) result) }
     {
         let flags = flags.bits();
@@ -28,7 +31,12 @@ impl Desk {
     }
 
     /// Attaches a segment under the least number that the client has free (shmat of shmop(2)).
-    pub fn shmat(&mut self, client: Client, segment: SegmentId, flags: AttachFlags) -> Result<Attached, Failure>
+    pub fn shmat(
+        &mut self,
+        client: Client,
+        segment: SegmentId,
+        flags: AttachFlags,
+    ) -> Result<Attached, Failure>
         ensures { Comes self.old self.new client.0 (calls.ShmAt segment.0 flags.0) (told (λ attached. answers.Attached attached.0) result) }
     {
         let call = Call::ShmAt {
@@ -47,7 +55,13 @@ impl Desk {
     }
 
     /// A copy of `len` bytes from an offset on of what is attached. It stands for mapped memory.
-    pub fn shm_read(&mut self, client: Client, attached: Attached, offset: u64, len: u64) -> Result<Vec<u8>, Failure>
+    pub fn shm_read(
+        &mut self,
+        client: Client,
+        attached: Attached,
+        offset: u64,
+        len: u64,
+    ) -> Result<Vec<u8>, Failure>
         ensures { Comes self.old self.new client.0 (calls.ShmRead attached.0 offset len) (told (λ bytes. answers.Bytes bytes.items) result) }
     {
         let call = Call::ShmRead {
@@ -59,7 +73,13 @@ impl Desk {
     }
 
     /// Writes bytes from an offset on of what is attached. It stands for mapped memory.
-    pub fn shm_write(&mut self, client: Client, attached: Attached, offset: u64, bytes: &[u8]) -> Result<(), Failure>
+    pub fn shm_write(
+        &mut self,
+        client: Client,
+        attached: Attached,
+        offset: u64,
+        bytes: &[u8],
+    ) -> Result<(), Failure>
         ensures { Comes self.old self.new client.0 (calls.ShmWrite attached.0 offset bytes.now) (told (λ done. answers.Done) result) }
     {
         let bytes = Items::new(Vec::from_slice(self.alloc(), bytes)?);
@@ -83,7 +103,12 @@ impl Desk {
     }
 
     /// Sets owner and mode of a segment (IPC_SET of shmctl(2)).
-    pub fn shm_set(&mut self, client: Client, segment: SegmentId, owner: Owner) -> Result<(), Failure>
+    pub fn shm_set(
+        &mut self,
+        client: Client,
+        segment: SegmentId,
+        owner: Owner,
+    ) -> Result<(), Failure>
         ensures { Comes self.old self.new client.0 (calls.IpcSet kinds.Segment segment.0 owner.uid owner.gid owner.mode None) (told (λ done. answers.Done) result) }
     {
         let Owner { uid, gid, mode } = owner;

@@ -1,26 +1,28 @@
 //! The calls on semaphore sets (semget(2), semop(2), semctl(2)).
 
-ghost use Rattle.std.specs.Prelude.{◌≡◌, map, None, IfOk};
+ghost use Rattle.std.specs.Prelude.{◌≡◌, map, None};
 ghost use Rattle.ipc_call.specs.declared.calls.Call.TheVariants as calls;
 ghost use Rattle.ipc_call.specs.declared.calls.Kind.TheVariants as kinds;
 ghost use Rattle.ipc_call.specs.declared.replies.Answer.TheVariants as answers;
 ghost use Rattle.ipc_call.specs.declared.replies.Status.TheVariants as statuses;
 ghost use Rattle.ipc_desk.specs.Desks.{Comes, told, told_progress};
-ghost use Rattle.ipc_desk.specs.Operations.{sem_oper};
+ghost use Rattle.call_values.specs.Operations.{sem_oper};
 
 use crate::desk::Desk;
-use crate::failure::Failure;
-use crate::flags::GetFlags;
-use crate::ids::{Client, SetId};
-use crate::values::{Owner, Progress, SemOp};
 use bitflags::Flags;
-use ipc_call::{Call, Items, Kind, Memory, SemOper, SetStatus};
-use std::alloc::Global;
+use call_values::{Client, Failure, GetFlags, Owner, Progress, SemOp, SetId, sem_opers};
+use ipc_call::{Call, Items, Kind, SetStatus};
 
 impl Desk {
     /// The set of a key, with at least `nsems` semaphores, which is created where `CREAT` is given and the key has none
     /// (semget(2)). Key 0 is IPC_PRIVATE and creates a set each time.
-    pub fn semget(&mut self, client: Client, key: u32, nsems: u32, flags: GetFlags) -> Result<SetId, Failure>
+    pub fn semget(
+        &mut self,
+        client: Client,
+        key: u32,
+        nsems: u32,
+        flags: GetFlags,
+    ) -> Result<SetId, Failure>
         ensures { Comes self.old self.new client.0 (calls.SemGet key nsems flags.0) (told (λ set. answers.Id set.0) result) }
     {
         let flags = flags.bits();
@@ -30,7 +32,12 @@ impl Desk {
 
     /// Carries out operations on a set, all or none (semop(2)): at least 1, at most SEMOPM. It waits where one can't go on,
     /// or is refused where that one has `NOWAIT`.
-    pub fn semop(&mut self, client: Client, set: SetId, ops: &[SemOp]) -> Result<Progress<()>, Failure>
+    pub fn semop(
+        &mut self,
+        client: Client,
+        set: SetId,
+        ops: &[SemOp],
+    ) -> Result<Progress<()>, Failure>
         ensures { Comes self.old self.new client.0 (calls.SemOp set.0 (map sem_oper ops.now)) (told_progress (λ done. answers.Done) result) }
     {
         let ops = sem_opers(self.alloc(), ops)?;
@@ -38,7 +45,13 @@ impl Desk {
     }
 
     /// The same, and waits no longer than `timeout` seconds of the desk's time (semtimedop of semop(2)).
-    pub fn semtimedop(&mut self, client: Client, set: SetId, ops: &[SemOp], timeout: u64) -> Result<Progress<()>, Failure>
+    pub fn semtimedop(
+        &mut self,
+        client: Client,
+        set: SetId,
+        ops: &[SemOp],
+        timeout: u64,
+    ) -> Result<Progress<()>, Failure>
         ensures { Comes self.old self.new client.0 (calls.SemTimedOp set.0 (map sem_oper ops.now) timeout) (told_progress (λ done. answers.Done) result) }
     {
         let ops = sem_opers(self.alloc(), ops)?;
@@ -86,7 +99,13 @@ impl Desk {
     }
 
     /// Sets a semaphore to a value of 0 to SEMVMX, 32767 (SETVAL of semctl(2)).
-    pub fn setval(&mut self, client: Client, set: SetId, num: u32, value: i32) -> Result<(), Failure>
+    pub fn setval(
+        &mut self,
+        client: Client,
+        set: SetId,
+        num: u32,
+        value: i32,
+    ) -> Result<(), Failure>
         ensures { Comes self.old self.new client.0 (calls.SetVal set.0 num value) (told (λ done. answers.Done) result) }
     {
         let call = Call::SetVal {
@@ -142,19 +161,4 @@ impl Desk {
         };
         self.ask_done(client, call)
     }
-}
-
-/// The operations as a call carries them.
-fn sem_opers(alloc: Global, ops: &[SemOp]) -> Result<Items<SemOper>, Memory>
-    ensures { IfOk result (λ opers. opers ≡ map sem_oper ops.now) }
-{
-    let mut opers = Vec::with_capacity(alloc, ops.len())?;
-    for op in ops {
-        opers.push(SemOper {
-            num: op.num,
-            op: op.op,
-            flags: op.flags.bits(),
-        })?;
-    }
-    Ok(Items::new(opers))
 }

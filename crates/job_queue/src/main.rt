@@ -3,31 +3,24 @@
 #![tactic(auto)]
 
 use ipc_desk::{
-    Client, Desk, Ended, Flags, GetFlags, Message, Progress, QueueId, Receive, ReceiveFlags,
-    SendFlags, User,
+    Client, Desk, Ended, GetFlags, Message, Progress, QueueId, Receive, SendFlags, User,
 };
 use std::io;
 
 const BOSS: Client = Client(0);
+
 const WORKERS: [Client; 2] = [Client(1), Client(2)];
 
-fn send(rt: &HostRuntime, desk: &mut Desk, jobs: QueueId, urgency: i64, job: &[u8]) -> io::Result<()> {
-    let job = Message::new(rt.alloc(), urgency, job)?;
-    desk.msgsnd(BOSS, jobs, job, SendFlags::NOWAIT)?;
-    Ok(())
-}
-
 fn show(rt: &HostRuntime, worker: Client, job: &Message) -> io::Result<()> {
-    println!(rt; "worker {worker}: urgency {}, {} bytes", job.mtype, job.text.len())
+    println!(rt;
+        "worker {worker}: urgency {}, {} bytes",
+        job.mtype,
+        job.text.len()
+    )
 }
 
 fn ask(rt: &HostRuntime, desk: &mut Desk, worker: Client, jobs: QueueId) -> io::Result<()> {
-    let most_urgent = Receive {
-        size: 80,
-        msgtyp: -9,
-        flags: ReceiveFlags::empty(),
-    };
-    match desk.msgrcv(worker, jobs, most_urgent) {
+    match desk.msgrcv(worker, jobs, Receive::new(80, -9)) {
         Ok(Progress::Done(job)) => show(rt, worker, &job),
         Ok(Progress::Waits) => println!(rt; "worker {worker}: waits"),
         Err(failure) => println!(rt; "worker {worker}: {failure}"),
@@ -35,15 +28,20 @@ fn ask(rt: &HostRuntime, desk: &mut Desk, worker: Client, jobs: QueueId) -> io::
 }
 
 fn work(rt: &HostRuntime, desk: &mut Desk) -> io::Result<()> {
+    let alloc = rt.alloc();
     let jobs = desk.msgget(BOSS, 1, GetFlags::CREAT | GetFlags::mode(0o660))?;
-    send(rt, desk, jobs, 5, b"sweep")?;
-    send(rt, desk, jobs, 1, b"put out the fire")?;
+    let fire = Message::new(alloc, 1, b"put out the fire")?;
+    let sweep = Message::new(alloc, 5, b"sweep")?;
+    desk.msgsnd(BOSS, jobs, sweep, SendFlags::NOWAIT)?;
+    let fire = Message::new(alloc, 1, b"put out the fire")?;
+    desk.msgsnd(BOSS, jobs, fire, SendFlags::NOWAIT)?;
     for _ in 0..3 {
         for worker in WORKERS {
             ask(rt, desk, worker, jobs)?;
         }
     }
-    send(rt, desk, jobs, 2, b"wake")?;
+    let wake = Message::new(alloc, 2, b"wake")?;
+    desk.msgsnd(BOSS, jobs, wake, SendFlags::NOWAIT)?;
     for worker in WORKERS {
         if let Some(Ended::Received(job)) = desk.take(worker)? {
             show(rt, worker, &job)?;

@@ -23,12 +23,12 @@ loop-client-preserved c =
       count = c.put.ensures.count ∙ it.count;
       known = All-tail (λ (t : ℕ × Reply). t.0 < vec_len c.args.kept.now) (c.in-Some.client, c.in-Some.reply) rest known;
       kept = λ r.
-      let few : length (kept_for slots r ++ replies_in ((c.in-Some.client, c.in-Some.reply) ∷ rest) r) ≤ 1 =
-      subst (λ (l : List Reply). length l ≤ 1) (sym (ap (λ (l : List (ℕ × Reply)). kept_for slots r ++ replies_in l r) (sym items) ∙ it.kept r))
-      (subst (λ (l : List (ℕ × Reply)). length (kept_for c.args.kept.now.items r ++ replies_in l r) ≤ 1) (sym c.into_iter-client-iterator.ensures.into_iter_gives.0)
-      (omega (arith, c.requires.apart r, length-append (kept_for c.args.kept.now.items r) (replies_in c.args.others.items r)))) in
-      ap (λ (s : List (Option Reply)). kept_for s r ++ replies_in rest r) c.put.ensures.items
-      ∙ kept-put slots c.in-Some.client c.in-Some.reply rest within r few
-      ∙ ap (λ (l : List (ℕ × Reply)). kept_for slots r ++ replies_in l r) (sym items)
-      ∙ it.kept r;
+          let few : length (kept_for slots r ++ replies_in ((c.in-Some.client, c.in-Some.reply) ∷ rest) r) ≤ 1 =
+          subst (λ (l : List Reply). length l ≤ 1) (sym (ap (λ (l : List (ℕ × Reply)). kept_for slots r ++ replies_in l r) (sym items) ∙ it.kept r))
+          (subst (λ (l : List (ℕ × Reply)). length (kept_for c.args.kept.now.items r ++ replies_in l r) ≤ 1) (sym c.into_iter-client-iterator.ensures.into_iter_gives.0)
+          (omega (arith, c.requires.apart r, length-append (kept_for c.args.kept.now.items r) (replies_in c.args.others.items r)))) in
+          ap (λ (s : List (Option Reply)). kept_for s r ++ replies_in rest r) c.put.ensures.items
+          ∙ kept-put slots c.in-Some.client c.in-Some.reply rest within r few
+          ∙ ap (λ (l : List (ℕ × Reply)). kept_for slots r ++ replies_in l r) (sym items)
+          ∙ it.kept r;
     }

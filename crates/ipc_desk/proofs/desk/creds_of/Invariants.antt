@@ -1,5 +1,5 @@
 use Rattle.std.proofs.Common.{◌≡◌, map, take}
-use Rattle.ipc_desk.specs.Users.{creds_of_user}
+use Rattle.call_values.specs.Users.{creds_of_user}
 use Rattle.ipc_desk.proofs.desk.creds_of.Given as goal
 
 abbrev pub invariant-loop-user : goal.invariant-loop-user

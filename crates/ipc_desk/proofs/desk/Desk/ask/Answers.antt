@@ -7,7 +7,7 @@ use Rattle.ipc_history.specs.History.{History, IsLegal, next_step, with_event}
 use Rattle.ipc_space.specs.Answers.{can_give}
 use Rattle.ipc_space.specs.Spaces.{other_replies}
 use Rattle.ipc_space.specs.Telling.{replies_in}
-use Rattle.ipc_desk.specs.declared.failure.Failure.{Failure}
+use Rattle.call_values.specs.declared.failure.Failure.{Failure}
 use Rattle.ipc_desk.specs.Desks.{Comes, answer_told, hindrance_of}
 use Rattle.ipc_desk.specs.Kept.{AreKept, DeskState, kept_for}
 use Rattle.ipc_desk.proofs.Coming.{answer_gives, came, free-none, none_waits}

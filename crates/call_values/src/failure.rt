@@ -2,8 +2,8 @@
 
 ghost use Rattle.std.specs.Prelude.{◌≡◌, pos, Some};
 ghost use Rattle.std.specs.IoError.{raw_os_error};
-ghost use Rattle.ipc_desk.specs.Failures.{number_of_failure};
-ghost use Rattle.ipc_desk.specs.declared.failure.Failure.TheVariants.{Memory as MemoryFailed};
+ghost use Rattle.call_values.specs.Failures.{number_of_failure};
+ghost use Rattle.call_values.specs.declared.failure.Failure.TheVariants.{Memory as MemoryFailed};
 
 use ipc_call::{Errno, Memory, Rule};
 use std::error::Error;

@@ -1,8 +1,8 @@
 -- The numbers of failures, as errno(3) has them on Linux.
 use Rattle.std.specs.Prelude.{ℕ}
 use Rattle.ipc_call.specs.Rules.{number_of}
-use Rattle.ipc_desk.specs.declared.failure.Failure.{Failure}
-use Rattle.ipc_desk.specs.declared.failure.Failure.TheVariants.{Refused, Memory, NoClient, Waiting, Untaken}
+use Rattle.call_values.specs.declared.failure.Failure.{Failure}
+use Rattle.call_values.specs.declared.failure.Failure.TheVariants.{Refused, Memory, NoClient, Waiting, Untaken}
 
 -- ENOMEM 12, ESRCH 3, EBUSY 16
 abbrev pub number_of_failure : Failure → ℕ

@@ -1,5 +1,9 @@
 //! What names a client, an object and an attachment: numbers that can't be taken for one another.
 
+ghost use Rattle.std.specs.Prelude.{◌≡◌};
+ghost use Rattle.call_values.specs.Objects.{id_of, kind_of};
+
+use ipc_call::Kind;
 use std::fmt;
 
 /// A client, by its number from 0 in the order of the credentials.
@@ -22,6 +26,40 @@ pub struct SegmentId(pub u32);
 /// of shmat(2).
 #[derive(Clone, Copy, Debug, PartialEq, Eq)]
 pub struct Attached(pub u32);
+
+/// An object of any kind.
+#[derive(Clone, Copy, Debug, PartialEq, Eq)]
+pub enum Object {
+    /// A message queue.
+    Queue(QueueId),
+    /// A semaphore set.
+    Set(SetId),
+    /// A shared memory segment.
+    Segment(SegmentId),
+}
+
+impl Object {
+    /// Its kind.
+    pub fn kind(self) -> Kind
+        ensures { result ≡ kind_of self }
+    {
+        match self {
+            Object::Queue(_) => Kind::Queue,
+            Object::Set(_) => Kind::Sems,
+            Object::Segment(_) => Kind::Segment,
+        }
+    }
+
+    /// Its identifier.
+    pub fn id(self) -> u32
+        ensures { result ≡ id_of self }
+    {
+        match self {
+            Object::Queue(QueueId(id)) | Object::Set(SetId(id)) | Object::Segment(SegmentId(id)) =>
+                id,
+        }
+    }
+}
 
 impl fmt::Display for Client {
     fn fmt<W: fmt::Write>(&self, f: &mut fmt::Formatter<W>) -> fmt::Result {

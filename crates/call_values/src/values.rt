@@ -1,10 +1,11 @@
 //! What a program hands to a call, and what it gets.
 
-ghost use Rattle.std.specs.Prelude.{◌≡◌, IfOk};
+ghost use Rattle.std.specs.Prelude.{◌≡◌, map, IfOk};
+ghost use Rattle.call_values.specs.Operations.{sem_oper};
 
 use crate::flags::{ReceiveFlags, SemFlags};
 use bitflags::Flags;
-use ipc_call::Memory;
+use ipc_call::{Items, Memory, SemOper};
 use ipc_creds::Caps;
 use std::alloc::Global;
 
@@ -26,6 +27,13 @@ impl User {
     {
         let caps = Caps::empty();
         User { uid, gid, caps }
+    }
+
+    /// The same with these capabilities.
+    pub fn with_caps(self, caps: Caps) -> User
+        ensures { result ≡ record self { caps = caps } }
+    {
+        User { caps, ..self }
     }
 }
 
@@ -58,6 +66,20 @@ pub struct Receive {
     pub msgtyp: i64,
     /// `NOWAIT`, `NOERROR` and `EXCEPT`.
     pub flags: ReceiveFlags,
+}
+
+impl Receive {
+    /// A message by this msgtyp, with no flags.
+    pub fn new(size: u64, msgtyp: i64) -> Receive
+        ensures { result ≡ record { size = size; msgtyp = msgtyp; flags = record { 0 = 0 } } }
+    {
+        let flags = ReceiveFlags::empty();
+        Receive {
+            size,
+            msgtyp,
+            flags,
+        }
+    }
 }
 
 /// One operation of a semop (sembuf of semop(2)).
@@ -98,4 +120,19 @@ pub enum Ended {
     Done,
     /// A msgrcv has this message.
     Received(Message),
+}
+
+/// The operations as a call carries them. Memory (ENOMEM) comes where an allocation fails.
+pub fn sem_opers(alloc: Global, ops: &[SemOp]) -> Result<Items<SemOper>, Memory>
+    ensures { IfOk result (λ opers. opers ≡ map sem_oper ops.now) }
+{
+    let mut opers = Vec::with_capacity(alloc, ops.len())?;
+    for op in ops {
+        opers.push(SemOper {
+            num: op.num,
+            op: op.op,
+            flags: op.flags.bits(),
+        })?;
+    }
+    Ok(Items::new(opers))
 }
