@@ -30,7 +30,6 @@ fn ask(rt: &HostRuntime, desk: &mut Desk, worker: Client, jobs: QueueId) -> io::
 fn work(rt: &HostRuntime, desk: &mut Desk) -> io::Result<()> {
     let alloc = rt.alloc();
     let jobs = desk.msgget(BOSS, 1, GetFlags::CREAT | GetFlags::mode(0o660))?;
-    let fire = Message::new(alloc, 1, b"put out the fire")?;
     let sweep = Message::new(alloc, 5, b"sweep")?;
     desk.msgsnd(BOSS, jobs, sweep, SendFlags::NOWAIT)?;
     let fire = Message::new(alloc, 1, b"put out the fire")?;
