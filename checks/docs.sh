@@ -7,7 +7,7 @@
 #   sh, text     what has no output: commands to be copied, a picture, a grammar.
 #
 # Their links lead somewhere, the pictures are those of the tables that they are drawn of, and the man pages those that
-# lib/man_pages.py makes of the documents.
+# lib/man_pages.py makes of the documents. What the part `wrong` tries fits the code.
 
 documents='README.md CHANGELOG.md docs/*.md examples/README.md examples/traces/README.md'
 
@@ -31,8 +31,15 @@ docs_checks() {
     attempt 'links' links_lead_somewhere
     attempt 'docs/hand-over.svg' is_drawn_by hand_over_picture docs/hand-over.svg
     attempt 'docs/threads.svg' is_drawn_by threads_picture docs/threads.svg
+    attempt 'wrong bodies' edits_are_current
     attempt 'man/' man_pages_are_current
     ! command -v man >/dev/null || attempt 'man -l' man_pages_show
+}
+
+# Each edit of the part `wrong`, which takes long, can be tried on the code as it stands.
+edits_are_current() {
+    why='edits that can not be tried:'
+    python3 lib/wrong_bodies.py --read >"$scratch/shown"
 }
 
 man_pages_are_current() {

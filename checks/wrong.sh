@@ -11,6 +11,6 @@
 check_wrong() {
     status=0
     in_group python3 lib/wrong_bodies.py >"$scratch/edits" 2>&1 || status=$?
-    grep '^FAILED ' "$scratch/edits" || :
+    grep '^FAILED \|^wrong_bodies: ' "$scratch/edits" || :
     count_of wrong_bodies.py "$(tail -n 1 "$scratch/edits")" "$status"
 }

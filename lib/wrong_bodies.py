@@ -2,6 +2,7 @@
 
     wrong_bodies.py             all edits of crates/*/wrong, of checks/weakened and of checks/right
     wrong_bodies.py CRATE..     those of crates/CRATE/wrong
+    wrong_bodies.py --read      tries none: tells of each whose texts do not stand in its file exactly once
 
 An edit has lines 'refuses: FUNCTION', 'file: FILE', and pairs of 'old: TEXT' and 'new: TEXT', in which ⏎ is a line end;
 each old text stands in the file exactly once. Edits of several functions are tried in one check, since what a function's
@@ -363,7 +364,23 @@ def edits_by_crate(names):
     return {crate: edits for crate, edits in found.items() if edits}
 
 
+def unread(folder, edits):
+    """Those of the edits below a folder that can't be tried, each by itself."""
+    return [it for it in edits if not it.change({}, folder)]
+
+
+def read():
+    """Reads all edits, and returns a status."""
+    edits = edits_by_crate([])
+    lacking = [it for crate, its in edits.items() for it in unread(TOP / "crates" / crate, its)] + unread(TOP, edits_in(TOP / "checks/weakened"))
+    for edit in lacking:
+        print(f"{edit.path.relative_to(TOP)}: it names no function, or a text of it does not stand in its file exactly once")
+    return 1 if lacking else 0
+
+
 def main(names):
+    if names == ["--read"]:
+        return read()
     crates, edits = Crates(), edits_by_crate(names)
     for crate, its in edits.items():
         groups(TOP / "crates" / crate, its)  # an edit that doesn't apply stops the run before it begins

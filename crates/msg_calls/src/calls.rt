@@ -96,7 +96,7 @@ impl Queues {
     ) -> Option<Result<(), Rule>>
         ensures { (text : List ℕ) → length text ≡ asked.len → result ≡ without_answer
             (sending limits.now (queues_of self.now) who.entry.now id asked.flags
-                (record { mtype = asked.mtype; text = text })) }
+            (record { mtype = asked.mtype; text = text })) }
     {
         if asked.mtype < 1 {
             return Some(Err(Rule::BadType));
@@ -151,7 +151,7 @@ impl Queues {
 fn found_queue(who: &Caller, id: u32, perm: &Perm, flags: u32) -> Outcome
     ensures outcome { (t : Table) (key : ℕ) (limits : LimitsOf) (queue : Entry Contents) → queue.perm ≡ perm.now
         → outcome_of (getting_found limits t who.entry.now (record { key = key; flags = flags })
-            (Some (id, queue))) ≡ Some result }
+        (Some (id, queue))) ≡ Some result }
 {
     may_open(who, perm, flags)?;
     Ok(Answer::Id(id))

@@ -228,7 +228,7 @@ fn are_values(values: &[i32]) -> bool
 fn found_set(who: &Caller, id: u32, set: &Object<Set>, nsems: u32, flags: u32) -> Outcome
     ensures { (t : Table (Entry Contents)) (key : ℕ)
         → outcome_of (getting_found t who.entry.now (record { key = key; flags = flags }) nsems
-            (Some (id, set.now))) ≡ Some result }
+        (Some (id, set.now))) ≡ Some result }
 {
     may_open(who, &set.perm, flags)?;
     if nsems as usize > set.contents.semaphores.len() {

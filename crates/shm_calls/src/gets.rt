@@ -73,7 +73,7 @@ impl Segments {
 fn found_segment(who: &Caller, id: u32, segment: &Object<Segment>, size: u64, flags: u32) -> Outcome
     ensures { (t : Table (Entry Contents)) (limits : LimitsOf) (key : ℕ)
         → outcome_of (getting_found limits t who.entry.now (record { key = key; flags = flags }) size
-            (Some (id, segment.now))) ≡ Some result }
+        (Some (id, segment.now))) ≡ Some result }
 {
     may_open(who, &segment.perm, flags)?;
     if size > segment.contents.memory.len() {
