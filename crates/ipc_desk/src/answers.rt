@@ -7,7 +7,21 @@ ghost use Rattle.ipc_call.specs.declared.replies.Status.TheVariants as statuses;
 ghost use Rattle.ipc_model.specs.Decide.{can_wait};
 ghost use Rattle.ipc_space.specs.Answers.{can_give};
 ghost use Rattle.ipc_desk.specs.Desks.{Comes, told, told_progress};
-ghost use Rattle.ipc_desk.specs.Answered.{GivesOnly, is_attached, is_bytes, is_done, is_id, is_message, is_queue_status, is_rows, is_segment_status, is_set_status, is_status, is_value, is_values};
+ghost use Rattle.ipc_desk.specs.Answered.{
+  GivesOnly,
+  is_attached,
+  is_bytes,
+  is_done,
+  is_id,
+  is_message,
+  is_queue_status,
+  is_rows,
+  is_segment_status,
+  is_set_status,
+  is_status,
+  is_value,
+  is_values,
+};
 
 use crate::desk::Desk;
 use call_values::{Client, Failure, Message, Progress};
@@ -110,7 +124,8 @@ impl Desk {
     ) -> Result<QueueStatus, Failure>
         requires sort { GivesOnly call is_queue_status }
         requires at_once { can_wait call ≡ false }
-        ensures { Comes self.old self.new client.0 call (told (λ status. answers.Status (statuses.Queue status)) result) }
+        ensures { Comes self.old self.new client.0 call
+            (told (λ status. answers.Status (statuses.Queue status)) result) }
     {
         match *self.ask_status(client, call)?.get() {
             Status::Queue(status) => Ok(status),
@@ -140,7 +155,8 @@ impl Desk {
     ) -> Result<SegmentStatus, Failure>
         requires sort { GivesOnly call is_segment_status }
         requires at_once { can_wait call ≡ false }
-        ensures { Comes self.old self.new client.0 call (told (λ status. answers.Status (statuses.Segment status)) result) }
+        ensures { Comes self.old self.new client.0 call
+            (told (λ status. answers.Status (statuses.Segment status)) result) }
     {
         match *self.ask_status(client, call)?.get() {
             Status::Segment(status) => Ok(status),
@@ -169,7 +185,8 @@ impl Desk {
         call: Call,
     ) -> Result<Progress<Message>, Failure>
         requires { GivesOnly call is_message }
-        ensures { Comes self.old self.new client.0 call (told_progress (λ message. answers.Message message.mtype message.text.items) result) }
+        ensures { Comes self.old self.new client.0 call
+            (told_progress (λ message. answers.Message message.mtype message.text.items) result) }
     {
         match self.ask(client, call)? {
             None => Ok(Progress::Waits),

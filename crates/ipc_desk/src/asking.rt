@@ -1,6 +1,27 @@
 //! A client calls, and takes what is kept for it.
 
-ghost use Rattle.std.specs.Prelude.{◌≡◌, ℕ, ◌+◌, ◌<◌, ◌≤◌, ◌++◌, true, None, Some, Ok, Err, length, vec_len, IfOk, IfSome, All, MatchResult, option_map, option_to_list, slice_set};
+ghost use Rattle.std.specs.Prelude.{
+  ◌≡◌,
+  ℕ,
+  ◌+◌,
+  ◌<◌,
+  ◌≤◌,
+  ◌++◌,
+  true,
+  None,
+  Some,
+  Ok,
+  Err,
+  length,
+  vec_len,
+  IfOk,
+  IfSome,
+  All,
+  MatchResult,
+  option_map,
+  option_to_list,
+  slice_set,
+};
 ghost use Rattle.ipc_model.specs.Decide.{can_wait};
 ghost use Rattle.ipc_space.specs.Answers.{can_give};
 ghost use Rattle.ipc_space.specs.Telling.{replies_in};
@@ -115,7 +136,8 @@ fn ended_in(reply: Option<Reply>) -> Result<Option<Ended>, Failure>
 /// How a call ended that waited.
 fn ended_by(reply: Reply) -> Result<Ended, Failure>
     requires { is_of_waiting reply ≡ true }
-    ensures { MatchResult result (λ ended. outcome_in reply ≡ Ok (answer_of ended)) (λ failure. outcome_in reply ≡ Err failure) }
+    ensures { MatchResult result (λ ended. outcome_in reply ≡ Ok (answer_of ended))
+        (λ failure. outcome_in reply ≡ Err failure) }
 {
     match outcome_of(reply)? {
         Answer::Done => Ok(Ended::Done),

@@ -38,7 +38,12 @@ impl Desk {
         requires limits { IsTrue (are_in_range limits) }
         requires some { 1 ≤ vec_len clients }
         requires few { vec_len clients ≤ 64 }
-        ensures { IfOk result (λ desk. desk ≡ record { history = record { limits = limits; clients = clients.items; events = [] }; time = 0; kept = replicate (vec_len clients) None }) }
+        ensures { IfOk result (λ desk. desk ≡
+            record {
+              history = record { limits = limits; clients = clients.items; events = [] };
+              time = 0;
+              kept = replicate (vec_len clients) None;
+            }) }
     {
         let kept = empty_slots(*clients.allocator(), clients.len())?;
         let space = Space::start(limits, clients)?;
@@ -53,7 +58,12 @@ impl Desk {
     pub fn of_users(alloc: Global, users: &[User]) -> Result<Desk, Memory>
         requires some { 1 ≤ length users.now }
         requires few { length users.now ≤ 64 }
-        ensures { IfOk result (λ desk. desk ≡ record { history = record { limits = default_limits; clients = map creds_of_user users.now; events = [] }; time = 0; kept = replicate (length users.now) None }) }
+        ensures { IfOk result (λ desk. desk ≡
+            record {
+              history = record { limits = default_limits; clients = map creds_of_user users.now; events = [] };
+              time = 0;
+              kept = replicate (length users.now) None;
+            }) }
     {
         Desk::open(Limits::default(), creds_of(alloc, users)?)
     }

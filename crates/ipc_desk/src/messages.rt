@@ -16,7 +16,8 @@ impl Desk {
     /// The queue of a key, which is created where `CREAT` is given and the key has none (msgget(2)). Key 0 is IPC_PRIVATE and
     /// creates a queue each time.
     pub fn msgget(&mut self, client: Client, key: u32, flags: GetFlags) -> Result<QueueId, Failure>
-        ensures { Comes self.old self.new client.0 (calls.MsgGet key flags.0) (told (λ queue. answers.Id queue.0) result) }
+        ensures { Comes self.old self.new client.0 (calls.MsgGet key flags.0)
+            (told (λ queue. answers.Id queue.0) result) }
     {
         let flags = flags.bits();
         let id = self.ask_id(client, Call::MsgGet { key, flags })?;
@@ -31,7 +32,8 @@ impl Desk {
         message: Message,
         flags: SendFlags,
     ) -> Result<Progress<()>, Failure>
-        ensures { Comes self.old self.new client.0 (calls.MsgSnd queue.0 message.mtype message.text.items flags.0) (told_progress (λ done. answers.Done) result) }
+        ensures { Comes self.old self.new client.0 (calls.MsgSnd queue.0 message.mtype message.text.items flags.0)
+            (told_progress (λ done. answers.Done) result) }
     {
         let Message { mtype, text } = message;
         let call = Call::MsgSnd {
@@ -51,7 +53,8 @@ impl Desk {
         queue: QueueId,
         asked: Receive,
     ) -> Result<Progress<Message>, Failure>
-        ensures { Comes self.old self.new client.0 (calls.MsgRcv queue.0 asked.size asked.msgtyp asked.flags.0) (told_progress (λ message. answers.Message message.mtype message.text.items) result) }
+        ensures { Comes self.old self.new client.0 (calls.MsgRcv queue.0 asked.size asked.msgtyp asked.flags.0)
+            (told_progress (λ message. answers.Message message.mtype message.text.items) result) }
     {
         let Receive {
             size,
@@ -69,7 +72,8 @@ impl Desk {
 
     /// The state of a queue (IPC_STAT of msgctl(2)).
     pub fn msg_stat(&mut self, client: Client, queue: QueueId) -> Result<QueueStatus, Failure>
-        ensures { Comes self.old self.new client.0 (calls.IpcStat kinds.Queue queue.0) (told (λ status. answers.Status (statuses.Queue status)) result) }
+        ensures { Comes self.old self.new client.0 (calls.IpcStat kinds.Queue queue.0)
+            (told (λ status. answers.Status (statuses.Queue status)) result) }
     {
         let call = Call::IpcStat {
             kind: Kind::Queue,
@@ -85,7 +89,9 @@ impl Desk {
         queue: QueueId,
         settings: Settings,
     ) -> Result<(), Failure>
-        ensures { Comes self.old self.new client.0 (calls.IpcSet kinds.Queue queue.0 settings.uid settings.gid settings.mode settings.qbytes) (told (λ done. answers.Done) result) }
+        ensures { Comes self.old self.new client.0
+            (calls.IpcSet kinds.Queue queue.0 settings.uid settings.gid settings.mode settings.qbytes)
+            (told (λ done. answers.Done) result) }
     {
         let Settings {
             uid,
@@ -106,7 +112,8 @@ impl Desk {
 
     /// Removes a queue, which ends the calls that wait at it (IPC_RMID of msgctl(2)).
     pub fn msg_rmid(&mut self, client: Client, queue: QueueId) -> Result<(), Failure>
-        ensures { Comes self.old self.new client.0 (calls.IpcRmid kinds.Queue queue.0) (told (λ done. answers.Done) result) }
+        ensures { Comes self.old self.new client.0 (calls.IpcRmid kinds.Queue queue.0)
+            (told (λ done. answers.Done) result) }
     {
         let call = Call::IpcRmid {
             kind: Kind::Queue,

@@ -12,14 +12,16 @@ use ipc_call::{Call, Items, Kind, Row};
 impl Desk {
     /// The objects of a kind that the client may read, by rising slot (ipcs(1)).
     pub fn list(&mut self, client: Client, kind: Kind) -> Result<Vec<Row>, Failure>
-        ensures { Comes self.old self.new client.0 (calls.Listing kind) (told (λ rows. answers.Rows rows.items) result) }
+        ensures { Comes self.old self.new client.0 (calls.Listing kind)
+            (told (λ rows. answers.Rows rows.items) result) }
     {
         self.ask_rows(client, Call::Listing { kind })
     }
 
     /// Ends the waiting call of another client, as a caught signal would (EINTR of msgop(2)). It stands for kill(2).
     pub fn interrupt(&mut self, client: Client, other: Client) -> Result<(), Failure>
-        ensures { Comes self.old self.new client.0 (calls.Interrupt (min (other.0 + 1) (2 ^ 32 - 1))) (told (λ done. answers.Done) result) }
+        ensures { Comes self.old self.new client.0 (calls.Interrupt (min (other.0 + 1) (2 ^ 32 - 1)))
+            (told (λ done. answers.Done) result) }
     {
         let pid = other.0.saturating_add(1);
         self.ask_done(client, Call::Interrupt { pid })
@@ -34,7 +36,8 @@ impl Desk {
         egid: u32,
         groups: Option<Vec<u32>>,
     ) -> Result<(), Failure>
-        ensures { Comes self.old self.new client.0 (calls.SetCreds euid egid (option_map (λ list. list.items) groups)) (told (λ done. answers.Done) result) }
+        ensures { Comes self.old self.new client.0 (calls.SetCreds euid egid (option_map (λ list. list.items) groups))
+            (told (λ done. answers.Done) result) }
     {
         let call = Call::SetCreds {
             euid,

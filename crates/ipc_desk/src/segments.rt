@@ -23,7 +23,8 @@ impl Desk {
         size: u64,
         flags: GetFlags,
     ) -> Result<SegmentId, Failure>
-        ensures { Comes self.old self.new client.0 (calls.ShmGet key size flags.0) (told (λ segment. answers.Id segment.0) result) }
+        ensures { Comes self.old self.new client.0 (calls.ShmGet key size flags.0)
+            (told (λ segment. answers.Id segment.0) result) }
     {
         let flags = flags.bits();
         let id = self.ask_id(client, Call::ShmGet { key, size, flags })?;
@@ -37,7 +38,8 @@ impl Desk {
         segment: SegmentId,
         flags: AttachFlags,
     ) -> Result<Attached, Failure>
-        ensures { Comes self.old self.new client.0 (calls.ShmAt segment.0 flags.0) (told (λ attached. answers.Attached attached.0) result) }
+        ensures { Comes self.old self.new client.0 (calls.ShmAt segment.0 flags.0)
+            (told (λ attached. answers.Attached attached.0) result) }
     {
         let call = Call::ShmAt {
             id: segment.0,
@@ -62,7 +64,8 @@ impl Desk {
         offset: u64,
         len: u64,
     ) -> Result<Vec<u8>, Failure>
-        ensures { Comes self.old self.new client.0 (calls.ShmRead attached.0 offset len) (told (λ bytes. answers.Bytes bytes.items) result) }
+        ensures { Comes self.old self.new client.0 (calls.ShmRead attached.0 offset len)
+            (told (λ bytes. answers.Bytes bytes.items) result) }
     {
         let call = Call::ShmRead {
             att: attached.0,
@@ -80,7 +83,8 @@ impl Desk {
         offset: u64,
         bytes: &[u8],
     ) -> Result<(), Failure>
-        ensures { Comes self.old self.new client.0 (calls.ShmWrite attached.0 offset bytes.now) (told (λ done. answers.Done) result) }
+        ensures { Comes self.old self.new client.0 (calls.ShmWrite attached.0 offset bytes.now)
+            (told (λ done. answers.Done) result) }
     {
         let bytes = Items::new(Vec::from_slice(self.alloc(), bytes)?);
         let call = Call::ShmWrite {
@@ -93,7 +97,8 @@ impl Desk {
 
     /// The state of a segment (IPC_STAT of shmctl(2)).
     pub fn shm_stat(&mut self, client: Client, segment: SegmentId) -> Result<SegmentStatus, Failure>
-        ensures { Comes self.old self.new client.0 (calls.IpcStat kinds.Segment segment.0) (told (λ status. answers.Status (statuses.Segment status)) result) }
+        ensures { Comes self.old self.new client.0 (calls.IpcStat kinds.Segment segment.0)
+            (told (λ status. answers.Status (statuses.Segment status)) result) }
     {
         let call = Call::IpcStat {
             kind: Kind::Segment,
@@ -109,7 +114,8 @@ impl Desk {
         segment: SegmentId,
         owner: Owner,
     ) -> Result<(), Failure>
-        ensures { Comes self.old self.new client.0 (calls.IpcSet kinds.Segment segment.0 owner.uid owner.gid owner.mode None) (told (λ done. answers.Done) result) }
+        ensures { Comes self.old self.new client.0 (calls.IpcSet kinds.Segment segment.0 owner.uid owner.gid owner.mode None)
+            (told (λ done. answers.Done) result) }
     {
         let Owner { uid, gid, mode } = owner;
         let call = Call::IpcSet {
@@ -125,7 +131,8 @@ impl Desk {
 
     /// Removes a segment (IPC_RMID of shmctl(2)). One that is attached goes with its last attachment.
     pub fn shm_rmid(&mut self, client: Client, segment: SegmentId) -> Result<(), Failure>
-        ensures { Comes self.old self.new client.0 (calls.IpcRmid kinds.Segment segment.0) (told (λ done. answers.Done) result) }
+        ensures { Comes self.old self.new client.0 (calls.IpcRmid kinds.Segment segment.0)
+            (told (λ done. answers.Done) result) }
     {
         let call = Call::IpcRmid {
             kind: Kind::Segment,

@@ -23,7 +23,8 @@ impl Desk {
         nsems: u32,
         flags: GetFlags,
     ) -> Result<SetId, Failure>
-        ensures { Comes self.old self.new client.0 (calls.SemGet key nsems flags.0) (told (λ set. answers.Id set.0) result) }
+        ensures { Comes self.old self.new client.0 (calls.SemGet key nsems flags.0)
+            (told (λ set. answers.Id set.0) result) }
     {
         let flags = flags.bits();
         let id = self.ask_id(client, Call::SemGet { key, nsems, flags })?;
@@ -38,7 +39,8 @@ impl Desk {
         set: SetId,
         ops: &[SemOp],
     ) -> Result<Progress<()>, Failure>
-        ensures { Comes self.old self.new client.0 (calls.SemOp set.0 (map sem_oper ops.now)) (told_progress (λ done. answers.Done) result) }
+        ensures { Comes self.old self.new client.0 (calls.SemOp set.0 (map sem_oper ops.now))
+            (told_progress (λ done. answers.Done) result) }
     {
         let ops = sem_opers(self.alloc(), ops)?;
         self.ask_done_or_wait(client, Call::SemOp { id: set.0, ops })
@@ -52,7 +54,8 @@ impl Desk {
         ops: &[SemOp],
         timeout: u64,
     ) -> Result<Progress<()>, Failure>
-        ensures { Comes self.old self.new client.0 (calls.SemTimedOp set.0 (map sem_oper ops.now) timeout) (told_progress (λ done. answers.Done) result) }
+        ensures { Comes self.old self.new client.0 (calls.SemTimedOp set.0 (map sem_oper ops.now) timeout)
+            (told_progress (λ done. answers.Done) result) }
     {
         let ops = sem_opers(self.alloc(), ops)?;
         let call = Call::SemTimedOp {
@@ -65,35 +68,40 @@ impl Desk {
 
     /// The value of a semaphore (GETVAL of semctl(2)).
     pub fn getval(&mut self, client: Client, set: SetId, num: u32) -> Result<u32, Failure>
-        ensures { Comes self.old self.new client.0 (calls.GetVal set.0 num) (told (λ value. answers.Value value) result) }
+        ensures { Comes self.old self.new client.0 (calls.GetVal set.0 num)
+            (told (λ value. answers.Value value) result) }
     {
         self.ask_value(client, Call::GetVal { id: set.0, num })
     }
 
     /// The process that set a semaphore last (GETPID of semctl(2)), the number of its client plus 1, and 0 where none did.
     pub fn getpid(&mut self, client: Client, set: SetId, num: u32) -> Result<u32, Failure>
-        ensures { Comes self.old self.new client.0 (calls.GetPid set.0 num) (told (λ value. answers.Value value) result) }
+        ensures { Comes self.old self.new client.0 (calls.GetPid set.0 num)
+            (told (λ value. answers.Value value) result) }
     {
         self.ask_value(client, Call::GetPid { id: set.0, num })
     }
 
     /// How many calls wait for a semaphore to rise (GETNCNT of semctl(2)).
     pub fn getncnt(&mut self, client: Client, set: SetId, num: u32) -> Result<u32, Failure>
-        ensures { Comes self.old self.new client.0 (calls.GetNcnt set.0 num) (told (λ value. answers.Value value) result) }
+        ensures { Comes self.old self.new client.0 (calls.GetNcnt set.0 num)
+            (told (λ value. answers.Value value) result) }
     {
         self.ask_value(client, Call::GetNcnt { id: set.0, num })
     }
 
     /// How many calls wait for a semaphore to become 0 (GETZCNT of semctl(2)).
     pub fn getzcnt(&mut self, client: Client, set: SetId, num: u32) -> Result<u32, Failure>
-        ensures { Comes self.old self.new client.0 (calls.GetZcnt set.0 num) (told (λ value. answers.Value value) result) }
+        ensures { Comes self.old self.new client.0 (calls.GetZcnt set.0 num)
+            (told (λ value. answers.Value value) result) }
     {
         self.ask_value(client, Call::GetZcnt { id: set.0, num })
     }
 
     /// The values of all semaphores of a set (GETALL of semctl(2)).
     pub fn getall(&mut self, client: Client, set: SetId) -> Result<Vec<u16>, Failure>
-        ensures { Comes self.old self.new client.0 (calls.GetAll set.0) (told (λ values. answers.Values values.items) result) }
+        ensures { Comes self.old self.new client.0 (calls.GetAll set.0)
+            (told (λ values. answers.Values values.items) result) }
     {
         self.ask_values(client, Call::GetAll { id: set.0 })
     }
@@ -118,7 +126,8 @@ impl Desk {
 
     /// Sets the semaphores of a set to as many values of 0 to SEMVMX (SETALL of semctl(2)).
     pub fn setall(&mut self, client: Client, set: SetId, values: &[i32]) -> Result<(), Failure>
-        ensures { Comes self.old self.new client.0 (calls.SetAll set.0 values.now) (told (λ done. answers.Done) result) }
+        ensures { Comes self.old self.new client.0 (calls.SetAll set.0 values.now)
+            (told (λ done. answers.Done) result) }
     {
         let values = Items::new(Vec::from_slice(self.alloc(), values)?);
         self.ask_done(client, Call::SetAll { id: set.0, values })
@@ -126,7 +135,8 @@ impl Desk {
 
     /// The state of a set (IPC_STAT of semctl(2)).
     pub fn sem_stat(&mut self, client: Client, set: SetId) -> Result<SetStatus, Failure>
-        ensures { Comes self.old self.new client.0 (calls.IpcStat kinds.Sems set.0) (told (λ status. answers.Status (statuses.Set status)) result) }
+        ensures { Comes self.old self.new client.0 (calls.IpcStat kinds.Sems set.0)
+            (told (λ status. answers.Status (statuses.Set status)) result) }
     {
         let call = Call::IpcStat {
             kind: Kind::Sems,
@@ -137,7 +147,8 @@ impl Desk {
 
     /// Sets owner and mode of a set (IPC_SET of semctl(2)).
     pub fn sem_set(&mut self, client: Client, set: SetId, owner: Owner) -> Result<(), Failure>
-        ensures { Comes self.old self.new client.0 (calls.IpcSet kinds.Sems set.0 owner.uid owner.gid owner.mode None) (told (λ done. answers.Done) result) }
+        ensures { Comes self.old self.new client.0 (calls.IpcSet kinds.Sems set.0 owner.uid owner.gid owner.mode None)
+            (told (λ done. answers.Done) result) }
     {
         let Owner { uid, gid, mode } = owner;
         let call = Call::IpcSet {
@@ -153,7 +164,8 @@ impl Desk {
 
     /// Removes a set, which ends the calls that wait at it (IPC_RMID of semctl(2)).
     pub fn sem_rmid(&mut self, client: Client, set: SetId) -> Result<(), Failure>
-        ensures { Comes self.old self.new client.0 (calls.IpcRmid kinds.Sems set.0) (told (λ done. answers.Done) result) }
+        ensures { Comes self.old self.new client.0 (calls.IpcRmid kinds.Sems set.0)
+            (told (λ done. answers.Done) result) }
     {
         let call = Call::IpcRmid {
             kind: Kind::Sems,
