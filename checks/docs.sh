@@ -9,7 +9,7 @@
 # Their links lead somewhere, the pictures and tables of threads are those of docs/threads.rows, and the man pages those that lib/man_pages.py
 # makes of the documents. What the part `wrong` tries fits the code.
 
-documents='README.md CHANGELOG.md docs/*.md examples/README.md examples/traces/README.md'
+documents='README.md CHANGELOG.md docs/*.md examples/README.md examples/traces/README.md crates/*/CALLING.md'
 
 # A command of the documents that checks them again would never end, so there this fails.
 check_docs() {

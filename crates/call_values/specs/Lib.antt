@@ -1,0 +1,4 @@
+pub mod Failures
+pub mod Objects
+pub mod Operations
+pub mod Users

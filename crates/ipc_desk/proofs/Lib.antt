@@ -1,0 +1,5 @@
+pub mod Coming
+pub mod Ends
+pub mod Given
+pub mod Slots
+pub mod Taking

@@ -1,0 +1,4 @@
+pub mod Accesses
+pub mod Answered
+pub mod Desks
+pub mod Kept
