@@ -1,5 +1,5 @@
 -- A note: the row below which it stands, and its text.
-use Rattle.std.specs.Prelude.{ℕ, List, [], ◌∷◌, ◌++◌, codes, decimal}
+use Rattle.std.specs.Prelude.{◌≡◌, ℕ, List, [], ◌∷◌, ◌++◌, codes, decimal}
 use Rattle.row_notes.specs.declared.notes.Head.{Head}
 use Rattle.row_notes.specs.declared.notes.Head.TheVariants.{Event, Line, End}
 use Rattle.row_notes.specs.declared.notes.Note.{Note}
@@ -26,3 +26,7 @@ head_text End = []
 abbrev pub next_head : List Note → List ℕ
 next_head [] = []
 next_head (n ∷ ns) = head_text n.head
+
+-- a note with this head is added, or none
+abbrev pub AddsNote : List Noted → List Noted → Head → Type 0
+AddsNote old new head = (text : List ℕ) × (new ≡ with_note old head text)
