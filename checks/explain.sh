@@ -17,7 +17,7 @@ explain_checks() {
     attempt 'ipcsh_explain of a file' explains_a_file
     attempt 'ipcsh_explain of no file' explains_no_file
     attempt 'ipcsh_explain, output that cannot be written' explain_cannot_write
-    attempt 'ipcsh_explain, 100,000 lines' explains_in_time
+    [ -n "${unproved-}" ] || attempt 'ipcsh_explain, 300,000 lines in twice the time of ipcsh' explains_in_time
 }
 
 # explains SCRIPT BASE: without the notes its output is that of BASE.out, with the status of BASE.status, and each row that wants
@@ -68,24 +68,32 @@ explain_cannot_write() {
     same 'its standard error' "$scratch/wanted" "$scratch/err"
 }
 
-# A hundred thousand lines, of which a third is refused and a sixth waits, in at most twice the time of ipcsh; and a second for the
-# machine.
+# Three hundred thousand lines, of which a third is refused and a sixth waits, in at most twice the time of ipcsh: of each the least user
+# time of five runs, by turns.
 explains_in_time() {
     {
         printf 'client alice 100 10\nclient bob 200 20\nalice msgget 5 01600\nalice msgget 6 01666\n'
-        seq 16666 | awk '{
+        seq 50000 | awk '{
             print "bob msgget 5 0600\nbob msgsnd 0 1 t:x 0\nbob msgrcv 1 10 0 0\nalice msgsnd 1 1 t:x 0\nalice getval 0 0\nalice stat q 1" }'
     } >"$scratch/long.ipcsh"
-    milliseconds "$(program_to_run ipcsh_cli)" "$scratch/long.ipcsh" || return 1
-    plain=$taken
-    milliseconds "$(program_to_run ipcsh_explain)" "$scratch/long.ipcsh" || return 1
-    why="it takes $taken ms, and ipcsh $plain ms"
-    [ "$taken" -le $((2 * plain + 1000)) ]
+    plain=
+    explained=
+    for run in 1 2 3 4 5; do
+        user_time "$(program_to_run ipcsh_cli)" "$scratch/long.ipcsh" || return 1
+        plain=$(least $taken $plain)
+        user_time "$(program_to_run ipcsh_explain)" "$scratch/long.ipcsh" || return 1
+        explained=$(least $taken $explained)
+    done
+    why="it takes $explained ms of user time, and ipcsh $plain ms"
+    printf '%s\n' "$why" >"$scratch/times"
+    [ "$explained" -le $((2 * plain)) ]
 }
 
-# milliseconds PROGRAM SCRIPT: sets `taken`.
-milliseconds() {
-    start=$(date +%s%N)
-    "$1" <"$2" >/dev/null || return 1
-    taken=$((($(date +%s%N) - start) / 1000000))
+# user_time PROGRAM SCRIPT: sets `taken`, in milliseconds.
+user_time() {
+    taken=$( ("$1" <"$2" >/dev/null && times) |
+        awk 'NR == 2 { split($1, part, /[ms]/); printf "%d", (part[1] * 60 + part[2]) * 1000 }')
+    [ -n "$taken" ]
 }
+
+least() { printf '%s\n' "$@" | sort -n | head -n 1; }

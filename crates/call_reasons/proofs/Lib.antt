@@ -1,1 +1,3 @@
+mod AskedNeeds
 mod LastCall
+mod TrialLemmas

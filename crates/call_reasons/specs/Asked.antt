@@ -1,11 +1,12 @@
 -- What a call asks of the object that it names: the need of its plan, as ipc_model has it.
-use Rattle.std.specs.Prelude.{ℕ, Option, Some, None, option_map}
+use Rattle.std.specs.Prelude.{◌≡◌, ℕ, List, [], ◌∷◌, Option, Some, None, option_map}
 use Rattle.ipc_call.specs.declared.calls.Call.{Call}
 use Rattle.ipc_call.specs.declared.calls.Call.TheVariants.{MsgGet, MsgSnd, MsgRcv, SemGet, SemOp, SemTimedOp, GetVal, GetPid, GetNcnt, GetZcnt, GetAll, SetVal, SetAll, ShmGet, ShmAt, IpcStat, IpcSet, IpcRmid}
 use Rattle.ipc_call.specs.declared.calls.Kind.{Kind}
 use Rattle.ipc_call.specs.declared.calls.Kind.TheVariants as kinds
+use Rattle.ipc_call.specs.declared.perms.Perm.{Perm}
 use Rattle.ipc_perm.specs.declared.access.Want.{Want}
-use Rattle.ipc_perm.specs.Access.{asked_of, to_alter, to_read}
+use Rattle.ipc_perm.specs.Access.{Control, Need, Permission, asked_of, to_alter, to_read}
 use Rattle.ipc_model.specs.Controls.{perm_of}
 use Rattle.ipc_model.specs.Segments.{wanted_to_attach}
 use Rattle.ipc_model.specs.Semaphores.{wanted_by}
@@ -53,3 +54,13 @@ abbrev pub named : State → Target → Option NamedObject
 named s (Id kind id) = option_map (λ perm. record { kind = kind; id = id; perm = perm }) (perm_of s kind id)
 named s (Key kind key) =
     option_map (λ found. record { kind = kind; id = found.0; perm = found.1 }) (object_with_key s kind key)
+
+-- what a call needs that asks for permissions: these on the object, where there is one
+abbrev pub permission_of : Want → Option NamedObject → List Need
+permission_of want None = []
+permission_of want (Some object) = Permission object.perm want ∷ []
+
+-- what a call needs that asks for control: control of the object, where there is one, before all else
+abbrev pub NeedsControl : List Need → Option Perm → Type 0
+NeedsControl needs None = needs ≡ []
+NeedsControl needs (Some perm) = (more : List Need) × (needs ≡ Control perm ∷ more)

@@ -1,4 +1,5 @@
 pub mod Asked
 pub mod Cases
 pub mod Denials
+pub mod Trials
 pub mod Waits

@@ -1,9 +1,12 @@
 //! What a call asks of the object that it names.
 
-ghost use Rattle.std.specs.Prelude.{◌≡◌, not};
+ghost use Rattle.std.specs.Prelude.{◌≡◌, ℕ, not, IfSome};
+ghost use Rattle.ipc_model.specs.Controls.{perm_of};
+ghost use Rattle.ipc_model.specs.Decide.{needs};
 ghost use Rattle.ipc_model.specs.Segments.{wanted_to_attach};
+ghost use Rattle.ipc_model.specs.State.{State};
 ghost use Rattle.ipc_perm.specs.Access.{asked_of};
-ghost use Rattle.call_reasons.specs.Asked.{asked_in, controlled_in};
+ghost use Rattle.call_reasons.specs.Asked.{NeedsControl, asked_in, controlled_in, named, permission_of};
 
 use ipc_call::{Call, Kind, is_read_only};
 use ipc_perm::{TO_ALTER, TO_READ, Want, asked_of_flags};
@@ -29,6 +32,15 @@ pub struct Asked {
 
 /// What the call asks for; `None` where it asks for no permission.
 pub fn asked_by(call: &Call) -> Option<Asked>
+    ensures asked { result ≡ asked_in call.now }
+    ensures needed { (s : State) (client : ℕ) → IfSome result (λ asked.
+        needs s client call.now ≡ permission_of asked.want (named s asked.target)) }
+{
+    asked_at(call)
+}
+
+/// The same, by the table of calls alone.
+fn asked_at(call: &Call) -> Option<Asked>
     ensures { result ≡ asked_in call.now }
 {
     match call {
@@ -87,6 +99,15 @@ fn to_attach(flags: u32) -> Want
 
 /// The object that the call would set or remove, which asks for no permission.
 pub fn controlled_by(call: &Call) -> Option<(Kind, u32)>
+    ensures controlled { result ≡ controlled_in call.now }
+    ensures needed { (s : State) (client : ℕ) → IfSome result (λ object.
+        NeedsControl (needs s client call.now) (perm_of s object.0 object.1)) }
+{
+    controlled_at(call)
+}
+
+/// The same, by the table of calls alone.
+fn controlled_at(call: &Call) -> Option<(Kind, u32)>
     ensures { result ≡ controlled_in call.now }
 {
     match call {

@@ -1,5 +1,6 @@
-//! The names of calls, as a script writes them.
+//! The names of calls, as a script writes them, and of the objects that they name.
 
+use crate::asked::{Asked, Target, asked_by, controlled_by};
 use ipc_call::{Call, Kind};
 
 /// The word of a call.
@@ -42,20 +43,21 @@ fn other_word_of(call: &Call) -> &'static str {
 
 /// The kind and the identifier that the call names.
 pub(crate) fn object_of(call: &Call) -> Option<(Kind, u32)> {
-    match call {
-        Call::MsgSnd { id, .. } | Call::MsgRcv { id, .. } => Some((Kind::Queue, *id)),
-        Call::SemOp { id, .. }
-        | Call::SemTimedOp { id, .. }
-        | Call::GetVal { id, .. }
-        | Call::GetPid { id, .. }
-        | Call::GetNcnt { id, .. }
-        | Call::GetZcnt { id, .. }
-        | Call::GetAll { id }
-        | Call::SetVal { id, .. }
-        | Call::SetAll { id, .. } => Some((Kind::Sems, *id)),
-        Call::ShmAt { id, .. } => Some((Kind::Segment, *id)),
-        Call::IpcStat { kind, id } | Call::IpcSet { kind, id, .. } | Call::IpcRmid { kind, id } =>
-            Some((*kind, *id)),
-        _ => None,
+    match asked_by(call) {
+        Some(
+            Asked {
+                target: Target::Id(kind, id),
+                ..
+            },
+        ) => Some((kind, id)),
+        _ => controlled_by(call),
+    }
+}
+
+/// The kind and the key of a get.
+pub(crate) fn key_of(call: &Call) -> Option<(Kind, u32)> {
+    match asked_by(call)?.target {
+        Target::Key(kind, key) => Some((kind, key)),
+        Target::Id(..) => None,
     }
 }

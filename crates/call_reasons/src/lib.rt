@@ -25,4 +25,5 @@ pub use cycles::Graph;
 pub use denials::{Denial, denial_of};
 pub use ends::{Ender, Wait, explain_end};
 pub use refusals::explain_refusal;
+pub use trials::{Stopped, refused_by};
 pub use waits::{Awaited, awaited_by, print_awaited};

@@ -1,10 +1,10 @@
 //! What refuses calls on objects of any kind.
 
 use crate::asked::{Target, asked_by, controlled_by};
-use crate::calls::{object_of, word_of};
+use crate::calls::{key_of, object_of, word_of};
 use crate::cases::{Case, NamedObject, Told, object_named};
 use crate::denials::{Denial, denial_of};
-use ipc_call::{Call, Kind, Perm};
+use ipc_call::{Call, Perm, is_read_only};
 use ipc_perm::Want;
 use perm_words::{
     Standing, class_bits, is_within, kind_name, print_class, print_object, rights_in, rights_name,
@@ -56,10 +56,10 @@ fn print_asking(out: &mut String, call: &Call) -> Told {
             write!(out, "the bits {bits:04o} in the flags of {word} ask")
         }
         Call::ShmAt { flags, .. } => {
-            let with = if *flags & 0o10000 == 0 {
-                "without"
-            } else {
+            let with = if is_read_only(*flags) {
                 "with"
+            } else {
+                "without"
             };
             write!(out, "shmat {with} SHM_RDONLY asks")
         }
@@ -141,16 +141,6 @@ pub(crate) fn explain_bad_id(out: &mut String, case: Case<'_>) -> Told {
     };
     let kind = kind_name(kind);
     write!(out, "there is no {kind} {id} now\n")
-}
-
-/// The kind and the key of a get.
-fn key_of(call: &Call) -> Option<(Kind, u32)> {
-    match call {
-        Call::MsgGet { key, .. } => Some((Kind::Queue, *key)),
-        Call::SemGet { key, .. } => Some((Kind::Sems, *key)),
-        Call::ShmGet { key, .. } => Some((Kind::Segment, *key)),
-        _ => None,
-    }
 }
 
 /// Tells that a key has no object.

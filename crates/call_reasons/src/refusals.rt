@@ -45,7 +45,7 @@ fn explain_numbers(out: &mut String, case: Case<'_>, rule: Rule) -> Told {
         Rule::BadSize => explain_bad_size(out, case),
         Rule::BadSem | Rule::SemOutOfSet => explain_number(out, case),
         Rule::NoOperations | Rule::TooManyOperations => explain_operations(out, case),
-        Rule::WouldWait | Rule::ValueRange | Rule::UndoRange => explain_trial(out, case, rule),
+        Rule::WouldWait | Rule::ValueRange | Rule::UndoRange => explain_trial(out, case),
         Rule::BadArgument => explain_bad_argument(out, case),
         Rule::NotAttached => explain_not_attached(out, case),
         Rule::OutOfSegment => explain_range(out, case),

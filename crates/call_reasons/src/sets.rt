@@ -1,9 +1,10 @@
 //! What refuses calls on semaphore sets.
 
 use crate::cases::{Case, Told};
-use crate::trials::{Stop, Stopped, stopped_by};
-use ipc_call::{Call, Kind, Rule, SemOper, Status};
+use crate::trials::{Stopped, refused_by};
+use ipc_call::{Call, Kind, Rule, Status};
 use ipc_space::Space;
+use sem_set::is_value;
 use std::fmt::Write;
 
 /// How many semaphores a set has.
@@ -88,18 +89,12 @@ pub(crate) fn explain_number(out: &mut String, case: Case<'_>) -> Told {
 }
 
 /// Tells at which operation a semop stops, and the numbers there; of SETVAL and SETALL, the value that is out of range.
-pub(crate) fn explain_trial(out: &mut String, case: Case<'_>, rule: Rule) -> Told {
+pub(crate) fn explain_trial(out: &mut String, case: Case<'_>) -> Told {
     match case.call {
-        Call::SemOp { id, ops } | Call::SemTimedOp { id, ops, .. } => {
-            explain_stop(out, case, *id, ops.as_slice(), rule)
-        }
+        Call::SemOp { id, .. } | Call::SemTimedOp { id, .. } => explain_stop(out, case, *id),
         Call::SetVal { value, .. } => write!(out, "value {value}: it is 0 to 32767\n"),
         Call::SetAll { values, .. } => {
-            match values
-                .as_slice()
-                .iter()
-                .find(|value| **value < 0 || **value > 32767)
-            {
+            match values.as_slice().iter().find(|value| !is_value(**value)) {
                 Some(value) => write!(out, "value {value}: each is 0 to 32767\n"),
                 None => Ok(()),
             }
@@ -108,29 +103,24 @@ pub(crate) fn explain_trial(out: &mut String, case: Case<'_>, rule: Rule) -> Tol
     }
 }
 
-fn explain_stop(out: &mut String, case: Case<'_>, id: u32, ops: &[SemOper], rule: Rule) -> Told {
-    let values = case.space.values_of(id)?;
-    let stop = match rule {
-        Rule::ValueRange => Stop::Above,
-        Rule::UndoRange => Stop::Undo,
-        _ => Stop::Wait,
-    };
-    let Some(stopped) = stopped_by(case.space, case.client, id, values.as_slice(), ops, stop) else {
+fn explain_stop(out: &mut String, case: Case<'_>, id: u32) -> Told {
+    let Some(stopped) = refused_by(case.space, case.client, case.call)? else {
         return Ok(());
     };
-    print_stopped(out, id, stopped)?;
-    out.push_str(match stop {
-        Stop::Above => ", which would rise above SEMVMX, 32767\n",
-        Stop::Undo => ", and would take the caller's semadj out of -32768 to 32767\n",
-        Stop::Wait => ", and has IPC_NOWAIT (04000), so the call doesn't wait\n",
-    })
-}
-
-fn print_stopped(out: &mut String, id: u32, stopped: Stopped) -> Told {
-    let Stopped { oper, value, adj } = stopped;
+    let Stopped {
+        oper,
+        value,
+        adj,
+        rule,
+    } = stopped;
     let (num, op) = (oper.num, oper.op);
     write!(
         out,
         "the operation {num}:{op} meets semaphore {num} of set {id} at {value}, with the caller's semadj {adj}"
-    )
+    )?;
+    out.push_str(match rule {
+        Rule::ValueRange => ", which would rise above SEMVMX, 32767\n",
+        Rule::UndoRange => ", and would take the caller's semadj out of -32768 to 32767\n",
+        _ => ", and has IPC_NOWAIT (04000), so the call doesn't wait\n",
+    })
 }

@@ -1,14 +1,17 @@
 //! A script that is run and explained.
 
 ghost use Rattle.std.specs.Prelude.{◌≡◌, [], Some, List, ℕ, IfOk};
-ghost use Rattle.row_notes.specs.Merging.{IsExplained};
+ghost use Rattle.ipc_history.specs.History.{run};
+ghost use Rattle.row_notes.specs.Merging.{IsExplained, explained};
+ghost use Rattle.row_notes.specs.Noted.{AddsNote, Noted};
+ghost use Rattle.ipc_explain.specs.Explaining.{head_of, newly_awaited_in};
 ghost use Rattle.ipcsh.specs.Runs.{EndsBy, transfer};
 
 use call_reasons::{
     Awaited, Case, Ender, Graph, Wait, asked_by, awaited_by, explain_end, explain_refusal,
     latest_call, print_awaited,
 };
-use ipc_call::{Memory, Reply};
+use ipc_call::{Memory, Outcome, Reply};
 use ipc_hints::Hints;
 use ipc_space::{Effects, Space};
 use ipc_text::{Command, Line, Reason, split_word};
@@ -34,8 +37,10 @@ pub struct Explained {
 /// fails for a note leaves that note out.
 pub fn explain<R: Read>(alloc: Global, reader: &mut R) -> Result<Explained, Memory>
     ensures { IfOk result (λ e. (rows : List ℕ)
+        × (notes : List Noted)
         × EndsBy (transfer (R.remaining reader.old) (R.remaining reader.new) (Some []) (Some rows)) e.ended
-        × IsExplained rows e.text.items) }
+        × IsExplained rows e.text.items
+        × (e.text.items ≡ explained rows notes)) }
 {
     let mut rows = Vec::new(alloc);
     let mut explainer = Explainer::new(alloc);
@@ -60,8 +65,8 @@ struct Explainer {
     /// None since a client couldn't be noted.
     hints: Option<Hints>,
     clients: Vec<Client>,
-    /// Warnings of the latest line with calls, which stand below the row of its first call.
-    warnings: String,
+    /// The note on the next event. It begins with the warnings of the latest line with calls.
+    text: String,
     notes: Notes,
 }
 
@@ -71,7 +76,7 @@ impl Explainer {
             alloc,
             hints: Some(Hints::new(alloc)),
             clients: Vec::new(alloc),
-            warnings: String::new(alloc),
+            text: String::new(alloc),
             notes: Notes::new(alloc),
         }
     }
@@ -90,7 +95,7 @@ impl Explainer {
     fn keep(&mut self, head: Head, text: &str) {
         let mut note = String::new(self.alloc);
         if push_bare(&mut note, text).is_ok() {
-            let _ = self.notes.add(head, note.as_str());
+            let _ = self.notes.add(self.alloc, head, note.as_str());
         }
     }
 
@@ -101,37 +106,48 @@ impl Explainer {
         Ok(())
     }
 
-    fn name(&self, client: u32) -> &str {
-        match self.clients.get(client as usize) {
-            Some(client) => client.name.as_str(),
-            None => "",
-        }
-    }
-
-    /// Explains the event's own call.
-    fn explain_own(&mut self, case: Case<'_>, effects: &Effects, awaited: Option<Awaited>) -> Told {
-        let mut text = String::new(self.alloc);
-        text.push_str(self.warnings.as_str())?;
-        self.warnings.clear();
+    /// Tells of the event's own call.
+    fn tell_own(&mut self, case: Case<'_>, effects: &Effects, awaited: Option<Awaited>) -> Told
+        ensures { self.new.notes ≡ self.old.notes }
+    {
         match &effects.own {
             Some(
                 Reply::Entered {
                     outcome: Err(rule),
                     ..
                 },
-            ) => explain_refusal(&mut text, case, *rule)?,
-            Some(_) => {}
+            ) => explain_refusal(&mut self.text, case, *rule),
+            Some(_) => Ok(()),
             None => {
-                if let Some(awaited) = awaited {
-                    print_awaited(&mut text, case.space, case.client, awaited)?;
-                    text.push_str("\n")?;
-                }
                 self.begin_wait(case, effects.place);
+                match awaited {
+                    Some(awaited) => {
+                        print_awaited(&mut self.text, case.space, case.client, awaited)?;
+                        self.text.push_str("\n")
+                    }
+                    None => Ok(()),
+                }
             }
         }
+    }
+
+    /// Adds what was told of the row with this head, unless that failed.
+    fn add_told(&mut self, head: Head, told: Told)
+        ensures { AddsNote self.old.notes self.new.notes head }
+    {
+        if told.is_ok() {
+            let _ = self.notes.add(self.alloc, head, self.text.as_str());
+        }
+        self.text.clear();
+    }
+
+    /// Explains the event's own call.
+    fn explain_own(&mut self, case: Case<'_>, effects: &Effects, awaited: Option<Awaited>)
+        ensures { AddsNote self.old.notes self.new.notes (Head.Event effects.now.place 0) }
+    {
+        let told = self.tell_own(case, effects, awaited);
         let place = effects.place;
-        self.notes
-            .add(Head::Event { place, turn: 0 }, text.as_str())
+        self.add_told(Head::Event { place, turn: 0 }, told);
     }
 
     /// Explains what an event did.
@@ -150,13 +166,15 @@ impl Explainer {
             client,
             call,
         };
-        let _ = self.explain_own(case, effects, awaited);
+        self.explain_own(case, effects, awaited);
         for (other, reply) in effects.others.iter() {
-            let _ = self.explain_other(case, effects.place, *other, reply);
+            self.explain_other(case, effects.place, *other, reply);
         }
     }
 
-    fn begin_wait(&mut self, case: Case<'_>, place: u64) {
+    fn begin_wait(&mut self, case: Case<'_>, place: u64)
+        ensures { self.new.notes ≡ self.old.notes }
+    {
         if let Some(client) = self.clients.get_mut(case.client as usize) {
             let (clock, asked) = (case.space.clock(), asked_by(case.call));
             client.wait = Some(Wait {
@@ -168,25 +186,42 @@ impl Explainer {
     }
 
     /// Explains how the event ended the wait of a client.
-    fn explain_other(&mut self, case: Case<'_>, place: u64, client: u32, reply: &Reply) -> Told {
+    fn explain_other(&mut self, case: Case<'_>, place: u64, client: u32, reply: &Reply)
+        ensures { AddsNote self.old.notes self.new.notes (head_of place reply.now) }
+    {
         let Reply::Entered { turn, outcome, .. } = reply else {
-            return Ok(());
+            return;
         };
         let Some(wait) = self.end_wait(client) else {
-            return Ok(());
+            return;
         };
-        let mut text = String::new(self.alloc);
-        let ender = Ender {
-            place,
-            name: self.name(case.client),
-            call: case.call,
-        };
-        explain_end(&mut text, case.space, client, ender, wait, outcome)?;
         let turn = *turn;
-        self.notes.add(Head::Event { place, turn }, text.as_str())
+        let told = self.tell_end(case, place, client, wait, outcome);
+        self.add_told(Head::Event { place, turn }, told);
     }
 
-    fn end_wait(&mut self, client: u32) -> Option<Wait> {
+    /// Tells how the event ended the wait of a client.
+    fn tell_end(
+        &mut self,
+        case: Case<'_>,
+        place: u64,
+        client: u32,
+        wait: Wait,
+        outcome: &Outcome,
+    ) -> Told
+        ensures { self.new.notes ≡ self.old.notes }
+    {
+        let ender = Ender {
+            place,
+            name: name_of(&self.clients, case.client),
+            call: case.call,
+        };
+        explain_end(&mut self.text, case.space, client, ender, wait, outcome)
+    }
+
+    fn end_wait(&mut self, client: u32) -> Option<Wait>
+        ensures { self.new.notes ≡ self.old.notes }
+    {
         self.clients.get_mut(client as usize)?.wait.take()
     }
 
@@ -198,7 +233,7 @@ impl Explainer {
         let mut graph = Graph::new(self.alloc, space.clients())?;
         self.print_waiters(&mut text, &mut graph, space)?;
         self.print_cycle(&mut text, &graph, space.clients())?;
-        self.notes.add(Head::End, text.as_str())
+        self.notes.add(self.alloc, Head::End, text.as_str())
     }
 
     /// Appends a line for each client that waits, and notes for whom.
@@ -221,7 +256,7 @@ impl Explainer {
         client: u32,
         awaited: Awaited,
     ) -> Told {
-        let name = self.name(client);
+        let name = name_of(&self.clients, client);
         write!(text, "at the end {name} waits ")?;
         print_awaited(text, space, client, awaited)?;
         if let Some(arrival) = space.waiting_of(client) {
@@ -237,7 +272,10 @@ impl Explainer {
         let first = cycle.first().copied().unwrap_or(0);
         for (index, client) in cycle.iter().enumerate() {
             let next = cycle.get(index.saturating_add(1)).copied().unwrap_or(first);
-            let (name, other) = (self.name(*client), self.name(next));
+            let (name, other) = (
+                name_of(&self.clients, *client),
+                name_of(&self.clients, next),
+            );
             let between = if index == 0 { "" } else { ", " };
             write!(text, "{between}{name} waits for {other}")?;
         }
@@ -256,9 +294,18 @@ impl Explainer {
     }
 }
 
+/// The name of a client.
+fn name_of(clients: &[Client], client: u32) -> &str {
+    match clients.get(client as usize) {
+        Some(client) => client.name.as_str(),
+        None => "",
+    }
+}
+
 /// What an event's own call waits for, where it waits.
 fn newly_awaited(space: &mut Space, client: u32, effects: &Effects) -> Option<Awaited>
-    ensures { space.new ≡ space.old }
+    ensures awaited { result ≡ newly_awaited_in (run space.old) client effects.now.own }
+    ensures same { space.new ≡ space.old }
 {
     match effects.own {
         None => awaited_by(space, client),
@@ -318,8 +365,8 @@ impl Listener for Explainer {
         let mut hint = String::new(self.alloc);
         if let Some(hints) = &mut self.hints {
             if hints.calls(number, client, command) && hints.warn(number, text, &mut hint).is_ok() {
-                self.warnings.clear();
-                let _ = push_bare(&mut self.warnings, hint.as_str());
+                self.text.clear();
+                let _ = push_bare(&mut self.text, hint.as_str());
             }
         }
     }

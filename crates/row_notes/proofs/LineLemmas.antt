@@ -1,67 +1,223 @@
 -- What a line is, and what one more of them adds.
-use Rattle.std.proofs.Common.{◌≡◌, ℕ, Bool, true, false, List, [], ◌∷◌, ◌++◌, cond, length, take, refl, sym, ap, ◌∙◌, append_assoc, append-nil, one-add, ◌+◌}
-use Rattle.std.specs.Prelude.{not, ◌&&◌, ◌==◌, flat_map, codes, nat_lt, position, Option, Some, None}
-use Rattle.std.specs.List.{list_all, position_or_len, prefix_len}
+use Rattle.std.proofs.Common.{◌≡◌, ℕ, zero, suc, ◌<◌, ◌≤◌, Bool, true, false, cond, arith, List, [], ◌∷◌, ◌++◌, length, take, refl, sym, ap, ◌∙◌, append_assoc, append-nil, subst, take_all}
+use Rattle.std.specs.Prelude.{not, ◌&&◌, ◌==◌, flat_map, codes, filter, map, slice_index, Option, Some, None, MatchOption, IfSome}
+use Rattle.std.specs.List.{list_all}
 use Rattle.std.proofs.lemmas.Grind.{flat_map-append}
 use Rattle.std.proofs.lemmas.List.Folds.{list_all-append}
-use Rattle.row_notes.specs.Merging.{AppendsNotes, Row, are_lines, is_line, is_row, note_line, note_lines, row_alone, row_explained}
+use Rattle.memchr.specs.Find.{IsFirstByte, is_byte}
+use Rattle.ipc_words.specs.Lines.{Split, onto, onto_first, split}
+use Rattle.row_notes.specs.declared.notes.Note.{Note}
+use Rattle.row_notes.specs.Noted.{Noted, noted}
+use Rattle.row_notes.specs.Merging.{IsExplained, Row, are_lines, below, beyond, explained, explained_rows, is_below, is_end, is_line, is_row, last_notes, line_alone, lines_of_notes, note_line, note_lines, notes_text, row_alone, row_explained}
 
--- what comes before the first element that fails passes
-passes_if : (b : Bool) (p : ℕ → Bool) (x : ℕ) (xs : List ℕ) → p x ≡ b → list_all p (take (prefix_len p xs) xs) ≡ true
-    → list_all p (take (cond b (1 + prefix_len p xs) 0) (x ∷ xs)) ≡ true
-passes_if true p x xs e h = rw (one-add, e) h
-passes_if false p x xs e h = refl
+-- what a search for a line feed tells
 
-prefix_passes : (p : ℕ → Bool) (xs : List ℕ) → list_all p (take (prefix_len p xs) xs) ≡ true
-prefix_passes p [] = refl
-prefix_passes p (x ∷ xs) = passes_if (p x) p x xs refl (prefix_passes p xs)
+not_true : (b : Bool) → ¬ (b ≡ true) → not b ≡ true
+not_true true h = absurd (h refl)
+not_true false h = refl
 
--- what the first line feed tells of what is before it
-abbrev pub FeedTells : List ℕ → Option ℕ → Type 0
-FeedTells text None = Unit {0}
-FeedTells text (Some n) = is_line (take n text) ≡ true
+pub no_feed : (text : List ℕ) (n : ℕ) → ((k : ℕ) → k < n → ¬ ((slice_index text k == 10) ≡ true)) → n ≤ length text → is_line (take n text) ≡ true
+no_feed text zero h w = refl
+no_feed [] (suc n) h w = refl
+no_feed (b ∷ bs) (suc n) h w =
+    let here = not_true (b == 10) (h 0 (omega arith)) in
+    let more = no_feed bs n (λ k l. h (suc k) (omega arith)) (omega arith) in
+    (λ i. here i && more i)
 
-feed_tells_if : (b : Bool) (text : List ℕ) → FeedTells text (cond b (Some (position_or_len (λ c. c == 10) text)) None)
-feed_tells_if true text = prefix_passes (λ c. not (c == 10)) text
-feed_tells_if false text = tt
+-- a text that begins with a line, and one without a line feed
 
-pub feed_tells : (text : List ℕ) (place : Option ℕ) → place ≡ position (λ c. c == 10) text → FeedTells text place
-feed_tells text place e = rw e (feed_tells_if (nat_lt (position_or_len (λ c. c == 10) text) (length text)) text)
+onto_if : (feed : Bool) (more : Bool) (b : ℕ) (s t : Split) → (not feed && more) ≡ true → cond feed s t ≡ t
+onto_if true more b s t h = absurd (let e : false ≡ true = h in cc)
+onto_if false more b s t h = refl
 
-pub no_notes : (old : List ℕ) → AppendsNotes old old
-no_notes old = ([], refl, sym (append-nil old))
+and_right : (a b : Bool) → (a && b) ≡ true → b ≡ true
+and_right true b h = h
+and_right false b h = absurd (let e : false ≡ true = h in cc)
 
--- the notes of two appends, one after another
-pub AppendsNotes-then : (a b c : List ℕ) → AppendsNotes a b → AppendsNotes b c → AppendsNotes a c
-AppendsNotes-then a b c first second = (
-  first.0 ++ second.0,
-  list_all-append is_line first.0 second.0 ∙ (λ i. first.1 i && second.1 i),
-  second.2 ∙ ap (λ l. l ++ note_lines second.0) first.2 ∙ append_assoc a (note_lines first.0) (note_lines second.0) ∙ ap (λ l. a ++ l) (sym (flat_map-append note_line first.0 second.0)),
-)
+and_left : (a b : Bool) → (a && b) ≡ true → a ≡ true
+and_left true b h = refl
+and_left false b h = absurd (let e : false ≡ true = h in cc)
 
--- one line of a note
-pub AppendsNotes-line : (a text new : List ℕ) → is_line text ≡ true → new ≡ ((a ++ codes "    ") ++ text) ++ 10 ∷ [] → AppendsNotes a new
-AppendsNotes-line a text new plain e = (
-  text ∷ [],
-  ap (λ b. b && true) plain,
-  e ∙ append_assoc (a ++ codes "    ") text (10 ∷ []) ∙ append_assoc a (codes "    ") (text ++ 10 ∷ []) ∙ ap (λ l. a ++ l) (sym (append-nil (note_line text))),
-)
+pub split_first : (line others : List ℕ) → is_line line ≡ true → split (line ++ 10 ∷ others) ≡ record { whole = line ∷ (split others).whole; rest = (split others).rest }
+split_first [] others h = refl
+split_first (b ∷ bs) others h =
+    ap (onto b) (split_first bs others (and_right (not (b == 10)) (is_line bs) h))
+    ∙ onto_if (b == 10) (is_line bs) b _ _ h
 
--- the rows so far, and what is left of them
-abbrev pub Explains : List ℕ → List ℕ → List ℕ → Type 0
-Explains rows rest out =
-    (each : List Row) × (list_all is_row each ≡ true) × (rows ≡ flat_map row_alone each ++ rest) × (out ≡ flat_map row_explained each)
+pub split_none : (text : List ℕ) → is_line text ≡ true → split text ≡ record { whole = []; rest = text }
+split_none [] h = refl
+split_none (b ∷ bs) h =
+    ap (onto b) (split_none bs (and_right (not (b == 10)) (is_line bs) h)) ∙ onto_if (b == 10) (is_line bs) b _ _ h
 
--- one more row with its notes
-pub Explains-row : (rows rest out line others new : List ℕ) → Explains rows rest out → rest ≡ line ++ 10 ∷ others → is_line line ≡ true
-    → AppendsNotes ((out ++ line) ++ 10 ∷ []) new → Explains rows others new
-Explains-row rows rest out line others new h e plain below =
-    let r : Row = record { line = line; notes = below.0 } in
-    let each = h.0 in
-    let single : flat_map row_alone (each ++ r ∷ []) ≡ flat_map row_alone each ++ (line ++ 10 ∷ []) = flat_map-append row_alone each (r ∷ []) ∙ ap (λ l. flat_map row_alone each ++ l) (append-nil (row_alone r)) in
-    let whole : flat_map row_explained (each ++ r ∷ []) ≡ flat_map row_explained each ++ row_explained r = flat_map-append row_explained each (r ∷ []) ∙ ap (λ l. flat_map row_explained each ++ l) (append-nil (row_explained r)) in (
-      each ++ r ∷ [],
-      list_all-append is_row each (r ∷ []) ∙ (λ i. h.1 i && ((plain i && below.1 i) && true)),
-      h.2 ∙ ap (λ l. flat_map row_alone each ++ l) (e ∙ sym (append_assoc line (10 ∷ []) others)) ∙ sym (append_assoc (flat_map row_alone each) (line ++ 10 ∷ []) others) ∙ ap (λ l. l ++ others) (sym single),
-      below.2 ∙ ap (λ l. l ++ note_lines below.0) (append_assoc out line (10 ∷ []) ∙ ap (λ l. l ++ (line ++ 10 ∷ [])) h.3) ∙ append_assoc (flat_map row_explained each) (line ++ 10 ∷ []) (note_lines below.0) ∙ sym whole,
-    )
+pub feed_tells : (text : List ℕ) (r : Option ℕ) → IsFirstByte (is_byte 10) text r → MatchOption r (is_line text ≡ true) (λ place. is_line (take place text) ≡ true)
+feed_tells text None h = subst (λ (l : List ℕ). is_line l ≡ true) (take_all (length text) text (omega arith)) (no_feed text (length text) (λ k l. h k (omega arith) l) (omega arith))
+feed_tells text (Some place) h = no_feed text place (λ k l. h.0.before k (omega arith) l) (let high = h.0.high in omega (arith, high))
+
+-- the lines of a note
+
+-- one more line of a text
+pub note_step : (start out rest line others new : List ℕ) → start ≡ out ++ note_lines (split rest).whole → rest ≡ line ++ 10 ∷ others → is_line line ≡ true → new ≡ (out ++ codes "    ") ++ line_alone line → start ≡ new ++ note_lines (split others).whole
+note_step start out rest line others new h e plain is =
+    let cut : split rest ≡ record { whole = line ∷ (split others).whole; rest = (split others).rest } = ap split e ∙ split_first line others plain in
+    h
+    ∙ ap (λ (s : Split). out ++ note_lines s.whole) cut
+    ∙ sym (append_assoc out (note_line line) (note_lines (split others).whole))
+    ∙ ap (λ (l : List ℕ). l ++ note_lines (split others).whole) (sym (append_assoc out (codes "    ") (line_alone line)) ∙ sym is)
+
+-- none is left
+pub note_end : (start out rest : List ℕ) → start ≡ out ++ note_lines (split rest).whole → is_line rest ≡ true → out ≡ start
+note_end start out rest h plain = sym (h ∙ ap (λ (s : Split). out ++ note_lines s.whole) (split_none rest plain) ∙ append-nil out)
+
+-- the notes below a row
+
+note_lines-append : (a b : List (List ℕ)) → note_lines (a ++ b) ≡ note_lines a ++ note_lines b
+note_lines-append a b = flat_map-append note_line a b
+
+below_if : (b : Bool) (n : Noted) (ns : List Noted) → b ≡ true → cond b (n ∷ ns) [] ≡ n ∷ ns
+below_if true n ns h = refl
+below_if false n ns h = absurd (let e : false ≡ true = h in cc)
+
+if_true : {X : Type 0} (b : Bool) (x y : X) → b ≡ true → cond b x y ≡ x
+if_true true x y h = refl
+if_true false x y h = absurd (let e : false ≡ true = h in cc)
+
+if_false : {X : Type 0} (b : Bool) (x y : X) → b ≡ false → cond b x y ≡ y
+if_false false x y h = refl
+if_false true x y h = absurd (let e : true ≡ false = h in cc)
+
+-- one more note of the row
+pub below_step : (row start out new : List ℕ) (n : Noted) (ns : List Noted) → start ≡ out ++ notes_text (below row (n ∷ ns)) → is_below row n.head ≡ true → new ≡ out ++ note_lines (split n.text).whole → start ≡ new ++ notes_text (below row ns)
+below_step row start out new n ns h is e =
+    h
+    ∙ ap (λ (l : List Noted). out ++ notes_text l) (if_true (is_below row n.head) (n ∷ below row ns) [] is)
+    ∙ ap (λ (l : List ℕ). out ++ l) (note_lines-append (split n.text).whole (lines_of_notes (below row ns)))
+    ∙ sym (append_assoc out (note_lines (split n.text).whole) (notes_text (below row ns)))
+    ∙ ap (λ (l : List ℕ). l ++ notes_text (below row ns)) (sym e)
+
+pub beyond_step : (row : List ℕ) (n : Noted) (ns : List Noted) → is_below row n.head ≡ true → beyond row (n ∷ ns) ≡ beyond row ns
+beyond_step row n ns is = if_true (is_below row n.head) (beyond row ns) (n ∷ ns) is
+
+-- the next one is of another row
+pub below_end : (row start out : List ℕ) (n : Noted) (ns : List Noted) → start ≡ out ++ notes_text (below row (n ∷ ns)) → is_below row n.head ≡ false → out ≡ start
+below_end row start out n ns h is =
+    sym (h ∙ ap (λ (l : List Noted). out ++ notes_text l) (if_false (is_below row n.head) (n ∷ below row ns) [] is) ∙ append-nil out)
+
+pub beyond_end : (row : List ℕ) (n : Noted) (ns : List Noted) → is_below row n.head ≡ false → beyond row (n ∷ ns) ≡ n ∷ ns
+beyond_end row n ns is = if_false (is_below row n.head) (beyond row ns) (n ∷ ns) is
+
+-- rows with their notes
+
+-- one more row
+pub row_step : (start out rest line others printed new : List ℕ) (notes left : List Noted) → start ≡ out ++ explained rest notes → rest ≡ line ++ 10 ∷ others → is_line line ≡ true → printed ≡ out ++ line_alone line → new ≡ printed ++ notes_text (below line notes) → left ≡ beyond line notes → start ≡ new ++ explained others left
+row_step start out rest line others printed new notes left h e plain p is l =
+    let cut : split rest ≡ record { whole = line ∷ (split others).whole; rest = (split others).rest } = ap split e ∙ split_first line others plain in
+    let mine = notes_text (below line notes) in
+    let more = explained others (beyond line notes) in
+    h
+    ∙ ap (λ (s : Split). out ++ explained_rows s.whole s.rest notes) cut
+    ∙ sym (append_assoc out (line_alone line) (mine ++ more))
+    ∙ ap (λ (x : List ℕ). x ++ (mine ++ more)) (sym p)
+    ∙ sym (append_assoc printed mine more)
+    ∙ (λ i. sym is i ++ explained others (sym l i))
+
+-- no further one
+pub rows_end : (start out rest : List ℕ) (notes : List Noted) → start ≡ out ++ explained rest notes → is_line rest ≡ true → start ≡ (out ++ rest) ++ notes_text (last_notes rest notes)
+rows_end start out rest notes h plain =
+    h
+    ∙ ap (λ (s : Split). out ++ explained_rows s.whole s.rest notes) (split_none rest plain)
+    ∙ sym (append_assoc out rest (notes_text (last_notes rest notes)))
+
+-- with the notes taken out, the rows are what they were
+
+both : (a b : Bool) → a ≡ true → b ≡ true → (a && b) ≡ true
+both a b h k = (λ i. h i && k i)
+
+onto_first_lines : (b : ℕ) (whole : List (List ℕ)) (rest : List ℕ) → (b == 10) ≡ false → are_lines whole ≡ true → are_lines (onto_first b whole rest).whole ≡ true
+onto_first_lines b [] rest e h = refl
+onto_first_lines b (line ∷ lines) rest e h = ap (λ (x : Bool). (not x && is_line line) && are_lines lines) e ∙ h
+
+onto_lines : (feed : Bool) (b : ℕ) (s : Split) → (b == 10) ≡ feed → are_lines s.whole ≡ true → are_lines (cond feed (record { whole = [] ∷ s.whole; rest = s.rest }) (onto_first b s.whole s.rest)).whole ≡ true
+onto_lines true b s e h = h
+onto_lines false b s e h = onto_first_lines b s.whole s.rest e h
+
+split_lines : (text : List ℕ) → are_lines (split text).whole ≡ true
+split_lines [] = refl
+split_lines (b ∷ bs) = onto_lines (b == 10) b (split bs) refl (split_lines bs)
+
+-- what a text is cut into
+abbrev joined : Split → List ℕ
+joined s = flat_map line_alone s.whole ++ s.rest
+
+feed_is : (b : ℕ) → (b == 10) ≡ true → b ≡ 10
+feed_is b h = grind arith
+
+onto_first_joined : (b : ℕ) (whole : List (List ℕ)) (rest : List ℕ) → b ∷ (flat_map line_alone whole ++ rest) ≡ joined (onto_first b whole rest)
+onto_first_joined b [] rest = refl
+onto_first_joined b (line ∷ lines) rest = refl
+
+onto_joined : (feed : Bool) (b : ℕ) (s : Split) → (b == 10) ≡ feed → b ∷ joined s ≡ joined (cond feed (record { whole = [] ∷ s.whole; rest = s.rest }) (onto_first b s.whole s.rest))
+onto_joined true b s e = ap (λ (x : ℕ). x ∷ joined s) (feed_is b e)
+onto_joined false b s e = onto_first_joined b s.whole s.rest
+
+split_joined : (text : List ℕ) → text ≡ joined (split text)
+split_joined [] = refl
+split_joined (b ∷ bs) = ap (λ (l : List ℕ). b ∷ l) (split_joined bs) ∙ onto_joined (b == 10) b (split bs) refl
+
+notes_lines : (notes : List Noted) → are_lines (lines_of_notes notes) ≡ true
+notes_lines [] = refl
+notes_lines (n ∷ ns) =
+    list_all-append is_line (split n.text).whole (lines_of_notes ns) ∙ both _ _ (split_lines n.text) (notes_lines ns)
+
+-- one more row in front
+explained_more : (row : List ℕ) (mine : List (List ℕ)) (rows more : List ℕ) → is_line row ≡ true → are_lines mine ≡ true → IsExplained rows more → IsExplained (line_alone row ++ rows) (line_alone row ++ (note_lines mine ++ more))
+explained_more row mine rows more plain lines h =
+    let r : Row = record { line = row; notes = mine } in record {
+      each = r ∷ h.each;
+      rest = h.rest;
+      last = h.last;
+      lines = both _ _ (both _ _ plain lines) h.lines;
+      last_lines = h.last_lines;
+      alone = ap (λ (l : List ℕ). line_alone row ++ l) h.alone ∙ sym (append_assoc (line_alone row) (flat_map row_alone h.each) h.rest);
+      with_notes = ap (λ (l : List ℕ). line_alone row ++ (note_lines mine ++ l)) h.with_notes
+          ∙ sym (append_assoc (line_alone row) (note_lines mine) (flat_map row_explained h.each ++ h.rest ++ note_lines h.last))
+          ∙ sym (append_assoc (row_explained r) (flat_map row_explained h.each ++ h.rest) (note_lines h.last))
+          ∙ ap (λ (l : List ℕ). l ++ note_lines h.last) (sym (append_assoc (row_explained r) (flat_map row_explained h.each) h.rest));
+    }
+
+rows_explained : (rows : List (List ℕ)) (rest : List ℕ) (notes : List Noted) → are_lines rows ≡ true → IsExplained (flat_map line_alone rows ++ rest) (explained_rows rows rest notes)
+rows_explained [] rest notes h = record {
+  each = [];
+  rest = rest;
+  last = lines_of_notes (last_notes rest notes);
+  lines = refl;
+  last_lines = notes_lines (last_notes rest notes);
+  alone = refl;
+  with_notes = refl;
+}
+rows_explained (row ∷ rows) rest notes h =
+    subst (λ (l : List ℕ). IsExplained l (explained_rows (row ∷ rows) rest notes)) (sym (append_assoc (line_alone row) (flat_map line_alone rows) rest))
+    (explained_more row (lines_of_notes (below row notes)) _ _ (and_left (is_line row) (are_lines rows) h) (notes_lines (below row notes)) (rows_explained rows rest (beyond row notes) (and_right (is_line row) (are_lines rows) h)))
+
+pub explained_is : (text : List ℕ) (notes : List Noted) → IsExplained text (explained text notes)
+explained_is text notes =
+    subst (λ (l : List ℕ). IsExplained l (explained text notes)) (sym (split_joined text)) (rows_explained (split text).whole (split text).rest notes (split_lines text))
+
+-- what stands behind the last row
+
+more_than_none : (n : ℕ) → (suc n == 0) ≡ true → ⊥
+more_than_none n h = grind arith
+
+none_is_none : (0 == 0) ≡ false → ⊥
+none_is_none h = grind arith
+
+empty_is : (rest : List ℕ) → (length rest == 0) ≡ true → rest ≡ []
+empty_is [] h = refl
+empty_is (b ∷ bs) h = absurd (more_than_none (length bs) h)
+
+pub last_when_empty : (start out rest new : List ℕ) (notes : List Noted) → start ≡ (out ++ rest) ++ notes_text (last_notes rest notes) → (length rest == 0) ≡ true → new ≡ (out ++ rest) ++ notes_text (filter (λ n. is_end n.head) notes) → new ≡ start
+last_when_empty start out rest new notes h empty is =
+    is ∙ ap (λ (l : List ℕ). (out ++ rest) ++ notes_text (last_notes l notes)) (sym (empty_is rest empty)) ∙ sym h
+
+pub last_when_not : (start out rest new : List ℕ) (notes : List Noted) → start ≡ (out ++ rest) ++ notes_text (last_notes rest notes) → (length rest == 0) ≡ false → new ≡ out ++ rest → new ≡ start
+last_when_not start out [] new notes h empty is = absurd (none_is_none empty)
+last_when_not start out (b ∷ bs) new notes h empty is = is ∙ sym (append-nil (out ++ b ∷ bs)) ∙ sym h

@@ -1,21 +1,66 @@
 -- Rows with notes between them.
-use Rattle.std.specs.Prelude.{◌≡◌, ℕ, ◌==◌, Bool, true, not, ◌&&◌, List, [], ◌∷◌, ◌++◌, codes, flat_map}
-use Rattle.std.specs.List.{list_all}
+use Rattle.std.specs.Prelude.{◌≡◌, ℕ, ◌==◌, Bool, true, false, not, ◌&&◌, nat_eq, List, [], ◌∷◌, ◌++◌, codes, filter, flat_map, if◌then◌else◌}
+use Rattle.std.specs.List.{list_all, starts_with}
+use Rattle.ipc_words.specs.Lines.{split}
+use Rattle.row_notes.specs.declared.notes.Head.{Head}
+use Rattle.row_notes.specs.declared.notes.Head.TheVariants.{End}
+use Rattle.row_notes.specs.Noted.{Noted, head_text}
 
--- a line without its line feed, and the lines of the notes below it
-pub record Row : Type 0 where
-  pub line : List ℕ
-  pub notes : List (List ℕ)
+-- a line with its line feed, and a line of a note: it stands behind four blanks
+abbrev pub line_alone : List ℕ → List ℕ
+line_alone text = text ++ 10 ∷ []
 
--- a line of a note: four blanks, its text and a line feed
 abbrev pub note_line : List ℕ → List ℕ
-note_line text = codes "    " ++ (text ++ 10 ∷ [])
+note_line text = codes "    " ++ line_alone text
 
 abbrev pub note_lines : List (List ℕ) → List ℕ
 note_lines texts = flat_map note_line texts
 
+-- the whole lines of the texts of notes
+abbrev pub lines_of_notes : List Noted → List (List ℕ)
+lines_of_notes notes = flat_map (λ n. (split n.text).whole) notes
+
+abbrev pub notes_text : List Noted → List ℕ
+notes_text notes = note_lines (lines_of_notes notes)
+
+-- a note stands below the row that begins with its head; one at the end below the last row
+abbrev pub is_end : Head → Bool
+is_end End = true
+is_end head = false
+
+abbrev pub is_below : List ℕ → Head → Bool
+is_below row head = not (is_end head) && starts_with nat_eq row (head_text head)
+
+-- the notes that stand below a row: those at the front that do; and those that are left for the rows behind it
+abbrev pub below : List ℕ → List Noted → List Noted
+below row [] = []
+below row (n ∷ ns) = if is_below row n.head then n ∷ below row ns else []
+
+abbrev pub beyond : List ℕ → List Noted → List Noted
+beyond row [] = []
+beyond row (n ∷ ns) = if is_below row n.head then beyond row ns else n ∷ ns
+
+-- the notes at the end stand below the last row, where it is whole
+abbrev pub last_notes : List ℕ → List Noted → List Noted
+last_notes [] notes = filter (λ n. is_end n.head) notes
+last_notes (b ∷ bs) notes = []
+
+-- rows with what follows the last of them, each with the notes below it
+abbrev pub explained_rows : List (List ℕ) → List ℕ → List Noted → List ℕ
+explained_rows [] rest notes = rest ++ notes_text (last_notes rest notes)
+explained_rows (row ∷ rows) rest notes =
+    line_alone row ++ (notes_text (below row notes) ++ explained_rows rows rest (beyond row notes))
+
+abbrev pub explained : List ℕ → List Noted → List ℕ
+explained rows notes = explained_rows (split rows).whole (split rows).rest notes
+
+-- the same without saying which note stands where. A line, and the lines of the notes below it
+pub record Row : Type 0 where
+  pub line : List ℕ
+  pub notes : List (List ℕ)
+
 abbrev pub row_alone : Row → List ℕ
-row_alone r = r.line ++ 10 ∷ []
+row_alone r = line_alone r.line
 
 abbrev pub row_explained : Row → List ℕ
 row_explained r = row_alone r ++ note_lines r.notes
@@ -40,7 +85,3 @@ pub record IsExplained (rows explained : List ℕ) : Type 0 where
   pub last_lines : are_lines last ≡ true
   pub alone : rows ≡ flat_map row_alone each ++ rest
   pub with_notes : explained ≡ flat_map row_explained each ++ rest ++ note_lines last
-
--- these lines of notes are appended
-abbrev pub AppendsNotes : List ℕ → List ℕ → Type 0
-AppendsNotes old new = (texts : List (List ℕ)) × (are_lines texts ≡ true) × (new ≡ old ++ note_lines texts)

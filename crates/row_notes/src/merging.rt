@@ -1,9 +1,23 @@
 //! Rows with notes below them.
 
-ghost use Rattle.std.specs.Prelude.{◌≡◌, ◌<◌, ◌++◌, ◌∷◌, ◌==◌, true, IfOk, IfSome, OnOk, length, position, slice_index};
-ghost use Rattle.row_notes.specs.Merging.{AppendsNotes, IsExplained, is_line};
+ghost use Rattle.std.specs.Prelude.{◌≡◌, ◌<◌, ◌++◌, [], ◌∷◌, true, IfOk, IfSome, OnOk, MatchOption, filter, length, map, slice_index, string_bytes, take};
+ghost use Rattle.ipc_words.specs.Lines.{split};
+ghost use Rattle.row_notes.specs.Merging.{
+  IsExplained,
+  below,
+  beyond,
+  explained,
+  is_below,
+  is_end,
+  is_line,
+  line_alone,
+  note_lines,
+  notes_text,
+};
+ghost use Rattle.row_notes.specs.Noted.{head_text, next_head, noted};
 
-use crate::notes::{Head, Notes};
+use crate::notes::{Head, Note, Notes};
+use memchr::memchr;
 use std::alloc::{AllocError, Global};
 use std::fmt::Write;
 
@@ -11,31 +25,33 @@ use std::fmt::Write;
 const MARGIN: &[u8] = b"    ";
 
 /// The rows with the notes: each note stands below the row that begins with its head, each of its lines behind four
-/// blanks. A note whose row doesn't come is left out. The error comes only where an allocation fails.
+/// blanks. From the first note on whose row doesn't come, notes are left out, but those at the end. The error comes only
+/// where an allocation fails.
 pub fn merge(alloc: Global, rows: &[u8], notes: &Notes) -> Result<Vec<u8>, AllocError>
-    ensures { IfOk result (λ out. IsExplained rows.now out.items) }
+    ensures text { IfOk result (λ out. out.items ≡ explained rows.now notes.now) }
+    ensures kept { IfOk result (λ out. IsExplained rows.now out.items) }
 {
     let mut out = Vec::new(alloc);
     let mut head = String::new(alloc);
+    let mut left = notes.as_slice();
     let mut rest = rows;
-    let mut next = 0;
+    print_next(&mut head, left)?;
     while let Some((row, others)) = split_line(rest) {
-        out.extend_from_slice(row)?;
-        out.push(b'\n')?;
-        next = print_below(&mut out, &mut head, row, notes, next)?;
+        print_line(&mut out, row)?;
+        left = print_below(&mut out, &mut head, row, left)?;
         rest = others;
     }
     out.extend_from_slice(rest)?;
     if rest.is_empty() {
-        print_last(&mut out, notes, next)?;
+        print_last(&mut out, left)?;
     }
     Ok(out)
 }
 
 /// The first line without its line feed, and what follows it; `None` where no line feed is left.
 fn split_line(text: &[u8]) -> Option<(&[u8], &[u8])>
-    ensures parts { IfSome result (λ x. text.now ≡ x.0.now ++ (10 ∷ x.1.now)) }
-    ensures line { IfSome result (λ x. is_line x.0.now ≡ true) }
+    ensures none { MatchOption result (is_line text.now ≡ true) (λ x. is_line x.0.now ≡ true) }
+    ensures parts { IfSome result (λ x. text.now ≡ x.0.now ++ 10 ∷ x.1.now) }
     ensures shorter { IfSome result (λ x. length x.1.now < length text.now) }
 {
     let place = line_end(text)?;
@@ -44,42 +60,73 @@ fn split_line(text: &[u8]) -> Option<(&[u8], &[u8])>
 
 /// Where the first line feed stands.
 fn line_end(text: &[u8]) -> Option<usize>
-    ensures place { result ≡ position (λ b. b == 10) text.now }
+    ensures line { MatchOption result (is_line text.now ≡ true) (λ place. is_line (take place text.now) ≡ true) }
     ensures feed { IfSome result (λ place. slice_index text.now place ≡ 10) }
     ensures within { IfSome result (λ place. place < length text.now) }
 {
-    text.iter().position(|byte| *byte == b'\n')
+    memchr(b'\n', text)
 }
 
-/// Appends the notes from this index on that stand below the row, and answers the index of the next one.
-fn print_below(
+/// Appends a line with its line feed.
+fn print_line(out: &mut Vec<u8>, line: &[u8]) -> Result<(), AllocError>
+    ensures { OnOk result (out.new.items ≡ out.old.items ++ line_alone line.now) }
+{
+    out.extend_from_slice(line)?;
+    out.push(b'\n')?;
+    Ok(())
+}
+
+/// Appends the notes at the front that stand below the row, and answers those that are left. `head` is what the row of
+/// the first of these begins with.
+fn print_below<'n>(
     out: &mut Vec<u8>,
     head: &mut String,
     row: &[u8],
-    notes: &Notes,
-    index: usize,
-) -> Result<usize, AllocError>
-    ensures { OnOk result (AppendsNotes out.old.items out.new.items) }
+    notes: &'n [Note],
+) -> Result<&'n [Note], AllocError>
+    requires { string_bytes head.old ≡ next_head notes.now }
+    ensures text { OnOk result (out.new.items ≡ out.old.items ++ notes_text (below row.now (map noted notes.now))) }
+    ensures left { IfOk result (λ left. map noted left.now ≡ beyond row.now (map noted notes.now)) }
+    ensures head { IfOk result (λ left. string_bytes head.new ≡ next_head left.now) }
 {
-    for next in index..notes.count() {
-        let (place, text) = notes.note(next);
-        head.clear();
-        print_head(head, place)?;
-        if !begins_with(row, head) {
-            return Ok(next);
+    let mut left = notes;
+    while let Some((note, others)) = left.split_first() {
+        if !stands_below(row, note.head, head) {
+            return Ok(left);
         }
-        print_note(out, text)?;
+        print_note(out, note.text.as_slice())?;
+        print_next(head, others)?;
+        left = others;
     }
-    Ok(notes.count())
+    Ok(left)
 }
 
-/// Whether the row begins with the text, which isn't empty.
-fn begins_with(row: &[u8], head: &str) -> bool {
-    !head.is_empty() && row.starts_with(head.as_bytes())
+/// Whether a note stands below the row, where its head is written so.
+fn stands_below(row: &[u8], place: Head, head: &str) -> bool
+    requires { head.now ≡ head_text place }
+    ensures { result ≡ is_below row.now place }
+{
+    match place {
+        Head::End => false,
+        Head::Event { .. } | Head::Line(_) => row.starts_with(head.as_bytes()),
+    }
 }
 
-/// Appends what the row begins with.
-fn print_head(head: &mut String, place: Head) -> Result<(), AllocError> {
+/// Writes what the row of the first note begins with.
+fn print_next(head: &mut String, notes: &[Note]) -> Result<(), AllocError>
+    ensures { OnOk result (string_bytes head.new ≡ next_head notes.now) }
+{
+    head.clear();
+    match notes.first() {
+        Some(note) => print_head(head, note.head),
+        None => Ok(()),
+    }
+}
+
+/// Appends what the row of a note begins with.
+fn print_head(head: &mut String, place: Head) -> Result<(), AllocError>
+    ensures { OnOk result (string_bytes head.new ≡ string_bytes head.old ++ head_text place) }
+{
     match place {
         Head::Event { place, turn } => write!(head, "{place}.{turn} "),
         Head::Line(number) => write!(head, "line {number}: "),
@@ -87,28 +134,29 @@ fn print_head(head: &mut String, place: Head) -> Result<(), AllocError> {
     }
 }
 
-/// Appends the notes from this index on that stand below the last row.
-fn print_last(out: &mut Vec<u8>, notes: &Notes, index: usize) -> Result<(), AllocError>
-    ensures { OnOk result (AppendsNotes out.old.items out.new.items) }
+/// Appends the notes that stand below the last row.
+fn print_last(out: &mut Vec<u8>, notes: &[Note]) -> Result<(), AllocError>
+    ensures { OnOk result (out.new.items
+        ≡ out.old.items ++ notes_text (filter (λ n. is_end n.head) (map noted notes.now))) }
 {
-    for next in index..notes.count() {
-        let (place, text) = notes.note(next);
-        if place == Head::End {
-            print_note(out, text)?;
+    let mut left = notes;
+    while let Some((note, others)) = left.split_first() {
+        if note.head == Head::End {
+            print_note(out, note.text.as_slice())?;
         }
+        left = others;
     }
     Ok(())
 }
 
-/// Appends the lines of a note.
+/// Appends the whole lines of a text as those of a note.
 fn print_note(out: &mut Vec<u8>, text: &[u8]) -> Result<(), AllocError>
-    ensures { OnOk result (AppendsNotes out.old.items out.new.items) }
+    ensures { OnOk result (out.new.items ≡ out.old.items ++ note_lines (split text.now).whole) }
 {
     let mut rest = text;
     while let Some((line, others)) = split_line(rest) {
         out.extend_from_slice(MARGIN)?;
-        out.extend_from_slice(line)?;
-        out.push(b'\n')?;
+        print_line(out, line)?;
         rest = others;
     }
     Ok(())

@@ -1,6 +1,10 @@
 //! Notes, each with the row below which it stands.
 
+ghost use Rattle.std.specs.Prelude.{◌≡◌, [], ◌∷◌, ◌++◌, map, IfOk, OnOk, OnErr};
+ghost use Rattle.row_notes.specs.Noted.{noted, with_note};
+
 use std::alloc::{AllocError, Global};
+use std::marker::Model;
 
 /// The row below which a note stands.
 #[derive(Clone, Copy, Debug, PartialEq, Eq)]
@@ -13,56 +17,55 @@ pub enum Head {
     End,
 }
 
-/// A note: where it stands, and where its text ends among those of all.
-#[derive(Clone, Copy, Debug)]
+/// A note: where it stands, and its text.
+#[derive(Debug, Drop)]
 pub(crate) struct Note {
     pub(crate) head: Head,
-    pub(crate) end: usize,
+    pub(crate) text: Vec<u8>,
 }
 
 /// Notes in the order of their rows.
 #[derive(Debug, Drop)]
 pub struct Notes {
-    text: String,
     notes: Vec<Note>,
+}
+
+impl Model for Notes {
+    ghost use Rattle.std.specs.Prelude.{List, map};
+    ghost use Rattle.row_notes.specs.Noted.{Noted, noted};
+
+    ghost Value = { List Noted };
+
+    ghost view = { λ n. map noted n.notes.items };
 }
 
 impl Notes {
     /// No notes.
-    pub fn new(alloc: Global) -> Notes {
+    pub fn new(alloc: Global) -> Notes
+        ensures { result ≡ [] }
+    {
         Notes {
-            text: String::new(alloc),
             notes: Vec::new(alloc),
         }
     }
 
     /// Adds a note of whole lines, unless its text is empty. Where an allocation fails, nothing is added.
-    pub fn add(&mut self, head: Head, text: &str) -> Result<(), AllocError> {
+    pub fn add(&mut self, alloc: Global, head: Head, text: &str) -> Result<(), AllocError>
+        ensures ok { OnOk result (self.new ≡ with_note self.old head text.now) }
+        ensures err { OnErr result (self.new ≡ self.old) }
+    {
         if text.is_empty() {
             return Ok(());
         }
-        self.notes.reserve(1)?;
-        self.text.push_str(text)?;
-        let end = self.text.len();
-        self.notes.push(Note { head, end })?;
+        let text = Vec::from_slice(alloc, text.as_bytes())?;
+        self.notes.push(Note { head, text })?;
         Ok(())
     }
 
-    /// How many notes there are.
-    pub(crate) fn count(&self) -> usize {
-        self.notes.len()
-    }
-
-    /// Where the note at an index stands, and its text; past the last one an empty text at the end.
-    pub(crate) fn note(&self, index: usize) -> (Head, &[u8]) {
-        let Some(note) = self.notes.get(index) else {
-            return (Head::End, b"");
-        };
-        let start = match index.checked_sub(1) {
-            Some(before) => self.notes.get(before).map_or(0, |before| before.end),
-            None => 0,
-        };
-        let text = self.text.as_bytes().get(start..note.end).unwrap_or(b"");
-        (note.head, text)
+    /// The notes.
+    pub(crate) fn as_slice(&self) -> &[Note]
+        ensures { map noted result.now ≡ self.now }
+    {
+        self.notes.as_slice()
     }
 }

@@ -1,10 +1,29 @@
-use Rattle.std.proofs.Common.{◌++◌, ◌∷◌, [], ap, ◌∙◌, ℕ, List, subst}
-use Rattle.row_notes.specs.Merging.{AppendsNotes}
-use Rattle.row_notes.proofs.LineLemmas.{Explains-row}
+use Rattle.std.proofs.Common.{◌≡◌, ◌++◌, ap, ◌∙◌, ℕ, List, map, subst, sym}
+use Rattle.row_notes.specs.Merging.{IsExplained, explained, is_end, notes_text}
+use Rattle.std.specs.Prelude.{filter}
+use Rattle.row_notes.specs.Noted.{noted}
+use Rattle.row_notes.proofs.LineLemmas.{explained_is, last_when_empty, last_when_not, row_step, rows_end}
 use Rattle.row_notes.proofs.merging.merge.Goals as goal
+use Rattle.row_notes.proofs.merging.merge.Goals.{then-is_empty+in_ok-print_last, else-is_empty}
 
 pub loop-row-preserved : goal.loop-row-preserved
-loop-row-preserved c =
-    let row = c.in-Some.row.now in
-    let items = c.in_ok-push.ensures.items ∙ ap (λ (l : List ℕ). l ++ 10 ∷ []) c.in_ok-extend_from_slice.ensures.items in
-    Explains-row _ _ c.loop-row.out.items row c.in-Some.others.now _ c.loop-row.invariant c.in-Some.ensures.parts c.in-Some.ensures.line (subst (λ (l : List ℕ). AppendsNotes l c.print_below.new.out.items) items c.in_ok-next.ensures)
+loop-row-preserved c = (
+  row_step _ c.loop-row.out.items c.loop-row.rest.now c.in-Some.row.now c.in-Some.others.now c.print_line.new.out.items _ (map noted c.loop-row.left.now) _ c.loop-row.invariant.0 c.in-Some.ensures.parts c.in-Some.ensures.none c.in_ok-print_line.ensures c.in_ok-left.ensures.text c.in_ok-left.ensures.left,
+  c.in_ok-left.ensures.head,
+)
+
+pub returns-clause-text : goal.returns-clause-text
+returns-clause-text c =
+    let notes = map noted c.loop-row.left.now in
+    let rest = c.loop-row.rest.now in
+    let end = rows_end _ c.loop-row.out.items rest notes c.loop-row.invariant.0 c.in_default.ensures.none in
+    let all : explained c.args.rows.now (map noted c.as_slice-left.result.now) ≡ explained c.args.rows.now c.args.notes.now = ap (explained c.args.rows.now) c.as_slice-left.ensures in
+    let front = c.in_ok-extend_from_slice.ensures.items in
+    elim c.if-is_empty.branch [
+      | then-is_empty+in_ok-print_last w ↦ last_when_empty _ c.loop-row.out.items rest _ notes end (sym c.is_empty.ensures ∙ w.if-is_empty.true) (rw w.out-is (w.in_ok-print_last.ensures ∙ ap (λ (l : List ℕ). l ++ notes_text (filter (λ n. is_end n.head) notes)) front)) ∙ all
+      | else-is_empty w ↦ last_when_not _ c.loop-row.out.items rest _ notes end (sym c.is_empty.ensures ∙ w.if-is_empty.false) (rw w.out-is front) ∙ all
+    ]
+
+pub returns-clause-kept : goal.returns-clause-kept
+returns-clause-kept c =
+    subst (λ (l : List ℕ). IsExplained c.args.rows.now l) (sym (returns-clause-text c)) (explained_is c.args.rows.now c.args.notes.now)

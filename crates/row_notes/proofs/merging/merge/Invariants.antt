@@ -1,10 +1,14 @@
-use Rattle.std.proofs.Common.{length}
-use Rattle.row_notes.proofs.LineLemmas.{Explains}
+use Rattle.std.proofs.Common.{◌≡◌, ◌++◌, length, map}
+use Rattle.std.specs.Prelude.{string_bytes}
+use Rattle.row_notes.specs.Merging.{explained}
+use Rattle.row_notes.specs.Noted.{next_head, noted}
 use Rattle.row_notes.proofs.merging.merge.Given as goal
 
--- the rows so far, and what is left of them
+-- the rows so far, and what is left of them with the notes that are left
 abbrev pub invariant-loop-row : goal.invariant-loop-row
-invariant-loop-row l = Explains l.initial.rest l.rest l.out.items
+invariant-loop-row l =
+    (explained l.initial.rest (map noted l.initial.left) ≡ l.out.items ++ explained l.rest (map noted l.left))
+    × (string_bytes l.head ≡ next_head l.left)
 
 abbrev pub decreases-loop-row : goal.decreases-loop-row
 decreases-loop-row l = length l.rest

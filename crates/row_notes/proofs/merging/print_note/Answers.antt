@@ -1,9 +1,13 @@
-use Rattle.std.proofs.Common.{◌++◌, ◌∷◌, [], ap, ◌∙◌, ℕ, List}
-use Rattle.row_notes.proofs.LineLemmas.{AppendsNotes-line, AppendsNotes-then}
+use Rattle.std.proofs.Common.{◌++◌, ap, ◌∙◌, ℕ, List}
+use Rattle.row_notes.specs.Merging.{line_alone}
+use Rattle.row_notes.proofs.LineLemmas.{note_end, note_step}
 use Rattle.row_notes.proofs.merging.print_note.Goals as goal
 
 pub loop-line-preserved : goal.loop-line-preserved
 loop-line-preserved c =
     let line = c.in-Some.line.now in
-    let items = c.in_ok-push.ensures.items ∙ ap (λ (l : List ℕ). l ++ 10 ∷ []) (c.in_ok-extend_from_slice-2.ensures.items ∙ ap (λ (l : List ℕ). l ++ line) c.in_ok-extend_from_slice.ensures.items) in
-    AppendsNotes-then _ _ _ c.loop-line.invariant (AppendsNotes-line c.loop-line.out.items line _ c.in-Some.ensures.line items)
+    let items = c.in_ok-print_line.ensures ∙ ap (λ (l : List ℕ). l ++ line_alone line) c.in_ok-extend_from_slice.ensures.items in
+    note_step _ c.loop-line.out.items c.loop-line.rest.now line c.in-Some.others.now _ c.loop-line.invariant c.in-Some.ensures.parts c.in-Some.ensures.none items
+
+pub returns : goal.returns
+returns c = note_end _ c.loop-line.out.items c.loop-line.rest.now c.loop-line.invariant c.in_default.ensures.none

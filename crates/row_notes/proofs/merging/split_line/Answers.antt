@@ -1,5 +1,0 @@
-use Rattle.row_notes.proofs.LineLemmas.{feed_tells}
-use Rattle.row_notes.proofs.merging.split_line.Goals as goal
-
-pub returns-clause-line : goal.returns-clause-line
-returns-clause-line c = feed_tells c.args.text.now _ c.in_ok-place.ensures.place

@@ -1,0 +1,32 @@
+-- A note: the row below which it stands, and its text.
+use Rattle.std.specs.Prelude.{◌≡◌, ℕ, List, [], ◌∷◌, ◌++◌, codes, decimal}
+use Rattle.row_notes.specs.declared.notes.Head.{Head}
+use Rattle.row_notes.specs.declared.notes.Head.TheVariants.{Event, Line, End}
+use Rattle.row_notes.specs.declared.notes.Note.{Note}
+
+pub record Noted : Type 0 where
+  pub head : Head
+  pub text : List ℕ
+
+abbrev pub noted : Note → Noted
+noted n = record { head = n.head; text = n.text.items }
+
+-- one more at the end; a note without a text is none
+abbrev pub with_note : List Noted → Head → List ℕ → List Noted
+with_note notes head [] = notes
+with_note notes head (b ∷ bs) = notes ++ record { head = head; text = b ∷ bs } ∷ []
+
+-- what the row begins with below which a note stands: the row of a reply or of a call that waits, or that of a bad line
+abbrev pub head_text : Head → List ℕ
+head_text (Event place turn) = decimal place ++ (codes "." ++ (decimal turn ++ codes " "))
+head_text (Line number) = codes "line " ++ (decimal number ++ codes ": ")
+head_text End = []
+
+-- what the row of the first note begins with
+abbrev pub next_head : List Note → List ℕ
+next_head [] = []
+next_head (n ∷ ns) = head_text n.head
+
+-- a note with this head is added, or none
+abbrev pub AddsNote : List Noted → List Noted → Head → Type 0
+AddsNote old new head = (text : List ℕ) × (new ≡ with_note old head text)
