@@ -1,0 +1,5 @@
+pub mod Lanes
+pub mod Layout
+pub mod Picture
+pub mod Plots
+pub mod Words
