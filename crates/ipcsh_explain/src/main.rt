@@ -5,11 +5,14 @@
 mod words;
 
 use crate::words::{Asked, Task, asked_of};
+use client_rights::print_rights;
+use ipc_call::Kind;
 use ipc_explain::{Explained, explain};
 use ipcsh::{Fault, write_bytes};
+use perm_words::kind_name;
 use program_words::called_with;
 use run_picture::{STYLE, draw};
-use run_watch::watch;
+use run_watch::{left_by, watch};
 use std::alloc::AllocError;
 use std::io::{Error, Read};
 use std::process::ExitCode;
@@ -27,7 +30,7 @@ const FAULT: u8 = 2;
 const USAGE: u8 = 3;
 
 /// What `--help` prints, and standard error where the program doesn't take its words.
-const HELP: &str = "usage: ipcsh_explain [--svg FILE] [SCRIPT]";
+const HELP: &str = "usage: ipcsh_explain [--svg FILE | --who KIND ID] [SCRIPT]";
 
 /// Why the program stopped.
 #[derive(Debug, Drop, Error)]
@@ -38,6 +41,9 @@ enum Failure {
     /// The picture can't be written to this file.
     #[error("{0}: {1}")]
     Picture(String, Error),
+    /// At the end of the script there is no object of this kind and identifier.
+    #[error("at the end of the script there is no {0} {1}")]
+    NoObject(&'static str, u32),
     /// The run has stopped.
     #[error("{0}")]
     Run(Fault),
@@ -68,7 +74,7 @@ fn asked<R: Env + AllocGlobal>(rt: &R) -> Result<Option<Asked>, AllocError> {
 }
 
 /// Does what is asked, and answers the status.
-fn run<R: Env + Files + Input + Print + AllocGlobal>(rt: &R) -> Result<u8, Failure> {
+fn run<R: Env + Files + Input + Print + Eprint + AllocGlobal>(rt: &R) -> Result<u8, Failure> {
     let Some(asked) = asked(rt)? else {
         return Ok(USAGE);
     };
@@ -82,6 +88,10 @@ fn run<R: Env + Files + Input + Print + AllocGlobal>(rt: &R) -> Result<u8, Failu
         Task::Picture(path) => {
             let script = script_of(rt, &asked.script)?;
             explain_with_picture(rt, script.as_slice(), path.as_str())
+        }
+        Task::Who { kind, id } => {
+            let script = script_of(rt, &asked.script)?;
+            tell_who(rt, script.as_slice(), *kind, *id)
         }
     }
 }
@@ -136,6 +146,29 @@ fn explain_with_picture<R: Files + Print + AllocGlobal>(
         Ok(()) => Ok(status),
         Err(error) => Err(Failure::Picture(String::from_str(rt.alloc(), path)?, error)),
     }
+}
+
+/// Prints who may do what to an object when the script has ended.
+fn tell_who<R: Print + Eprint + AllocGlobal>(
+    rt: &R,
+    script: &[u8],
+    kind: Kind,
+    id: u32,
+) -> Result<u8, Failure> {
+    let left = left_by(rt.alloc(), script, kind, id)?;
+    let bad = left.summary.bad;
+    if bad > 0 {
+        let _ = eprintln!(rt;
+            "ipcsh_explain: bad lines in the script: {bad}; a run without --who tells of each"
+        );
+    }
+    let Some(object) = &left.object else {
+        return Err(Failure::NoObject(kind_name(kind), id));
+    };
+    let mut out = String::new(rt.alloc());
+    print_rights(rt.alloc(), &mut out, object, left.clients.as_slice())?;
+    write_bytes(&mut io::writer(rt), out.as_bytes())?;
+    Ok(if bad == 0 { 0 } else { BAD_LINE })
 }
 
 /// Prints what a run has printed, with its notes.

@@ -2,6 +2,8 @@
 
 use clap::error::ErrorKind;
 use clap::{Arg, ArgAction, ArgMatches, Command};
+use ipc_call::Kind;
+use ipc_words::number_32;
 use std::alloc::{AllocError, Global};
 
 /// What is asked for.
@@ -13,6 +15,8 @@ pub(crate) enum Task {
     Explain,
     /// The same, and a picture that is written to this file.
     Picture(String),
+    /// In place of these who may do what to the object of this kind and identifier.
+    Who { kind: Kind, id: u32 },
 }
 
 /// What the words ask for.
@@ -40,20 +44,51 @@ pub(crate) fn asked_of(alloc: Global, words: &[&str]) -> Result<Option<Asked>, A
 
 fn ipcsh_explain<'a>(alloc: Global) -> Result<Command<'a>, AllocError> {
     let svg = Arg::new(alloc, "svg").long("svg").action(ArgAction::Set);
+    let who = Arg::new(alloc, "who")
+        .long("who")
+        .num_args(2)
+        .action(ArgAction::Set);
     let script = Arg::new(alloc, "script")
         .num_args(0..2)
         .action(ArgAction::Set);
-    Command::new(alloc, "ipcsh_explain").arg(svg)?.arg(script)
+    Command::new(alloc, "ipcsh_explain")
+        .arg(svg)?
+        .arg(who)?
+        .arg(script)
 }
 
 fn asked_by(alloc: Global, matches: &ArgMatches<'_>) -> Result<Option<Asked>, AllocError> {
-    let task = match matches.get_str("svg") {
-        Some(path) => Task::Picture(String::from_str(alloc, path)?),
-        None => Task::Explain,
+    let Some(task) = task_of(alloc, matches)? else {
+        return Ok(None);
     };
     let script = match matches.get_str("script") {
         Some(path) => Some(String::from_str(alloc, path)?),
         None => None,
     };
     Ok(Some(Asked { task, script }))
+}
+
+fn task_of(alloc: Global, matches: &ArgMatches<'_>) -> Result<Option<Task>, AllocError> {
+    match (matches.get_str("svg"), matches.get_strs("who")) {
+        (None, None) => Ok(Some(Task::Explain)),
+        (Some(path), None) => Ok(Some(Task::Picture(String::from_str(alloc, path)?))),
+        (None, Some([kind, id])) => Ok(object_of(kind, id)),
+        _ => Ok(None),
+    }
+}
+
+fn object_of(kind: &str, id: &str) -> Option<Task> {
+    let kind = kind_named(kind)?;
+    let id = number_32(id.as_bytes())?;
+    Some(Task::Who { kind, id })
+}
+
+/// A kind by the name that notes and listings have, or by that in a script (ipcrm(1)).
+fn kind_named(word: &str) -> Option<Kind> {
+    match word {
+        "queue" => Some(Kind::Queue),
+        "set" => Some(Kind::Sems),
+        "segment" => Some(Kind::Segment),
+        _ => ipc_text::kind_named(word.as_bytes()),
+    }
 }

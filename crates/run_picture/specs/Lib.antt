@@ -1,3 +1,4 @@
+pub mod Entering
 pub mod Lanes
 pub mod Layout
 pub mod Picture

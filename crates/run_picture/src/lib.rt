@@ -2,6 +2,7 @@
 //! same axis of events, what changes in queues and semaphores. The picture is the project's own.
 #![tactic(auto)]
 
+mod entering;
 mod lanes;
 mod layout;
 mod picture;
@@ -10,6 +11,7 @@ mod series;
 mod style;
 mod words;
 
+pub use entering::enter_call;
 pub use picture::draw;
 pub use run::{Call, End, Lane, Mark, Point, Run, Series, Wait};
 pub use style::STYLE;

@@ -2,11 +2,11 @@
 
 use crate::changes::Changes;
 use crate::lines::{behind_first, second_word};
-use ipc_call::{Memory, Outcome, Reply, Rule};
+use ipc_call::{Memory, Reply, Rule};
 use ipc_space::{Effects, Space};
 use ipc_text::{Command, Line, Reason, print_reply, print_waits};
 use ipcsh::{Fault, Listener, run_text};
-use run_picture::{Call, End, Lane, Mark, Run, Wait};
+use run_picture::{Call, End, Lane, Mark, Run, Wait, enter_call};
 use std::alloc::Global;
 
 /// What is collected may fail where an allocation does.
@@ -70,13 +70,9 @@ impl Watcher {
 
     fn add_lane(&mut self, text: &[u8]) -> Collected {
         let name = str::from_utf8(second_word(text)).unwrap_or("");
-        let lane = Lane {
-            number: self.lanes.len() as u32,
-            name: String::from_str(self.alloc, name)?,
-            calls: Vec::new(self.alloc),
-            waits: Vec::new(self.alloc),
-        };
-        self.lanes.push(lane)?;
+        let name = String::from_str(self.alloc, name)?;
+        let number = self.lanes.len() as u32;
+        self.lanes.push(Lane::new(self.alloc, number, name))?;
         Ok(())
     }
 
@@ -103,38 +99,47 @@ impl Watcher {
         self.changes.look(space, place)
     }
 
-    /// Enters the event's own call.
+    /// Enters the event's own call, and where it waits its wait.
     fn enter_own(&mut self, client: u32, place: u32, effects: &Effects) -> Collected {
-        let mut title = String::from_str(self.alloc, self.line.as_str())?;
-        title.push_str("\n")?;
+        let mut row = String::new(self.alloc);
         let mark = match &effects.own {
             Some(reply) => {
-                print_reply(&mut title, self.name(client), reply)?;
+                print_reply(&mut row, self.name(client), reply)?;
                 mark_of(reply)
             }
             None => {
-                print_waits(&mut title, effects.place, self.name(client))?;
+                print_waits(&mut row, effects.place, self.name(client))?;
                 Mark::Waits
             }
         };
-        let waited = title.clone()?;
-        let label = self.label()?;
-        if let Some(lane) = self.lanes.get_mut(client as usize) {
-            if mark == Mark::Waits {
-                lane.waits.push(Wait {
-                    place,
-                    title: waited,
-                    end: None,
-                })?;
-            }
-            lane.calls.push(Call {
-                place,
-                mark,
-                label,
-                title,
-            })?;
+        if effects.own.is_none() {
+            self.begin_wait(client, place, row.as_str())?;
         }
-        Ok(())
+        let call = Call {
+            place,
+            mark,
+            label: self.label()?,
+            title: self.title(row.as_str())?,
+        };
+        enter_call(&mut self.lanes, client, call)
+    }
+
+    fn begin_wait(&mut self, client: u32, place: u32, row: &str) -> Collected {
+        let wait = Wait {
+            place,
+            title: self.title(row)?,
+            end: None,
+        };
+        match self.lanes.get_mut(client as usize) {
+            Some(lane) => lane.begin_wait(wait),
+            None => Ok(()),
+        }
+    }
+
+    /// The latest line, and below it a row without its line feed.
+    fn title(&self, row: &str) -> Result<String, Memory> {
+        let (line, row) = (self.line.as_str(), row.trim_end());
+        format!(in self.alloc; "{line}\n{row}")
     }
 
     /// The line behind its client, cut where it is long.
@@ -150,8 +155,9 @@ impl Watcher {
 
     /// Enters the end of a wait, by the call of another client.
     fn end_wait(&mut self, place: u32, ender: u32, client: u32, reply: &Reply) -> Collected {
-        let mut title = String::new(self.alloc);
-        print_reply(&mut title, self.name(client), reply)?;
+        let mut row = String::new(self.alloc);
+        print_reply(&mut row, self.name(client), reply)?;
+        let title = String::from_str(self.alloc, row.as_str().trim_end())?;
         let end = End {
             place,
             ender,
@@ -160,9 +166,7 @@ impl Watcher {
             title,
         };
         if let Some(lane) = self.lanes.get_mut(client as usize) {
-            if let Some(wait) = lane.waits.last_mut() {
-                wait.end = Some(end);
-            }
+            lane.end_wait(end);
         }
         Ok(())
     }
