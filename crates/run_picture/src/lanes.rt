@@ -90,7 +90,7 @@ fn print_ends(out: &mut String, lane: u32, waits: &[Wait]) -> Told
 fn print_bar(out: &mut String, events: u32, lane: u32, wait: &Wait) -> Told
     ensures { OnOk result (string_bytes out.new ≡ string_bytes out.old ++ bar_text events lane wait.now) }
 {
-    print_bar_line(out, across(wait.place), down(lane), right_of(events, wait))?;
+    print_bar_line(out, across(wait.place), down(lane), bar_end(events, wait))?;
     push_title(out, wait.title.as_str())?;
     out.push_str("</path>\n")
 }
@@ -103,7 +103,7 @@ fn print_bar_line(out: &mut String, from: u64, y: u64, right: u64) -> Told
 }
 
 /// Where the bar of a wait ends.
-fn right_of(events: u32, wait: &Wait) -> u64
+fn bar_end(events: u32, wait: &Wait) -> u64
     ensures { result ≡ end_of events wait.now.end }
 {
     match &wait.end {

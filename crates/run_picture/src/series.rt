@@ -46,7 +46,7 @@ fn print_plot(out: &mut String, top: u64, events: u32, most: u32, series: &Serie
     print_names(out, top, most, series)?;
     print_frame(out, top, width(events))?;
     print_path(out, top, most, series.points.as_slice())?;
-    print_close(out, top, right_of(events, series))?;
+    print_close(out, top, plot_end(events, series))?;
     out.push_str("'/>\n")
 }
 
@@ -109,7 +109,7 @@ fn print_path(out: &mut String, top: u64, most: u32, points: &[Point]) -> Told
 }
 
 /// Where the steps end: at the event that removed the object, or else at the end of the run.
-fn right_of(events: u32, series: &Series) -> u64
+fn plot_end(events: u32, series: &Series) -> u64
     ensures { result ≡ right_end events series.now.removed }
 {
     match series.removed {

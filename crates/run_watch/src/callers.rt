@@ -28,29 +28,36 @@ pub fn left_by(alloc: Global, script: &[u8], kind: Kind, id: u32) -> Result<Left
         names: Vec::new(alloc),
         has_failed: false,
     };
-    let ended = run_text(alloc, script, &mut names)?;
-    if names.has_failed {
-        return Err(Fault::Memory);
+    match run_text(alloc, script, &mut names) {
+        Ok(ended) => {
+            let left = left_in(&ended, names, kind, id);
+            drop(ended);
+            left
+        }
+        Err(fault) => Err(fault),
     }
-    Ok(left_in(alloc, &ended, names.names, kind, id)?)
 }
 
-fn left_in(
-    alloc: Global,
-    ended: &Ended,
-    names: Vec<String>,
-    kind: Kind,
-    id: u32,
-) -> Result<Left, Memory> {
-    let summary = ended.summary;
-    let (object, clients) = match &ended.space {
-        Some(space) => (object_in(space, kind, id), clients_of(alloc, space, names)?),
-        None => (None, Vec::new(alloc)),
+fn left_in(ended: &Ended, names: Names, kind: Kind, id: u32) -> Result<Left, Fault> {
+    let Names {
+        alloc,
+        names,
+        has_failed,
+    } = names;
+    if has_failed {
+        return Err(Fault::Memory);
+    }
+    let Some(space) = &ended.space else {
+        return Ok(Left {
+            summary: ended.summary,
+            object: None,
+            clients: Vec::new(alloc),
+        });
     };
     Ok(Left {
-        summary,
-        object,
-        clients,
+        summary: ended.summary,
+        object: object_in(space, kind, id),
+        clients: clients_of(alloc, space, names)?,
     })
 }
 

@@ -18,9 +18,18 @@ const LABEL: usize = 20;
 /// Runs a script, and gives what a picture shows of the run. The faults are those of `run_text`.
 pub fn watch(alloc: Global, script: &[u8]) -> Result<Run, Fault> {
     let mut watcher = Watcher::new(alloc);
-    let ended = run_text(alloc, script, &mut watcher)?;
-    drop(ended);
+    run_watched(alloc, script, &mut watcher)?;
     Ok(watcher.into_run()?)
+}
+
+fn run_watched(alloc: Global, script: &[u8], watcher: &mut Watcher) -> Result<(), Fault> {
+    match run_text(alloc, script, watcher) {
+        Ok(ended) => {
+            drop(ended);
+            Ok(())
+        }
+        Err(fault) => Err(fault),
+    }
 }
 
 /// Collects a run.
