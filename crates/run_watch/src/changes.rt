@@ -96,7 +96,7 @@ impl Changes {
         let mut series = Vec::new(alloc);
         for watched in all {
             if watched.points.len() > 1 {
-                let number = series.len() as u32;
+                let number = u32::try_from(series.len()).unwrap_or(u32::MAX);
                 series.push(series_of(alloc, number, watched)?)?;
             }
         }

@@ -80,7 +80,7 @@ impl Watcher {
     fn add_lane(&mut self, text: &[u8]) -> Collected {
         let name = str::from_utf8(second_word(text)).unwrap_or("");
         let name = String::from_str(self.alloc, name)?;
-        let number = self.lanes.len() as u32;
+        let number = u32::try_from(self.lanes.len()).unwrap_or(u32::MAX);
         self.lanes.push(Lane::new(self.alloc, number, name))?;
         Ok(())
     }
@@ -99,7 +99,7 @@ impl Watcher {
 
     /// Enters an event.
     fn enter(&mut self, space: &Space, client: u32, effects: &Effects) -> Collected {
-        let place = effects.place as u32;
+        let place = u32::try_from(effects.place).unwrap_or(u32::MAX);
         self.enter_own(client, place, effects)?;
         for (other, reply) in effects.others.iter() {
             self.end_wait(place, client, *other, reply)?;
