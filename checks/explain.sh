@@ -1,6 +1,6 @@
 # ipcsh_explain: over every script of examples/ and crates/rows/data it prints the stored rows once its notes are taken out, and
 # each refusal, bad line, wait and end of a wait has a note; the stored explanations of crates/ipcsh_explain/data and of
-# examples/; and how long it takes beside ipcsh.
+# examples/; the stored pictures of docs/pictures; and how long it takes beside ipcsh.
 
 check_explain() { with_program with_crate ipcsh_explain explain_checks; }
 
@@ -14,6 +14,15 @@ explain_checks() {
     for file in crates/ipcsh_explain/data/*.in examples/explained/*.ipcsh; do
         attempt "$file" matches "${file%.*}" "${file##*.}" "$(program_to_run ipcsh_explain)"
     done
+    for file in examples/*.ipcsh examples/explained/*.ipcsh crates/ipcsh_explain/data/*.in; do
+        attempt "picture of $file" draws "$file"
+    done
+    for picture in docs/pictures/*.svg; do
+        attempt "$picture" is_stored "$picture"
+    done
+    attempt 'pictures are XML' are_well_formed
+    attempt 'ipcsh_explain --svg, a file that cannot be written' draws_nowhere
+    attempt 'ipcsh_explain --svg with --who' takes_one_option
     attempt 'ipcsh_explain of a file' explains_a_file
     attempt 'ipcsh_explain of no file' explains_no_file
     attempt 'ipcsh_explain, output that cannot be written' explain_cannot_write
@@ -44,6 +53,55 @@ each_has_a_note() {
         { wants = "" }
         /^line [0-9]+: / || /^[0-9]+\.[0-9]+ [a-z0-9]+ (error |waits$)/ || /^[0-9]+\.[1-9]/ { wants = $0 }
         END { if (wants != "") { print wants; missing = 1 }; exit missing }' "$1"
+}
+
+# draws SCRIPT: with --svg its standard output and its status are those without, and the picture goes to $scratch/pictures. A script
+# with no picture, since it has a fault, is none of these.
+draws() {
+    mkdir -p "$scratch/pictures"
+    plain=0
+    "$(program_to_run ipcsh_explain)" <"$1" >"$scratch/wanted" 2>/dev/null || plain=$?
+    status=0
+    picture=$(basename "${1%.*}")
+    "$(program_to_run ipcsh_explain)" --svg "$scratch/pictures/$picture.svg" <"$1" >"$scratch/out" 2>/dev/null || status=$?
+    why="status $status, not $plain"
+    [ "$status" = "$plain" ] || return 1
+    same 'its output' "$scratch/wanted" "$scratch/out" || return 1
+    why='it has no picture'
+    [ "$(tail -n 1 "$scratch/pictures/$picture.svg")" = '</svg>' ]
+}
+
+# is_stored PICTURE: it is the one that was drawn of the example of its name.
+is_stored() {
+    same 'the picture' "$1" "$scratch/pictures/${1##*/}"
+}
+
+# Each picture is well-formed.
+are_well_formed() {
+    why='a picture is no well-formed XML:'
+    python3 -c '
+import sys, xml.etree.ElementTree as tree
+for name in sys.argv[1:]:
+    try:
+        tree.parse(name)
+    except tree.ParseError as error:
+        sys.exit(f"{name}: {error}")' docs/pictures/*.svg "$scratch"/pictures/*.svg 2>"$scratch/shown"
+}
+
+draws_nowhere() {
+    status=0
+    "$(program_to_run ipcsh_explain)" --svg "$scratch/no folder/picture.svg" examples/waiting.ipcsh >"$scratch/out" 2>"$scratch/err" || status=$?
+    why="status $status, not 2, or standard error is another"
+    [ "$status" = 2 ] && grep -q '^ipcsh_explain: .*no folder' "$scratch/err" || return 1
+    "$(program_to_run ipcsh_explain)" examples/waiting.ipcsh >"$scratch/wanted" || return 1
+    same 'its output' "$scratch/wanted" "$scratch/out"
+}
+
+takes_one_option() {
+    status=0
+    "$(program_to_run ipcsh_explain)" --svg "$scratch/picture.svg" --who queue 0 examples/waiting.ipcsh >"$scratch/out" 2>"$scratch/err" || status=$?
+    why="status $status, not 3, or it printed"
+    [ "$status" = 3 ] && [ ! -s "$scratch/out" ] && grep -q '^ipcsh_explain: usage: ' "$scratch/err"
 }
 
 explains_a_file() {

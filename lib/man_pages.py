@@ -217,7 +217,7 @@ def trace():
 
 
 def explain():
-    words = ["ipcsh_explain [SCRIPT]", "ipcsh_explain --help", "ipcsh_explain --version"]
+    words = ["ipcsh_explain [SCRIPT]", "ipcsh_explain --svg FILE [SCRIPT]", "ipcsh_explain --who KIND ID [SCRIPT]", "ipcsh_explain --help", "ipcsh_explain --version"]
     return tool("ipcsh_explain", "docs/EXPLAIN.md", "what the rows of a script for ipcsh(1) mean", words, "ipcsh(1), ipcsh(5), sysvipc-rules(7), ipcwho(1)")
 
 

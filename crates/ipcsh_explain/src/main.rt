@@ -4,12 +4,17 @@
 
 mod words;
 
-use crate::words::{Asked, asked_of};
+use crate::words::{Asked, Task, asked_of};
+use client_rights::print_rights;
+use ipc_call::Kind;
 use ipc_explain::{Explained, explain};
 use ipcsh::{Fault, write_bytes};
+use perm_words::kind_name;
 use program_words::called_with;
+use run_picture::{STYLE, draw};
+use run_watch::{left_by, watch};
 use std::alloc::AllocError;
-use std::io::Error;
+use std::io::{Error, Read};
 use std::process::ExitCode;
 use std::rt::{Env, Files};
 use std::{fs, io};
@@ -25,14 +30,20 @@ const FAULT: u8 = 2;
 const USAGE: u8 = 3;
 
 /// What `--help` prints, and standard error where the program doesn't take its words.
-const HELP: &str = "usage: ipcsh_explain [SCRIPT]";
+const HELP: &str = "usage: ipcsh_explain [--svg FILE | --who KIND ID] [SCRIPT]";
 
 /// Why the program stopped.
 #[derive(Debug, Drop, Error)]
 enum Failure {
     /// The script can't be read.
     #[error("{0}")]
-    Script(Error),
+    File(Error),
+    /// The picture can't be written to this file.
+    #[error("{0}: {1}")]
+    Picture(String, Error),
+    /// At the end of the script there is no object of this kind and identifier.
+    #[error("at the end of the script there is no {0} {1}")]
+    NoObject(&'static str, u32),
     /// The run has stopped.
     #[error("{0}")]
     Run(Fault),
@@ -63,20 +74,101 @@ fn asked<R: Env + AllocGlobal>(rt: &R) -> Result<Option<Asked>, AllocError> {
 }
 
 /// Does what is asked, and answers the status.
-fn run<R: Env + Files + Input + Print + AllocGlobal>(rt: &R) -> Result<u8, Failure> {
-    match asked(rt)? {
-        None => Ok(USAGE),
-        Some(Asked::Help) => {
+fn run<R: Env + Files + Input + Print + Eprint + AllocGlobal>(rt: &R) -> Result<u8, Failure> {
+    let Some(asked) = asked(rt)? else {
+        return Ok(USAGE);
+    };
+    match &asked.task {
+        Task::Help => {
             write_bytes(&mut io::writer(rt), HELP.as_bytes())?;
             write_bytes(&mut io::writer(rt), b"\n")?;
             Ok(0)
         }
-        Some(Asked::Input) => print(rt, explain(rt.alloc(), &mut rt.reader())?),
-        Some(Asked::File(path)) => match fs::read(rt, path.as_str()) {
-            Ok(script) => print(rt, explain(rt.alloc(), &mut script.as_slice())?),
-            Err(error) => Err(Failure::Script(error)),
-        },
+        Task::Explain => explain_alone(rt, &asked.script),
+        Task::Picture(path) => {
+            let script = script_of(rt, &asked.script)?;
+            explain_with_picture(rt, script.as_slice(), path.as_str())
+        }
+        Task::Who { kind, id } => {
+            let script = script_of(rt, &asked.script)?;
+            tell_who(rt, script.as_slice(), *kind, *id)
+        }
     }
+}
+
+/// Explains a script as it is read.
+fn explain_alone<R: Files + Input + Print + AllocGlobal>(
+    rt: &R,
+    script: &Option<String>,
+) -> Result<u8, Failure> {
+    match script {
+        Some(path) => match fs::read(rt, path.as_str()) {
+            Ok(script) => print(rt, explain(rt.alloc(), &mut script.as_slice())?),
+            Err(error) => Err(Failure::File(error)),
+        },
+        None => print(rt, explain(rt.alloc(), &mut rt.reader())?),
+    }
+}
+
+/// The script, read whole.
+fn script_of<R: Files + Input + AllocGlobal>(
+    rt: &R,
+    script: &Option<String>,
+) -> Result<Vec<u8>, Failure> {
+    let read = match script {
+        Some(path) => fs::read(rt, path.as_str()),
+        None => {
+            let mut text = Vec::new(rt.alloc());
+            match rt.reader().read_to_end(&mut text) {
+                Ok(_) => Ok(text),
+                Err(error) => Err(error),
+            }
+        }
+    };
+    match read {
+        Ok(text) => Ok(text),
+        Err(error) => Err(Failure::File(error)),
+    }
+}
+
+/// Explains a script, and then writes its picture to a file.
+fn explain_with_picture<R: Files + Print + AllocGlobal>(
+    rt: &R,
+    script: &[u8],
+    path: &str,
+) -> Result<u8, Failure> {
+    let mut reader = script;
+    let status = print(rt, explain(rt.alloc(), &mut reader)?)?;
+    let run = watch(rt.alloc(), script)?;
+    let mut picture = String::new(rt.alloc());
+    draw(&mut picture, STYLE, &run)?;
+    match fs::write(rt, path, picture.as_bytes()) {
+        Ok(()) => Ok(status),
+        Err(error) => Err(Failure::Picture(String::from_str(rt.alloc(), path)?, error)),
+    }
+}
+
+/// Prints who may do what to an object when the script has ended.
+fn tell_who<R: Print + Eprint + AllocGlobal>(
+    rt: &R,
+    script: &[u8],
+    kind: Kind,
+    id: u32,
+) -> Result<u8, Failure> {
+    let left = left_by(rt.alloc(), script, kind, id)?;
+    let bad = left.summary.bad;
+    if bad > 0 {
+        let _ = eprintln!(rt;
+            "ipcsh_explain: bad lines in the script: {bad}; a run without --who tells of each"
+        );
+    }
+    let Some(object) = &left.object else {
+        return Err(Failure::NoObject(kind_name(kind), id));
+    };
+    let mut out = String::new(rt.alloc());
+    print_rights(rt.alloc(), &mut out, object, left.clients.as_slice())?;
+    write_bytes(&mut io::writer(rt), out.as_bytes())?;
+    Ok(if bad == 0 { 0 } else { BAD_LINE })
 }
 
 /// Prints what a run has printed, with its notes.

@@ -1,0 +1,9 @@
+-- the bars so far
+use Rattle.std.proofs.Common.{◌≡◌, ◌++◌, take}
+use Rattle.std.specs.Prelude.{string_bytes}
+use Rattle.run_picture.specs.Lanes.{bars_text}
+use Rattle.run_picture.proofs.lanes.print_bars.Given as goal
+
+abbrev pub invariant-loop-wait : goal.invariant-loop-wait
+invariant-loop-wait l =
+    string_bytes l.out ≡ string_bytes l.fn.out ++ bars_text l.events l.lane (take l.wait-index l.waits)
