@@ -1,3 +1,4 @@
 mod AskedNeeds
+mod Decided
 mod LastCall
 mod TrialLemmas

@@ -16,8 +16,9 @@ use Rattle.sem_set.specs.Trials.{stopped_at}
 use Rattle.sem_undo.specs.Entries.{adj_of}
 use Rattle.ipc_model.specs.Decide.{decide_alive}
 use Rattle.ipc_model.specs.Decision as decisions
+use Rattle.ipc_objects.specs.declared.object.Object.{Object}
 use Rattle.ipc_model.specs.Semaphores.{set_at}
-use Rattle.ipc_model.specs.State.{Sems, State}
+use Rattle.ipc_model.specs.State.{SemSet, Sems, State}
 use Rattle.call_reasons.specs.declared.trials.Stopped.{Stopped}
 
 -- an operation that meets this, where it is refused; else what is told of the later ones, unless the call waits at it
@@ -59,3 +60,23 @@ abbrev pub refused_in : State → ℕ → Call → Option Stopped
 refused_in s client (SemOp id ops) = refused_at s.sems client id ops
 refused_in s client (SemTimedOp id ops timeout) = refused_at s.sems client id ops
 refused_in s client call = None
+
+-- a rule by which a trial refuses
+abbrev pub is_of_trial : Rule → Bool
+is_of_trial ValueRange = true
+is_of_trial WouldWait = true
+is_of_trial UndoRange = true
+is_of_trial rule = false
+
+-- where such a rule refuses the call, on a set whose values are those of semaphores, it is the rule that is told
+abbrev pub OfTrial : State → ℕ → Call → ℕ → Option Stopped → Type 0
+OfTrial s client call id stopped =
+    (set : Object SemSet) (rule : Rule) → set_at s.sems id ≡ Some set
+    → list_all is_value (integers_of set.contents.semaphores) ≡ true
+    → decide_alive s client call ≡ decisions.Refused rule → is_of_trial rule ≡ true
+    → option_map (λ t. t.rule) stopped ≡ Some rule
+
+abbrev pub IsOfDecision : State → ℕ → Call → Option Stopped → Type 0
+IsOfDecision s client (SemOp id ops) stopped = OfTrial s client (SemOp id ops) id stopped
+IsOfDecision s client (SemTimedOp id ops timeout) stopped = OfTrial s client (SemTimedOp id ops timeout) id stopped
+IsOfDecision s client call stopped = Unit {0}

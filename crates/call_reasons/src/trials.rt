@@ -7,7 +7,7 @@ ghost use Rattle.ipc_history.specs.History.{run};
 ghost use Rattle.sem_set.specs.Sets.{is_value as is_value_in, set_to, value_of};
 ghost use Rattle.sem_set.specs.Trials.{adj_in, are_in as are_numbers_of, is_semadj, trial_on, undoes as undoes_at};
 ghost use Rattle.sem_undo.specs.Entries.{adj_of};
-ghost use Rattle.call_reasons.specs.Trials.{can_try_in, refusal_of, refused_at as refused_at_in, refused_from, refused_in};
+ghost use Rattle.call_reasons.specs.Trials.{IsOfDecision, can_try_in, refusal_of, refused_at as refused_at_in, refused_from, refused_in};
 
 use ipc_call::{Call, Memory, Rule, SemOper, undoes};
 use ipc_space::Space;
@@ -32,6 +32,14 @@ pub struct Stopped {
 /// The operation at which the semop of a client is refused by its trial; `None` of another call, and of one that its trial
 /// doesn't refuse.
 pub fn refused_by(space: &Space, client: u32, call: &Call) -> Result<Option<Stopped>, Memory>
+    ensures stop { IfOk result (λ stopped. stopped ≡ refused_in (run space.now) client call.now) }
+    ensures decided { IfOk result (IsOfDecision (run space.now) client call.now) }
+{
+    refused_of(space, client, call)
+}
+
+/// The same, by the definition of the operation alone.
+fn refused_of(space: &Space, client: u32, call: &Call) -> Result<Option<Stopped>, Memory>
     ensures { IfOk result (λ stopped. stopped ≡ refused_in (run space.now) client call.now) }
 {
     match call {
