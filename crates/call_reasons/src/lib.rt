@@ -7,7 +7,6 @@
 mod asked;
 mod calls;
 mod cases;
-mod cycles;
 mod denials;
 mod ends;
 mod objects;
@@ -21,7 +20,6 @@ mod waits;
 
 pub use asked::{Asked, Target, asked_by, controlled_by};
 pub use cases::{Case, NamedObject, latest_call, object_named};
-pub use cycles::Graph;
 pub use denials::{Denial, denial_of};
 pub use ends::{Ender, Wait, explain_end};
 pub use refusals::explain_refusal;

@@ -8,8 +8,8 @@ ghost use Rattle.ipc_explain.specs.Explaining.{head_of, newly_awaited_in};
 ghost use Rattle.ipcsh.specs.Runs.{EndsBy, transfer};
 
 use call_reasons::{
-    Awaited, Case, Ender, Graph, Wait, asked_by, awaited_by, explain_end, explain_refusal,
-    latest_call, print_awaited,
+    Awaited, Case, Ender, Wait, asked_by, awaited_by, explain_end, explain_refusal, latest_call,
+    print_awaited,
 };
 use ipc_call::{Memory, Outcome, Reply};
 use ipc_hints::Hints;
@@ -20,6 +20,7 @@ use row_notes::{Head, Notes, merge};
 use std::alloc::Global;
 use std::fmt::Write;
 use std::io::Read;
+use wait_graph::Graph;
 
 /// What is told may fail where an allocation does; then a part of the text may stand in the string.
 type Told = Result<(), Memory>;

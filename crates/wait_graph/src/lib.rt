@@ -1,4 +1,5 @@
-//! Clients that wait for one another.
+//! Clients that wait for one another, and a cycle of them: the project's own.
+#![tactic(auto)]
 
 use ipc_call::Memory;
 use std::alloc::Global;
