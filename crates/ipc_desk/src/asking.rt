@@ -1,27 +1,7 @@
 //! A client calls, and takes what is kept for it.
 
-ghost use Rattle.std.specs.Prelude.{
-  ◌≡◌,
-  ℕ,
-  ◌+◌,
-  ◌<◌,
-  ◌≤◌,
-  ◌++◌,
-  true,
-  None,
-  Some,
-  Ok,
-  Err,
-  length,
-  vec_len,
-  IfOk,
-  IfSome,
-  All,
-  MatchResult,
-  option_map,
-  option_to_list,
-  slice_set,
-};
+ghost use Rattle.std.specs.Prelude.{◌≡◌, ℕ, ◌+◌, ◌<◌, ◌≤◌, ◌++◌};
+ghost use Rattle.std.specs.Prelude.{true, None, Some, Ok, Err, length, vec_len, IfOk, IfSome, All, MatchResult, option_map, option_to_list, slice_set};
 ghost use Rattle.ipc_model.specs.Decide.{can_wait};
 ghost use Rattle.ipc_space.specs.Answers.{can_give};
 ghost use Rattle.ipc_space.specs.Telling.{replies_in};

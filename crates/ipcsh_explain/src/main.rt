@@ -4,13 +4,13 @@
 
 mod words;
 
-use crate::words::{Asked, Task, asked_of};
+use crate::words::{Asked, Task};
 use client_rights::print_rights;
 use ipc_call::Kind;
 use ipc_explain::{Explained, explain};
 use ipcsh::{Fault, write_bytes};
 use perm_words::kind_name;
-use program_words::called_with;
+use program_words::asked;
 use run_picture::{STYLE, draw};
 use run_watch::{left_by, watch};
 use std::alloc::AllocError;
@@ -64,18 +64,9 @@ impl From<Fault> for Failure {
     }
 }
 
-/// What the words ask for; `None` where the program doesn't take them. A word that is no text it doesn't take.
-fn asked<R: Env + AllocGlobal>(rt: &R) -> Result<Option<Asked>, AllocError> {
-    let Some(texts) = called_with(rt)? else {
-        return Ok(None);
-    };
-    let words: Vec<&str> = texts.iter().map(|text| text.as_str()).collect(rt.alloc())?;
-    asked_of(rt.alloc(), words.as_slice())
-}
-
 /// Does what is asked, and answers the status.
 fn run<R: Env + Files + Input + Print + Eprint + AllocGlobal>(rt: &R) -> Result<u8, Failure> {
-    let Some(asked) = asked(rt)? else {
+    let Some(asked) = asked::<R, Asked>(rt)? else {
         return Ok(USAGE);
     };
     match &asked.task {

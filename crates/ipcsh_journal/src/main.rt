@@ -14,12 +14,12 @@ ghost use Rattle.ipc_journal_text.specs.JournalText.{text_of};
 
 use crate::faults::Fault;
 use crate::listener::Teller;
-use crate::words::{Asked, Task, asked_of};
+use crate::words::{Asked, Task};
 use ipc_journal_replay::print_difference;
 use ipc_journal_text::{Recorded, Unread, read_journal, write_journal};
 use ipc_space::{Compared, Space, compare};
 use ipcsh::run_text;
-use program_words::called_with;
+use program_words::asked;
 use std::alloc::{AllocError, Global};
 use std::fs;
 use std::io::{ErrorKind, Read};
@@ -38,18 +38,9 @@ const USAGE: u8 = 3;
 /// What `--help` prints, and standard error where the program doesn't take its words.
 const HELP: &str = "usage: ipcsh_journal [FILE] | --replay [FILE]";
 
-/// What the words ask for; `None` where the program doesn't take them. A word that is no text it doesn't take.
-fn asked<R: Env + AllocGlobal>(rt: &R) -> Result<Option<Asked>, AllocError> {
-    let Some(texts) = called_with(rt)? else {
-        return Ok(None);
-    };
-    let words: Vec<&str> = texts.iter().map(|text| text.as_str()).collect(rt.alloc())?;
-    asked_of(rt.alloc(), words.as_slice())
-}
-
 /// Does what is asked, and answers the status.
 fn run<R: Env + Files + Input + Print + Eprint + AllocGlobal>(rt: &R) -> Result<u8, Fault> {
-    let Some(asked) = asked(rt)? else {
+    let Some(asked) = asked::<R, Asked>(rt)? else {
         return Ok(USAGE);
     };
     let mut out = String::new(rt.alloc());

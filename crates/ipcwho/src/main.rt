@@ -7,13 +7,13 @@ mod machine;
 mod words;
 
 use crate::machine::{Status, objects, pids, processes, status_of};
-use crate::words::{Asked, Task, asked_of};
+use crate::words::{Asked, Task};
 use ipc_call::Kind;
 use ipc_live::{
     Object, Process, is_unattached, print_orphan, print_remover, print_table, print_why, tabulate,
     users_are_gone,
 };
-use program_words::called_with;
+use program_words::asked;
 use std::alloc::AllocError;
 use std::process::ExitCode;
 use std::rt::{Env, Files};
@@ -48,18 +48,9 @@ impl From<AllocError> for Fault {
     }
 }
 
-/// What the words ask for; `None` where the program doesn't take them. A word that is no text it doesn't take.
-fn asked<R: Env + AllocGlobal>(rt: &R) -> Result<Option<Asked>, AllocError> {
-    let Some(texts) = called_with(rt)? else {
-        return Ok(None);
-    };
-    let words: Vec<&str> = texts.iter().map(|text| text.as_str()).collect(rt.alloc())?;
-    asked_of(rt.alloc(), words.as_slice())
-}
-
 /// Does what is asked, and answers the status.
 fn run<R: Env + Files + Print + Eprint + AllocGlobal + Clone + Drop>(rt: &R) -> Result<u8, Fault> {
-    let Some(asked) = asked(rt)? else {
+    let Some(asked) = asked::<R, Asked>(rt)? else {
         return Ok(USAGE);
     };
     let mut out = String::new(rt.alloc());

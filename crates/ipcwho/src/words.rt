@@ -4,6 +4,7 @@ use clap::error::ErrorKind;
 use clap::{Arg, ArgAction, ArgMatches, Command};
 use ipc_call::Kind;
 use ipc_words::number_32;
+use program_words::FromWords;
 use std::alloc::{AllocError, Global};
 
 /// What is asked for.
@@ -29,15 +30,16 @@ pub(crate) struct Asked {
     pub(crate) pids: Vec<u32>,
 }
 
-/// What the words, of which the first is the program's name, ask for; `None` where they are others than the program takes.
-pub(crate) fn asked_of(alloc: Global, words: &[&str]) -> Result<Option<Asked>, AllocError> {
-    match ipcwho(alloc)?.try_get_matches_from(words) {
-        Ok(matches) => asked_by(alloc, &matches),
-        Err(error) => match error.kind() {
-            ErrorKind::OutOfMemory => Err(AllocError),
-            ErrorKind::DisplayHelp => Ok(Some(help(alloc))),
-            _ => Ok(None),
-        },
+impl FromWords for Asked {
+    fn from_words(alloc: Global, words: &[&str]) -> Result<Option<Asked>, AllocError> {
+        match ipcwho(alloc)?.try_get_matches_from(words) {
+            Ok(matches) => asked_by(alloc, &matches),
+            Err(error) => match error.kind() {
+                ErrorKind::OutOfMemory => Err(AllocError),
+                ErrorKind::DisplayHelp => Ok(Some(help(alloc))),
+                _ => Ok(None),
+            },
+        }
     }
 }
 
