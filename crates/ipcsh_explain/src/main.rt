@@ -10,11 +10,11 @@ use ipc_call::Kind;
 use ipc_explain::{Explained, explain};
 use ipcsh::{Fault, write_bytes};
 use perm_words::kind_name;
-use program_words::asked;
+use program_words::{asked, read_whole};
 use run_picture::{STYLE, draw};
 use run_watch::{left_by, watch};
 use std::alloc::AllocError;
-use std::io::{Error, Read};
+use std::io::Error;
 use std::process::ExitCode;
 use std::rt::{Env, Files};
 use std::{fs, io};
@@ -106,17 +106,7 @@ fn script_of<R: Files + Input + AllocGlobal>(
     rt: &R,
     script: &Option<String>,
 ) -> Result<Vec<u8>, Failure> {
-    let read = match script {
-        Some(path) => fs::read(rt, path.as_str()),
-        None => {
-            let mut text = Vec::new(rt.alloc());
-            match rt.reader().read_to_end(&mut text) {
-                Ok(_) => Ok(text),
-                Err(error) => Err(error),
-            }
-        }
-    };
-    match read {
+    match read_whole(rt, script) {
         Ok(text) => Ok(text),
         Err(error) => Err(Failure::File(error)),
     }

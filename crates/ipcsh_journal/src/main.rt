@@ -19,10 +19,9 @@ use ipc_journal_replay::print_difference;
 use ipc_journal_text::{Recorded, Unread, read_journal, write_journal};
 use ipc_space::{Compared, Space, compare};
 use ipcsh::run_text;
-use program_words::asked;
+use program_words::{asked, read_whole};
 use std::alloc::{AllocError, Global};
-use std::fs;
-use std::io::{ErrorKind, Read};
+use std::io::ErrorKind;
 use std::process::ExitCode;
 use std::rt::{Env, Files};
 
@@ -81,17 +80,7 @@ fn print_help(out: &mut String) -> Result<(), AllocError> {
 
 /// What the file has, or standard input where none is named.
 fn input<R: Files + Input + AllocGlobal>(rt: &R, file: &Option<String>) -> Result<Vec<u8>, Fault> {
-    let read = match file {
-        Some(file) => fs::read(rt, file.as_str()),
-        None => {
-            let mut text = Vec::new(rt.alloc());
-            match rt.reader().read_to_end(&mut text) {
-                Ok(_) => Ok(text),
-                Err(error) => Err(error),
-            }
-        }
-    };
-    match read {
+    match read_whole(rt, file) {
         Ok(text) => Ok(text),
         Err(error) if error.kind() == ErrorKind::OutOfMemory => Err(Fault::Memory),
         Err(_) => Err(Fault::Read(name_of(rt.alloc(), file)?)),

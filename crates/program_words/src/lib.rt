@@ -1,10 +1,10 @@
-//! What a program is asked for by the words that it was called with. It is the project's own.
+//! What a program is asked for by the words that it was called with, and what it reads. It is the project's own.
 #![tactic(auto)]
 
 use std::alloc::{AllocError, Global};
-use std::env;
-use std::io::ErrorKind;
-use std::rt::Env;
+use std::io::{ErrorKind, Read};
+use std::rt::{Env, Files};
+use std::{env, fs, io};
 
 /// What a program may be asked for.
 pub trait FromWords: Sized {
@@ -28,5 +28,20 @@ fn called_with<R: Env + AllocGlobal>(rt: &R) -> Result<Option<Vec<String>>, Allo
         Ok(given) => Ok(Some(given.collect(rt.alloc())?)),
         Err(error) if error.kind() == ErrorKind::OutOfMemory => Err(AllocError),
         Err(_) => Ok(None),
+    }
+}
+
+/// All bytes of a file, or of standard input where none is named.
+pub fn read_whole<R: Files + Input + AllocGlobal>(
+    rt: &R,
+    file: &Option<String>,
+) -> io::Result<Vec<u8>> {
+    match file {
+        Some(path) => fs::read(rt, path.as_str()),
+        None => {
+            let mut text = Vec::new(rt.alloc());
+            rt.reader().read_to_end(&mut text)?;
+            Ok(text)
+        }
     }
 }
