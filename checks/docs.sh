@@ -68,9 +68,9 @@ links_lead_somewhere() {
 # The pictures of docs/ are those of docs/threads.rows, which `./bench threads` has printed.
 threads_are_drawn() {
     why='./bench threads draws another picture of docs/threads.rows:'
-    mkdir "$scratch/pictures"
-    draw_threads docs/threads.rows "$scratch/pictures"
-    for file in "$scratch/pictures"/*; do
+    mkdir -p "$scratch/drawn-threads"
+    draw_threads docs/threads.rows "$scratch/drawn-threads"
+    for file in "$scratch/drawn-threads"/*; do
         cmp "$file" "docs/${file##*/}" >>"$scratch/shown" 2>&1 || return 1
     done
 }
