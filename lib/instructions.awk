@@ -14,6 +14,7 @@ FILENAME == ARGV[1] {
     if (!(cell[2] in counted)) next
     told = cell[3]
     gsub(/,/, "", told)
+    told += 0
     compared++
     if (told > counted[cell[2]] * 1.2 || told < counted[cell[2]] * 0.8) print cell[2] ": " told " told, " counted[cell[2]] " counted"
 }
