@@ -8,8 +8,8 @@ check_bench() {
     ! command -v valgrind >/dev/null || attempt 'bench instructions' counts_instructions
 }
 
-# The instructions of docs/SPEED.md are those that valgrind counts, within 2 %. Those of more than 64 objects, bytes or the like take long, and
-# aren't counted here.
+# The instructions of docs/SPEED.md are those that valgrind counts, within a fifth, since they differ between environments.
+# Those of more than 64 objects, bytes or the like take long, and aren't counted here.
 counts_instructions() {
     built ipc_bench || return 1
     ./bench instructions 64 >"$scratch/out" || return 1
