@@ -26,7 +26,7 @@ explain_checks() {
     attempt 'ipcsh_explain of a file' explains_a_file
     attempt 'ipcsh_explain of no file' explains_no_file
     attempt 'ipcsh_explain, output that cannot be written' explain_cannot_write
-    [ -n "${unproved-}" ] || attempt 'ipcsh_explain, 300,000 lines in twice the time of ipcsh' explains_in_time
+    [ -n "${unproved-}" ] || ! command -v valgrind >/dev/null || attempt 'ipcsh_explain, 30,000 lines in twice the instructions of ipcsh' explains_in_time
 }
 
 # explains SCRIPT BASE: without the notes its output is that of BASE.out, with the status of BASE.status, and each row that wants
@@ -126,32 +126,21 @@ explain_cannot_write() {
     same 'its standard error' "$scratch/wanted" "$scratch/err"
 }
 
-# Three hundred thousand lines, of which a third is refused and a sixth waits, in at most twice the time of ipcsh: of each the least user
-# time of five runs, by turns.
+# Thirty thousand lines, of which a third is refused and a sixth waits, take at most twice the instructions of ipcsh, as valgrind counts: they don't
+# vary with what else the machine does, as times do.
 explains_in_time() {
     {
         printf 'client alice 100 10\nclient bob 200 20\nalice msgget 5 01600\nalice msgget 6 01666\n'
-        seq 50000 | awk '{
+        seq 5000 | awk '{
             print "bob msgget 5 0600\nbob msgsnd 0 1 t:x 0\nbob msgrcv 1 10 0 0\nalice msgsnd 1 1 t:x 0\nalice getval 0 0\nalice stat q 1" }'
     } >"$scratch/long.ipcsh"
-    plain=
-    explained=
-    for run in 1 2 3 4 5; do
-        user_time "$(program_to_run ipcsh_cli)" "$scratch/long.ipcsh" || return 1
-        plain=$(least $taken $plain)
-        user_time "$(program_to_run ipcsh_explain)" "$scratch/long.ipcsh" || return 1
-        explained=$(least $taken $explained)
-    done
-    why="it takes $explained ms of user time, and ipcsh $plain ms"
-    printf '%s\n' "$why" >"$scratch/times"
-    [ "$explained" -le $((2 * plain)) ]
+    plain=$(instructions_of ipcsh_cli "$scratch/long.ipcsh")
+    explained=$(instructions_of ipcsh_explain "$scratch/long.ipcsh")
+    why="it takes $explained instructions, and ipcsh $plain"
+    [ "${plain:-0}" -gt 0 ] && [ "${explained:-0}" -gt 0 ] && [ "$explained" -le $((2 * plain)) ]
 }
 
-# user_time PROGRAM SCRIPT: sets `taken`, in milliseconds.
-user_time() {
-    taken=$( ("$1" <"$2" >/dev/null && times) |
-        awk 'NR == 2 { split($1, part, /[ms]/); printf "%d", (part[1] * 60 + part[2]) * 1000 }')
-    [ -n "$taken" ]
+# instructions_of CRATE SCRIPT
+instructions_of() {
+    valgrind --tool=callgrind --callgrind-out-file=/dev/null "$(program_to_run "$1")" <"$2" 2>&1 >/dev/null | sed -n 's/.*Collected : //p'
 }
-
-least() { printf '%s\n' "$@" | sort -n | head -n 1; }
