@@ -134,13 +134,8 @@ explains_in_time() {
         seq 5000 | awk '{
             print "bob msgget 5 0600\nbob msgsnd 0 1 t:x 0\nbob msgrcv 1 10 0 0\nalice msgsnd 1 1 t:x 0\nalice getval 0 0\nalice stat q 1" }'
     } >"$scratch/long.ipcsh"
-    plain=$(instructions_of ipcsh_cli "$scratch/long.ipcsh")
-    explained=$(instructions_of ipcsh_explain "$scratch/long.ipcsh")
+    plain=$(instructions_of "$(program_of ipcsh_cli)" <"$scratch/long.ipcsh")
+    explained=$(instructions_of "$(program_of ipcsh_explain)" <"$scratch/long.ipcsh")
     why="it takes $explained instructions, and ipcsh $plain"
     [ "${plain:-0}" -gt 0 ] && [ "${explained:-0}" -gt 0 ] && [ "$explained" -le $((2 * plain)) ]
-}
-
-# instructions_of CRATE SCRIPT
-instructions_of() {
-    valgrind --tool=callgrind --callgrind-out-file=/dev/null "$(program_to_run "$1")" <"$2" 2>&1 >/dev/null | sed -n 's/.*Collected : //p'
 }

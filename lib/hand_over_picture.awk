@@ -1,7 +1,5 @@
 # A picture of one task in rows `TASK WAY CLIENTS MEDIAN LOWER UPPER`: a message that is handed over between two clients. Nanoseconds a call
 # upwards, on a linear scale, and the number of clients to the right. Each way has a mark and a stroke of its own.
-#
-#   awk -f lib/hand_over_picture.awk docs/threads.rows >docs/hand-over.svg
 BEGIN { number["service"] = 1; number["mutex"] = 2; number["kernel"] = 3 }
 
 $1 == "hand-over" && $2 in number {
@@ -11,7 +9,6 @@ $1 == "hand-over" && $2 in number {
 
 function across(i) { return 90 + (i - 1) * 120 }
 function up(time) { return 356 - time / 3500 * 260 }
-function text(x, y, anchor, words) { printf "<text x=\"%.1f\" y=\"%.1f\" text-anchor=\"%s\">%s</text>\n", x, y, anchor, words }
 
 function mark(way, x, y) {
     if (way == 1) printf "<circle cx=\"%.1f\" cy=\"%.1f\" r=\"5\" fill=\"%s\"/>\n", x, y, colour[1]

@@ -1,7 +1,5 @@
 # A picture of rows `TASK WAY CLIENTS MEDIAN LOWER UPPER`: what the calls of one client take by the service, and by the kernel. Nanoseconds a
 # call to the right, on a linear scale; a pair of bars for each task.
-#
-#   awk -f lib/threads_words.awk -f lib/one_client_picture.awk docs/threads.rows >docs/one-client.svg
 $3 == 1 && $1 !~ /^(message-8192|hand-over|one-queue|one-counter|one-lock)$/ && ($2 == "service" || $2 == "kernel") {
     if (!($1 in known)) { known[$1] = 1; tasks[++count] = $1 }
     median[$1, $2] = $4
@@ -9,7 +7,6 @@ $3 == 1 && $1 !~ /^(message-8192|hand-over|one-queue|one-counter|one-lock)$/ && 
 }
 
 function wide(time) { return time / scale * 360 }
-function text(x, y, anchor, words) { printf "<text x=\"%.1f\" y=\"%.1f\" text-anchor=\"%s\">%s</text>\n", x, y, anchor, words }
 
 function bar(y, way, time, fill) {
     printf "<rect x=\"220\" y=\"%d\" width=\"%.1f\" height=\"12\" fill=\"%s\" stroke=\"%s\"/>\n", y, wide(time), fill, colour[way]

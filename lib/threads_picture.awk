@@ -1,8 +1,6 @@
 # A picture of rows `TASK WAY CLIENTS MEDIAN LOWER UPPER`, as SVG: for each task a panel, with a line for each way from 1 to 64 clients, each
 # way with a mark and a stroke of its own. Both axes are logarithmic: clients from left to right, nanoseconds a call upwards. With `objects`
 # it draws some of the tasks: `own`, clients at objects of their own, or `one`, all at the same.
-#
-#   awk -v objects=one -f lib/threads_words.awk -f lib/threads_picture.awk docs/threads.rows >docs/one-object.svg
 function keep(task, way, clients, time) {
     if (!(task in known)) { known[task] = 1; tasks[++count] = task }
     median[task, way, clients] = time
@@ -34,7 +32,6 @@ function line_of(task, way,  points, i) {
         mark(way, across(sizes[i]), up(median[task, way, sizes[i]]))
 }
 
-function text(x, y, anchor, words) { printf "<text x=\"%.1f\" y=\"%.1f\" text-anchor=\"%s\">%s</text>\n", x, y, anchor, words }
 
 function panel(task,  i, time) {
     text(left + 50, top + 10, "start", task)

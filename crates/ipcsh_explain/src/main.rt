@@ -93,10 +93,10 @@ fn explain_alone<R: Files + Input + Print + AllocGlobal>(
     script: &Option<String>,
 ) -> Result<u8, Failure> {
     match script {
-        Some(path) => match fs::read(rt, path.as_str()) {
-            Ok(script) => print(rt, explain(rt.alloc(), &mut script.as_slice())?),
-            Err(error) => Err(Failure::File(error)),
-        },
+        Some(_) => print(
+            rt,
+            explain(rt.alloc(), &mut script_of(rt, script)?.as_slice())?,
+        ),
         None => print(rt, explain(rt.alloc(), &mut rt.reader())?),
     }
 }

@@ -1,6 +1,6 @@
 //! Who may call at the end of a run, and what is there.
 
-use crate::lines::second_word;
+use crate::lines::name_in;
 use client_rights::Client;
 use ipc_call::{Kind, Memory, Status};
 use ipc_live::{Object, Use};
@@ -105,8 +105,8 @@ struct Names {
 
 impl Names {
     fn add(&mut self, text: &[u8]) -> Result<(), Memory> {
-        let name = str::from_utf8(second_word(text)).unwrap_or("");
-        self.names.push(String::from_str(self.alloc, name)?)?;
+        self.names
+            .push(String::from_str(self.alloc, name_in(text))?)?;
         Ok(())
     }
 }

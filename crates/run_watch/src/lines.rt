@@ -10,10 +10,10 @@ pub(crate) fn behind_first(text: &[u8]) -> &[u8] {
     }
 }
 
-/// The second word of a line.
-pub(crate) fn second_word(text: &[u8]) -> &[u8] {
+/// The name in a line that declares a client, its second word.
+pub(crate) fn name_in(text: &[u8]) -> &str {
     match split_word(behind_first(text)) {
-        Some((word, _)) => word,
-        None => b"",
+        Some((word, _)) => str::from_utf8(word).unwrap_or(""),
+        None => "",
     }
 }

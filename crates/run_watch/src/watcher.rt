@@ -1,7 +1,7 @@
 //! What a run was, collected while it goes on.
 
 use crate::changes::Changes;
-use crate::lines::{behind_first, second_word};
+use crate::lines::{behind_first, name_in};
 use ipc_call::{Memory, Reply, Rule};
 use ipc_space::{Effects, Space};
 use ipc_text::{Command, Line, Reason, print_reply, print_waits};
@@ -78,8 +78,7 @@ impl Watcher {
     }
 
     fn add_lane(&mut self, text: &[u8]) -> Collected {
-        let name = str::from_utf8(second_word(text)).unwrap_or("");
-        let name = String::from_str(self.alloc, name)?;
+        let name = String::from_str(self.alloc, name_in(text))?;
         let number = u32::try_from(self.lanes.len()).unwrap_or(u32::MAX);
         self.lanes.push(Lane::new(self.alloc, number, name))?;
         Ok(())
@@ -118,12 +117,10 @@ impl Watcher {
             }
             None => {
                 print_waits(&mut row, effects.place, self.name(client))?;
+                self.begin_wait(client, place, row.as_str())?;
                 Mark::Waits
             }
         };
-        if effects.own.is_none() {
-            self.begin_wait(client, place, row.as_str())?;
-        }
         let call = Call {
             place,
             mark,
