@@ -20,7 +20,7 @@ use Rattle.ipc_combiner.specs.States.{Records}
 abbrev Known : Type 0
 Known = Work Entry (ℕ × Call) Reply
 
-further : (v u w : Known) → IsFurther v u → IsFurther u w → IsFurther v w
+pub further : (v u w : Known) → IsFurther v u → IsFurther u w → IsFurther v w
 further v u w a b = record {
   stage = b.stage ∙ a.stage;
   posts = b.posts ∙ a.posts;
@@ -65,7 +65,7 @@ met_one u c = record {
 
 -- it tried to combine
 module _ {g : Ghosts Shared Entry (ℕ × Call) Reply} (list : Records) (u w : Joined Shared Entry (ℕ × Call) Reply g) where
-  combined : (pass : Pass) → HasCombined list u w pass → IsFurther (work u) (work w)
+  pub combined : (pass : Pass) → HasCombined list u w pass → IsFurther (work u) (work w)
   combined Passed did = record {
     stage = did.1.0;
     posts = did.1.1;
@@ -78,6 +78,3 @@ module _ {g : Ghosts Shared Entry (ℕ × Call) Reply} (list : Records) (u w : J
     met = λ r is. subst (IsOn r) (sym did.0.met) is;
   }
   combined (Busy c) did = subst (λ z. IsFurther (work u) z) (sym did.2) (met_one (work u) c)
-
-  pub combined_further : (v : Known) (pass : Pass) → IsFurther v (work u) → HasCombined list u w pass → IsFurther v (work w)
-  combined_further v pass is did = further v (work u) (work w) is (combined pass did)

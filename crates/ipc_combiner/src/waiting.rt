@@ -2,19 +2,20 @@
 ghost use Rattle.std.specs.Prelude.{◌≡◌};
 ghost use Rattle.pub_rule.specs.WorkSteps.{asking};
 ghost use Rattle.pub_list.specs.Clients.{work};
-ghost use Rattle.ipc_combiner.specs.Asking.{HasCalled};
+ghost use Rattle.ipc_combiner.specs.Asking.{HasCalled, IsFurther};
 ghost use Rattle.ipc_combiner.specs.States.{IsOf};
 
-use crate::calls::Polled;
-use crate::states::{Idle, Service};
+use crate::calls::{Polled, Seen};
+use crate::states::{Idle, InFlight, Service};
 use crossbeam_utils::Backoff;
 use ipc_call::{Call, Reply};
 use std::sync::Wait;
 
 impl Idle {
-    /// Posts a call at a time in seconds, and combines and looks at its own record until the call has ended.
-    /// It spins, and then yields the processor, while another client combines or the call waits. It may never
-    /// return: a call that waits ends by another client's call alone.
+    /// Posts a call at a time in seconds, and combines and looks at its own record until the call has ended. A call that
+    /// waits is in the history, so its client only looks from then on. It spins, and then yields the processor, while
+    /// another client combines or the call waits. It may never return: a call that waits ends by another client's call
+    /// alone.
     pub fn call<R: Wait>(self, rt: &R, service: &Service, now: u64, call: Call) -> (Idle, Reply)
         requires { IsOf service.now.list self.joined }
         ensures service { IsOf service.now.list result.0.joined }
@@ -23,14 +24,32 @@ impl Idle {
     {
         let mut flight = self.post(service, now, call);
         let backoff = Backoff::new();
+        let mut waits = false;
         for _ in rt.forever() {
-            flight.combine(service);
+            flight.help(service, waits);
             match flight.poll(service) {
                 Polled::Done(idle, reply) => return (idle, reply),
-                Polled::Still(still, _) => flight = still,
+                Polled::Still(still, seen) => {
+                    flight = still;
+                    waits = matches!(seen, Seen::Parked);
+                }
             }
             backoff.snooze();
         }
         unreachable!()
+    }
+}
+
+impl InFlight {
+    // Tries once to combine, unless the call waits.
+    fn help(&mut self, service: &Service, waits: bool)
+        requires { IsOf service.now.list self.old.joined }
+        ensures service { IsOf service.now.list self.new.joined }
+        ensures client { self.new.joined.client ≡ self.old.joined.client }
+        ensures further { IsFurther (work self.old.joined) (work self.new.joined) }
+    {
+        if !waits {
+            self.combine(service);
+        }
     }
 }
