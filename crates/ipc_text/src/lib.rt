@@ -22,7 +22,7 @@ pub use calls::{call_of, kind_named};
 pub use commands::{Command, command_of};
 pub use grammar::{client_of, clock_of, limit_of};
 pub use ipc_commands::Part;
-pub use ipc_words::{Line, Pending, is_plain, split_word};
+pub use ipc_words::{Line, is_plain, split_word};
 pub use lists::{Item, items_of};
 pub use names::Name;
 pub use reasons::Reason;

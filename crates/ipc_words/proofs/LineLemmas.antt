@@ -1,11 +1,13 @@
 -- Lines whose bytes come one after the other.
-use Rattle.std.proofs.Common.{◌≡◌, ℕ, ◌-◌, ◌<◌, ◌≤◌, ◌⊎◌, Bool, true, false, cond, List, [], ◌∷◌, ◌++◌, length, take, arith, refl, ap, sym, zero, suc, inl, inr, ◌∙◌, length-append, append_assoc}
+use Rattle.std.proofs.Common.{◌≡◌, ℕ, ◌+◌, ◌-◌, ◌<◌, ◌≤◌, ◌⊎◌, Bool, true, false, cond, List, [], ◌∷◌, ◌++◌, length, take, arith, refl, ap, sym, zero, suc, inl, inr, ◌∙◌, min, subst, append_assoc}
 use Rattle.std.proofs.lemmas.Bool.Decides.{nat_tests}
 use Rattle.std.proofs.lemmas.Grind.{common_steps}
-use Rattle.std.proofs.lemmas.List.{append-nil, length-take-le, map-append, take-append-le, take_all}
+use Rattle.std.proofs.lemmas.List.{append-nil, length-take-le, map-append, take_min, take_all}
 use Rattle.std.proofs.lemmas.Bool.{cases_lt}
-use Rattle.std.specs.Prelude.{◌==◌, map, Option, None, slice_index}
-use Rattle.ipc_words.specs.Lines.{Split, complete_lines, last_lines, lines_of, onto, onto_first, split, whole_line, within_limit, without_return}
+use Rattle.std.proofs.Math.Seq.{take-append-add}
+use Rattle.std.specs.Prelude.{◌==◌, ◌&&◌, not, map, Option, None, Some, MatchOption, slice_index}
+use Rattle.memchr.specs.Find.{IsFirstByte, is_byte}
+use Rattle.ipc_words.specs.Lines.{Split, is_line, complete_lines, last_lines, lines_of, onto, onto_first, split, whole_line, within_limit, without_return}
 
 -- one line
 
@@ -44,21 +46,18 @@ kept_last_if line (inr short) = ap within_limit (take_all 65538 line short)
 pub kept_last : (line : List ℕ) → within_limit (take 65538 line) ≡ within_limit line
 kept_last line = kept_last_if line (cases_lt 65538 (length line))
 
--- a byte more, and the same for each bound in place of 65538
-more_kept : (n : ℕ) (line : List ℕ) (b : ℕ) → take n (take n line ++ b ∷ []) ≡ take n (line ++ b ∷ [])
-more_kept zero line b = refl
-more_kept (suc n) [] b = refl
-more_kept (suc n) (c ∷ cs) b = ap (λ (xs : List ℕ). c ∷ xs) (more_kept n cs b)
+-- what is kept where more bytes come
+pub extend_kept : (line bytes : List ℕ) (room : ℕ) → length line + room ≡ 65538 → line ++ take (min room (length bytes)) bytes ≡ take 65538 (line ++ bytes)
+extend_kept line bytes room full =
+    ap (λ (bs : List ℕ). line ++ bs) (take_min room bytes) ∙ sym (take-append-add line bytes room) ∙ ap (λ (n : ℕ). take n (line ++ bytes)) full
 
--- a byte more that is kept, and one that isn't
-pub push_kept : (n : ℕ) (line : List ℕ) (b : ℕ) → length line < n → line ++ b ∷ [] ≡ take n (line ++ b ∷ [])
-push_kept n line b h = let e = length-append line (b ∷ []) in sym (take_all n (line ++ b ∷ []) (omega (arith, e)))
+more_kept : (n : ℕ) (line bytes : List ℕ) → take n (take n line ++ bytes) ≡ take n (line ++ bytes)
+more_kept zero line bytes = refl
+more_kept (suc n) [] bytes = refl
+more_kept (suc n) (c ∷ cs) bytes = ap (λ (xs : List ℕ). c ∷ xs) (more_kept n cs bytes)
 
-pub push_past : (n : ℕ) (line : List ℕ) (b : ℕ) → length line ≡ n → line ≡ take n (line ++ b ∷ [])
-push_past n line b h = sym (take-append-le n line (b ∷ []) (omega arith) ∙ take_all n line (omega arith))
-
-pub kept_more : (line : List ℕ) (b : ℕ) → take 65538 (take 65538 line ++ b ∷ []) ≡ take 65538 (line ++ b ∷ [])
-kept_more line b = more_kept 65538 line b
+pub kept_more : (line bytes : List ℕ) → take 65538 (take 65538 line ++ bytes) ≡ take 65538 (line ++ bytes)
+kept_more line bytes = more_kept 65538 line bytes
 
 -- the lines of a text with a line feed more
 
@@ -97,6 +96,62 @@ one_byte_if false b h = refl
 pub split_byte : (text : List ℕ) (b : ℕ) → (b ≡ 10 → ⊥) → split (text ++ b ∷ []) ≡ record { whole = (split text).whole; rest = (split text).rest ++ b ∷ [] }
 split_byte [] b h = let no : (b == 10) ≡ false = grind (arith, nat_tests) in one_byte_if (b == 10) b no
 split_byte (c ∷ cs) b h = ap (onto c) (split_byte cs b h) ∙ grown_onto_if (c == 10) b c (split cs)
+
+-- what a search for a line feed tells
+
+not_true : (b : Bool) → ¬ (b ≡ true) → not b ≡ true
+not_true true h = absurd (h refl)
+not_true false h = refl
+
+pub no_feed : (text : List ℕ) (n : ℕ) → ((k : ℕ) → k < n → ¬ ((slice_index text k == 10) ≡ true)) → n ≤ length text → is_line (take n text) ≡ true
+no_feed text zero h w = refl
+no_feed [] (suc n) h w = refl
+no_feed (b ∷ bs) (suc n) h w =
+    let here = not_true (b == 10) (h 0 (omega arith)) in
+    let more = no_feed bs n (λ k l. h (suc k) (omega arith)) (omega arith) in
+    (λ i. here i && more i)
+
+-- a text that begins with a line, and one without a line feed
+
+onto_if : (feed : Bool) (more : Bool) (b : ℕ) (s t : Split) → (not feed && more) ≡ true → cond feed s t ≡ t
+onto_if true more b s t h = absurd (let e : false ≡ true = h in cc)
+onto_if false more b s t h = refl
+
+pub and_right : (a b : Bool) → (a && b) ≡ true → b ≡ true
+and_right true b h = h
+and_right false b h = absurd (let e : false ≡ true = h in cc)
+
+pub and_left : (a b : Bool) → (a && b) ≡ true → a ≡ true
+and_left true b h = refl
+and_left false b h = absurd (let e : false ≡ true = h in cc)
+
+pub split_first : (line others : List ℕ) → is_line line ≡ true → split (line ++ 10 ∷ others) ≡ record { whole = line ∷ (split others).whole; rest = (split others).rest }
+split_first [] others h = refl
+split_first (b ∷ bs) others h =
+    ap (onto b) (split_first bs others (and_right (not (b == 10)) (is_line bs) h))
+    ∙ onto_if (b == 10) (is_line bs) b _ _ h
+
+pub split_none : (text : List ℕ) → is_line text ≡ true → split text ≡ record { whole = []; rest = text }
+split_none [] h = refl
+split_none (b ∷ bs) h =
+    ap (onto b) (split_none bs (and_right (not (b == 10)) (is_line bs) h)) ∙ onto_if (b == 10) (is_line bs) b _ _ h
+
+pub feed_tells : (text : List ℕ) (r : Option ℕ) → IsFirstByte (is_byte 10) text r → MatchOption r (is_line text ≡ true) (λ place. is_line (take place text) ≡ true)
+feed_tells text None h = subst (λ (l : List ℕ). is_line l ≡ true) (take_all (length text) text (omega arith)) (no_feed text (length text) (λ k l. h k (omega arith) l) (omega arith))
+feed_tells text (Some place) h = no_feed text place (λ k l. h.0.before k (omega arith) l) (let high = h.0.high in omega (arith, high))
+
+-- and with bytes more that have no line feed
+not_feed : (b : ℕ) → not (b == 10) ≡ true → b ≡ 10 → ⊥
+not_feed b h e = grind (arith, nat_tests)
+
+pub split_line_more : (text line : List ℕ) → is_line line ≡ true → split (text ++ line) ≡ record { whole = (split text).whole; rest = (split text).rest ++ line }
+split_line_more text [] h = ap split (append-nil text) ∙ (λ i. record { whole = (split text).whole; rest = sym (append-nil (split text).rest) i })
+split_line_more text (b ∷ bs) h =
+    let other = not_feed b (and_left (not (b == 10)) (is_line bs) h) in
+    ap split (sym (append_assoc text (b ∷ []) bs))
+    ∙ split_line_more (text ++ b ∷ []) bs (and_right (not (b == 10)) (is_line bs) h)
+    ∙ ap (λ (s : Split). record { whole = s.whole; rest = s.rest ++ bs }) (split_byte text b other)
+    ∙ (λ i. record { whole = (split text).whole; rest = append_assoc (split text).rest (b ∷ []) bs i })
 
 -- a text's complete lines stay when more comes
 

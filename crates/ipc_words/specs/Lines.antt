@@ -1,11 +1,16 @@
 -- How a text is cut into lines (the script language is the project's own).
-use Rattle.std.specs.Prelude.{ℕ, ◌-◌, ◌==◌, List, [], ◌∷◌, ◌++◌, length, take, map, Option, Some, None, if◌then◌else◌, nat_le, slice_index}
+use Rattle.std.specs.Prelude.{ℕ, ◌-◌, ◌==◌, Bool, not, List, [], ◌∷◌, ◌++◌, length, take, map, Option, Some, None, if◌then◌else◌, nat_le, slice_index}
+use Rattle.std.specs.List.{list_all}
+
+-- a text within a line, without a line feed (byte 10)
+abbrev pub is_line : List ℕ → Bool
+is_line text = list_all (λ b. not (b == 10)) text
 
 -- the longest line, in bytes
 abbrev pub longest_line : ℕ
 longest_line = 65536
 
--- the lines that are ended by a line feed (byte 10), without it, and what follows the last of them
+-- the lines that are ended by a line feed, without it, and what follows the last of them
 pub record Split : Type 0 where
   pub whole : List (List ℕ)
   pub rest : List ℕ

@@ -7,6 +7,6 @@ mod lines;
 mod numbers;
 mod words;
 
-pub use lines::{Line, Pending};
+pub use lines::{Line, Pending, last_line, split_line, whole_line};
 pub use numbers::{number, number_16, number_32, numeral, signed_16, signed_32, signed_64};
 pub use words::{is_plain, split_field, split_word};

@@ -1,9 +1,10 @@
 // Lines of a script, whose bytes come one after the other.
 
-ghost use Rattle.std.specs.Prelude.{◌≡◌, ◌↔◌, [], ◌∷◌, ◌++◌, take, IsTrue, OnErr, OnOk};
+ghost use Rattle.std.specs.Prelude.{◌≡◌, ◌↔◌, ◌<◌, [], ◌∷◌, ◌++◌, true, length, slice_index, take, IfSome, IsTrue, MatchOption, OnErr, OnOk};
 ghost use Rattle.ipc_words.specs.LineText.{content_of};
-ghost use Rattle.ipc_words.specs.Lines.{whole_line, within_limit as line_within_limit};
+ghost use Rattle.ipc_words.specs.Lines.{is_line, whole_line as line_whole, within_limit as line_within_limit};
 
+use memchr::memchr;
 use std::alloc::{AllocError, Global};
 use std::marker::Model;
 
@@ -50,15 +51,15 @@ impl Pending {
         }
     }
 
-    /// One more byte of the line, kept where it is needed. `AllocError` comes where memory was refused, and leaves the
+    /// More bytes of the line, kept where they are needed. `AllocError` comes where memory was refused, and leaves the
     /// line as it was.
-    pub fn push(&mut self, byte: u8) -> Result<(), AllocError>
-        ensures ok { OnOk result (self.new ≡ take 65538 (self.old ++ byte ∷ [])) }
+    pub fn extend(&mut self, bytes: &[u8]) -> Result<(), AllocError>
+        ensures ok { OnOk result (self.new ≡ take 65538 (self.old ++ bytes.now)) }
         ensures err { OnErr result (self.new ≡ self.old) }
     {
-        if self.kept.len() < KEPT {
-            self.kept.push(byte)?;
-        }
+        let room = KEPT - self.kept.len();
+        self.kept
+            .extend_from_slice(&bytes[..room.min(bytes.len())])?;
         Ok(())
     }
 
@@ -76,25 +77,52 @@ impl Pending {
         self.kept.is_empty()
     }
 
-    /// What the line says, where a line feed has ended it: a carriage return before it isn't part of the line.
+    /// What the line says, where a line feed has ended it.
     pub fn whole(&self) -> Line<'_>
-        ensures { content_of result ≡ whole_line self.now }
+        ensures { content_of result ≡ line_whole self.now }
     {
-        match self.kept.as_slice() {
-            [line @ .., b'\r'] => within_limit(line),
-            line => within_limit(line),
-        }
+        whole_line(self.kept.as_slice())
     }
 
-    /// What the line says, where the script has ended: a carriage return at its end is part of it.
+    /// What the line says, where the script has ended.
     pub fn last(&self) -> Line<'_>
         ensures { content_of result ≡ line_within_limit self.now }
     {
-        within_limit(self.kept.as_slice())
+        last_line(self.kept.as_slice())
     }
 }
 
-fn within_limit(line: &[u8]) -> Line<'_>
+/// The first line without its line feed, and what follows that; `None` where there is no line feed.
+pub fn split_line(text: &[u8]) -> Option<(&[u8], &[u8])>
+    ensures line { MatchOption result (is_line text.now ≡ true) (λ x. is_line x.0.now ≡ true) }
+    ensures parts { IfSome result (λ x. text.now ≡ x.0.now ++ 10 ∷ x.1.now) }
+    ensures shorter { IfSome result (λ x. length x.1.now < length text.now) }
+{
+    let place = line_end(text)?;
+    Some((&text[..place], &text[place + 1..]))
+}
+
+// Where the first line feed stands.
+fn line_end(text: &[u8]) -> Option<usize>
+    ensures line { MatchOption result (is_line text.now ≡ true) (λ place. is_line (take place text.now) ≡ true) }
+    ensures feed { IfSome result (λ place. slice_index text.now place ≡ 10) }
+    ensures within { IfSome result (λ place. place < length text.now) }
+{
+    memchr(b'\n', text)
+}
+
+/// What a line says that a line feed has ended: a carriage return before it isn't part of the line.
+pub fn whole_line(line: &[u8]) -> Line<'_>
+    ensures { content_of result ≡ line_whole line.now }
+{
+    match line {
+        [line @ .., b'\r'] => last_line(line),
+        line => last_line(line),
+    }
+}
+
+/// What a line says that the end of the script has ended: a carriage return at its end is part of it.
+pub fn last_line(line: &[u8]) -> Line<'_>
     ensures { content_of result ≡ line_within_limit line.now }
 {
     if line.len() > LONGEST {

@@ -1,15 +1,15 @@
--- What one more byte and one more line do to what was read.
-use Rattle.std.proofs.Common.{arith, ◌+◌, ◌<◌, ◌≤◌, get_or, ◌≡◌, ℕ, List, [], ◌∷◌, ◌++◌, length, take, map, refl, sym, ap, subst, ◌∙◌, append_assoc, append-nil}
+-- What more bytes and one more line do to what was read.
+use Rattle.std.proofs.Common.{arith, ◌≡◌, true, ℕ, List, [], ◌∷◌, ◌++◌, length, take, map, refl, sym, ap, subst, ◌∙◌, append_assoc, append-nil}
 use Rattle.std.specs.Prelude.{Option, fold, string_bytes}
-use Rattle.std.proofs.lemmas.List.{map_push, map-append, nil_from_length, length-take, take_more, take_all}
+use Rattle.std.proofs.lemmas.List.{map_push, map-append, nil_from_length, length-take}
 use Rattle.std.proofs.lemmas.List.Sums.{fold_push, fold-append}
-use Rattle.ipc_words.specs.Lines.{Split, split, whole_line, within_limit, last_lines, complete_lines, lines_of}
+use Rattle.ipc_words.specs.Lines.{Split, is_line, split, whole_line, within_limit, last_lines, complete_lines, lines_of}
 use Rattle.ipcsh.specs.Output.{Answers, Input, Printed, after_line, answered, lines_in}
 use Rattle.ipcsh.specs.declared.input.ScriptInput.{ScriptInput}
 use Rattle.ipcsh.specs.Inputs.{HasRead, Takes}
 use Rattle.ipcsh.specs.Runs.{LeadTo}
 use Rattle.ipcsh.specs.Session.{Session, fresh_session}
-use Rattle.ipc_words.proofs.LineLemmas.{kept_whole, kept_last, kept_more, split_feed, split_byte, complete_more}
+use Rattle.ipc_words.proofs.LineLemmas.{kept_whole, kept_last, kept_more, split_feed, split_line_more, complete_more}
 
 -- a line that was answered leads on
 pub LeadTo-line : (lines : List (Option (List ℕ))) (s : Session) (line : Option (List ℕ)) (new : Session) (front old rows : List ℕ)
@@ -25,12 +25,12 @@ LeadTo-line lines s line new front old rows h a =
       }),
     )
 
-pub kept_byte : (text : List ℕ) (b : ℕ) (pending new : List ℕ) → (b ≡ 10 → ⊥) → pending ≡ take 65538 (split text).rest → new ≡ take 65538 (pending ++ b ∷ []) → new ≡ take 65538 (split (text ++ b ∷ [])).rest
-kept_byte text b pending new other kept pushed =
-    pushed ∙ ap (λ (bs : List ℕ). take 65538 (bs ++ b ∷ [])) kept ∙ kept_more (split text).rest b ∙ ap (λ (s : Split). take 65538 s.rest) (sym (split_byte text b other))
+pub kept_line : (text line pending new : List ℕ) → is_line line ≡ true → pending ≡ take 65538 (split text).rest → new ≡ take 65538 (pending ++ line) → new ≡ take 65538 (split (text ++ line)).rest
+kept_line text line pending new plain kept is =
+    is ∙ ap (λ (bs : List ℕ). take 65538 (bs ++ line)) kept ∙ kept_more (split text).rest line ∙ ap (λ (s : Split). take 65538 s.rest) (sym (split_line_more text line plain))
 
-pub complete_byte : (text : List ℕ) (b : ℕ) → (b ≡ 10 → ⊥) → complete_lines text ≡ complete_lines (text ++ b ∷ [])
-complete_byte text b other = ap (λ (s : Split). map whole_line s.whole) (sym (split_byte text b other))
+pub complete_line : (text line : List ℕ) → is_line line ≡ true → complete_lines text ≡ complete_lines (text ++ line)
+complete_line text line plain = ap (λ (s : Split). map whole_line s.whole) (sym (split_line_more text line plain))
 
 pub kept_feed : (text new : List ℕ) → new ≡ [] → new ≡ take 65538 (split (text ++ 10 ∷ [])).rest
 kept_feed text new e = e ∙ ap (λ (s : Split). take 65538 s.rest) (sym (split_feed text))
@@ -47,7 +47,7 @@ pub last_is : (text pending : List ℕ) (line : Option (List ℕ)) → pending �
 last_is text pending line kept e = e ∙ ap within_limit kept ∙ kept_last (split text).rest
 
 -- the last line, where there is something
-last_line : (rest : List ℕ) → (rest ≡ [] → ⊥) → last_lines rest ≡ within_limit rest ∷ []
+pub last_line : (rest : List ℕ) → (rest ≡ [] → ⊥) → last_lines rest ≡ within_limit rest ∷ []
 last_line [] some = absurd (some refl)
 last_line (b ∷ bs) some = refl
 
@@ -99,17 +99,6 @@ LeadTo-more a b p h =
       grown.1,
     )
 
--- one byte more
-pub Takes-byte : (old mid new : ScriptInput) (bytes : List ℕ) (i b : ℕ) → i < length bytes → b ≡ get_or bytes i 0 → Takes old (take i bytes) mid → Takes mid (b ∷ []) new → Takes old (take (i + 1) bytes) new
-Takes-byte old mid new bytes i b within is before byte =
-    λ text written h.
-    let joined : (text ++ take i bytes) ++ b ∷ [] ≡ text ++ take (i + 1) bytes =
-    append_assoc text (take i bytes) (b ∷ []) ∙ ap (λ (bs : List ℕ). text ++ bs) (ap (λ (x : ℕ). take i bytes ++ x ∷ []) is ∙ sym (take_more bytes i 0 within)) in
-    subst (λ (bs : List ℕ). HasRead bs written new) joined (byte (text ++ take i bytes) written (before text written h))
-
-pub Takes-all : (old new : ScriptInput) (bytes : List ℕ) (n : ℕ) → length bytes ≤ n → Takes old (take n bytes) new → Takes old bytes new
-Takes-all old new bytes n all h = subst (λ (bs : List ℕ). Takes old bs new) (take_all n bytes all) h
-
 -- a line feed ends the line that was kept
 pub HasRead-feed : (text written : List ℕ) (old new : ScriptInput) (line : Option (List ℕ)) → HasRead text written old → line ≡ whole_line old.pending → new.pending ≡ [] → Answers old.session line new.session (string_bytes old.rows) (string_bytes new.rows) → HasRead (text ++ 10 ∷ []) written new
 HasRead-feed text written old new line h e none a =
@@ -118,3 +107,32 @@ HasRead-feed text written old new line h e none a =
       kept = kept_feed text new.pending none;
       lines = subst (λ (ls : List (Option (List ℕ))). LeadTo ls (record { session = new.session; output = written ++ string_bytes new.rows })) lines (LeadTo-line (complete_lines text) old.session line new.session written (string_bytes old.rows) (string_bytes new.rows) h.lines a);
     }
+
+-- bytes more without a line feed
+pub HasRead-line : (text written line kept : List ℕ) (old : ScriptInput) → is_line line ≡ true → HasRead text written old → kept ≡ take 65538 (old.pending ++ line)
+    → HasRead (text ++ line) written (record { session = old.session; pending = kept; rows = old.rows })
+HasRead-line text written line kept old plain h is = record {
+  kept = kept_line text line old.pending kept plain h.kept is;
+  lines = subst (λ (ls : List (Option (List ℕ))). LeadTo ls (record { session = old.session; output = written ++ string_bytes old.rows })) (complete_line text line plain) h.lines;
+}
+
+-- nothing yet
+pub Takes-none : (i : ScriptInput) → Takes i [] i
+Takes-none i = λ text written h. subst (λ (bs : List ℕ). HasRead bs written i) (sym (append-nil text)) h
+
+-- a front, and then more
+pub Takes-more : (old mid new : ScriptInput) (front more : List ℕ) → Takes old front mid → Takes mid more new → Takes old (front ++ more) new
+Takes-more old mid new front more a b =
+    λ text written h. subst (λ (bs : List ℕ). HasRead bs written new) (append_assoc text front more) (b (text ++ front) written (a text written h))
+
+-- a line that these bytes and a line feed end
+pub Takes-line : (old new : ScriptInput) (bytes : List ℕ) (line : Option (List ℕ)) → is_line bytes ≡ true → line ≡ whole_line (take 65538 (old.pending ++ bytes)) → new.pending ≡ []
+    → Answers old.session line new.session (string_bytes old.rows) (string_bytes new.rows) → Takes old (bytes ++ 10 ∷ []) new
+Takes-line old new bytes line plain is none a = λ text written h.
+    let mid : ScriptInput = record { session = old.session; pending = take 65538 (old.pending ++ bytes); rows = old.rows } in
+    subst (λ (bs : List ℕ). HasRead bs written new) (append_assoc text bytes (10 ∷ []))
+    (HasRead-feed (text ++ bytes) written mid new line (HasRead-line text written bytes mid.pending old plain h refl) is none a)
+
+-- one that has come in one piece
+pub whole_alone : (pending bytes : List ℕ) → pending ≡ [] → whole_line bytes ≡ whole_line (take 65538 (pending ++ bytes))
+whole_alone pending bytes none = sym (kept_whole bytes) ∙ ap (λ (bs : List ℕ). whole_line (take 65538 (bs ++ bytes))) (sym none)

@@ -1,64 +1,44 @@
--- What one more byte and one more line do to a script.
-use Rattle.std.proofs.Common.{arith, ◌≡◌, ℕ, zero, suc, ◌+◌, ◌<◌, ◌≤◌, get_or, List, [], ◌∷◌, ◌++◌, length, map, set, take, refl, sym, ap, subst, ◌∙◌}
-use Rattle.std.specs.Prelude.{Option}
+-- What one more line does to a script.
+use Rattle.std.proofs.Common.{arith, ◌≡◌, ℕ, zero, suc, ◌<◌, get_or, true, List, [], ◌∷◌, ◌++◌, length, map, set, refl, sym, ap, subst, ◌∙◌}
+use Rattle.std.specs.Prelude.{Option, fold}
 use Rattle.std.specs.Global.{Vec}
-use Rattle.std.proofs.lemmas.List.{map-set, take_more, take_all}
-use Rattle.std.proofs.lemmas.List.Sums.{fold_push}
+use Rattle.std.proofs.lemmas.List.{map-set}
 use Rattle.ipc_creds.specs.Credentials.{Credentials}
 use Rattle.ipc_commands.specs.declared.jobs.Job.{Job}
 use Rattle.ipc_commands.specs.declared.parts.Part.{Part}
-use Rattle.ipc_words.specs.Lines.{complete_lines, lines_of, split, whole_line, within_limit}
+use Rattle.ipc_words.specs.Lines.{Split, is_line, last_lines, lines_of, whole_line, within_limit}
 use Rattle.ipcsh.specs.declared.readings.Reading.{Reading}
 use Rattle.ipcsh.specs.declared.readings.Reading.TheVariants as readings
 use Rattle.ipcsh.specs.Output.{CarriesOut, counted}
 use Rattle.ipcsh.specs.Readings.{reading_of}
-use Rattle.ipcsh.specs.Scripts.{IsReady, Planned, after_script_line, begun, nothing_planned, planned, planned_by, with_job}
+use Rattle.ipcsh.specs.Scripts.{IsReady, Planned, after_script_line, begun, planned_by, with_job}
 use Rattle.ipcsh.specs.Session.{Session}
-use Rattle.ipcsh.proofs.InputLemmas.{complete_byte, complete_feed, kept_byte, kept_feed, last_is, lines_with_last, lines_without_last, none_kept, some_kept, whole_is}
+use Rattle.ipc_words.proofs.LineLemmas.{split_first, split_none}
+use Rattle.ipcsh.proofs.InputLemmas.{last_line}
 
--- a front of the text, and what was planned of it
-pub record Has (text pending : List ℕ) (p : Planned) : Type 0 where
-  pub kept : pending ≡ take 65538 (split text).rest
-  pub lines : p ≡ planned (complete_lines text)
+-- the lines of a text with a line feed, and of one with none
+pub lines_next : (rest line others : List ℕ) → rest ≡ line ++ 10 ∷ others → is_line line ≡ true → lines_of rest ≡ whole_line line ∷ lines_of others
+lines_next rest line others e plain =
+    ap lines_of e ∙ ap (λ (s : Split). map whole_line s.whole ++ last_lines s.rest) (split_first line others plain)
 
-planned_more : (lines : List (Option (List ℕ))) (line : Option (List ℕ)) → planned (lines ++ line ∷ []) ≡ after_script_line (planned lines) line
-planned_more lines line = fold_push after_script_line nothing_planned lines line
+pub lines_end : (rest : List ℕ) → is_line rest ≡ true → lines_of rest ≡ last_lines rest
+lines_end rest plain = ap (λ (s : Split). map whole_line s.whole ++ last_lines s.rest) (split_none rest plain)
 
-after_front : (text : List ℕ) (p q : Planned) (line other : Option (List ℕ)) → p ≡ planned (complete_lines text) → line ≡ other → q ≡ after_script_line p line → q ≡ planned (complete_lines text ++ other ∷ [])
-after_front text p q line other lines same step =
-    step ∙ ap (λ (x : Planned). after_script_line x line) lines ∙ ap (after_script_line (planned (complete_lines text))) same ∙ sym (planned_more (complete_lines text) other)
+-- one more line is planned
+pub planned_next : (p q all : Planned) (rest line others : List ℕ) (says : Option (List ℕ)) → rest ≡ line ++ 10 ∷ others → is_line line ≡ true
+    → says ≡ whole_line line → q ≡ after_script_line p says → fold after_script_line p (lines_of rest) ≡ all → fold after_script_line q (lines_of others) ≡ all
+planned_next p q all rest line others says e plain is step h =
+    ap (λ (x : Planned). fold after_script_line x (lines_of others)) (step ∙ ap (after_script_line p) is)
+    ∙ ap (fold after_script_line p) (sym (lines_next rest line others e plain)) ∙ h
 
-one_more : (text : List ℕ) (i b : ℕ) → i < length text → b ≡ get_or text i 0 → take i text ++ b ∷ [] ≡ take (i + 1) text
-one_more text i b within is = ap (λ (x : ℕ). take i text ++ x ∷ []) is ∙ sym (take_more text i 0 within)
+-- the last line is planned, where there is something
+pub planned_last : (p q all : Planned) (rest : List ℕ) (says : Option (List ℕ)) → is_line rest ≡ true → (rest ≡ [] → ⊥)
+    → says ≡ within_limit rest → q ≡ after_script_line p says → fold after_script_line p (lines_of rest) ≡ all → q ≡ all
+planned_last p q all rest says plain some is step h =
+    step ∙ ap (after_script_line p) is ∙ ap (fold after_script_line p) (sym (lines_end rest plain ∙ last_line rest some)) ∙ h
 
-pub Has-byte : (text pending new : List ℕ) (p : Planned) (i b : ℕ) → i < length text → b ≡ get_or text i 0 → (b ≡ 10 → ⊥) → Has (take i text) pending p → new ≡ take 65538 (pending ++ b ∷ []) → Has (take (i + 1) text) new p
-Has-byte text pending new p i b within is other h pushed =
-    let front = take i text in
-    let next : Has (front ++ b ∷ []) new p = record {
-      kept = kept_byte front b pending new other h.kept pushed;
-      lines = h.lines ∙ ap planned (complete_byte front b other);
-    } in
-    subst (λ (bs : List ℕ). Has bs new p) (one_more text i b within is) next
-
-pub Has-feed : (text pending new : List ℕ) (p q : Planned) (line : Option (List ℕ)) (i b : ℕ) → i < length text → b ≡ get_or text i 0 → b ≡ 10 → Has (take i text) pending p → line ≡ whole_line pending → q ≡ after_script_line p line → new ≡ [] → Has (take (i + 1) text) new q
-Has-feed text pending new p q line i b within is feed h whole step none =
-    let front = take i text in
-    let next : Has (front ++ 10 ∷ []) new q = record {
-      kept = kept_feed front new none;
-      lines = after_front front p q line (whole_line (split front).rest) h.lines (whole_is front pending line h.kept whole) step ∙ ap planned (complete_feed front);
-    } in
-    subst (λ (bs : List ℕ). Has bs new q) (ap (λ (x : ℕ). front ++ x ∷ []) (sym feed) ∙ one_more text i b within is) next
-
-pub Has-all : (text pending : List ℕ) (p : Planned) (n : ℕ) → length text ≤ n → Has (take n text) pending p → Has text pending p
-Has-all text pending p n all h = subst (λ (bs : List ℕ). Has bs pending p) (take_all n text all) h
-
-pub planned_whole : (text pending : List ℕ) (p : Planned) → Has text pending p → pending ≡ [] → p ≡ planned (lines_of text)
-planned_whole text pending p h none =
-    h.lines ∙ ap planned (lines_without_last text (none_kept text pending h.kept none))
-
-pub planned_last : (text pending : List ℕ) (p q : Planned) (line : Option (List ℕ)) → Has text pending p → (pending ≡ [] → ⊥) → line ≡ within_limit pending → q ≡ after_script_line p line → q ≡ planned (lines_of text)
-planned_last text pending p q line h some is step =
-    after_front text p q line (within_limit (split text).rest) h.lines (last_is text pending line h.kept is) step ∙ ap planned (lines_with_last text (some_kept text pending h.kept some))
+pub planned_none : (p all : Planned) (rest : List ℕ) → rest ≡ [] → fold after_script_line p (lines_of rest) ≡ all → p ≡ all
+planned_none p all rest none h = ap (λ (bs : List ℕ). fold after_script_line p (lines_of bs)) (sym none) ∙ h
 
 -- a line without a call is carried out as in a run
 pub planned_told : (p : Planned) (reading : Reading) (new : Session) (rows : List ℕ)

@@ -1,9 +1,9 @@
 // A script as it comes in: the line whose end hasn't come, the session, and the rows that wait to be written.
 
-ghost use Rattle.std.specs.Prelude.{◌≡◌, ◌<◌, ◌≤◌, ◌+◌, ◌^◌, ◌++◌, ◌∷◌, [], List, ℕ, OnOk, OnErr, IfErr, length, string_bytes};
+ghost use Rattle.std.specs.Prelude.{◌≡◌, ◌<◌, ◌≤◌, ◌+◌, ◌^◌, ◌++◌, ◌∷◌, [], List, ℕ, true, OnOk, OnErr, IfErr, length, string_bytes};
 ghost use Rattle.std.specs.Io.KnownBytes.{Appends};
 ghost use Rattle.ipcsh.specs.Session.{fresh_session};
-ghost use Rattle.ipc_words.specs.Lines.{lines_of};
+ghost use Rattle.ipc_words.specs.Lines.{is_line, lines_of};
 ghost use Rattle.ipcsh.specs.Runs.{LeadTo};
 ghost use Rattle.ipcsh.specs.Inputs.{HasRead, Takes};
 
@@ -12,7 +12,7 @@ use crate::output::write_bytes;
 use crate::runs::Fault;
 use crate::session::Session;
 use ipc_call::Memory;
-use ipc_text::Pending;
+use ipc_words::{Pending, split_line, whole_line};
 use std::alloc::Global;
 use std::io::Write;
 
@@ -49,26 +49,32 @@ impl ScriptInput {
         ensures takes { OnOk result (Takes self.old bytes.now self.new) }
         ensures lines { OnOk result (self.new.session.lines ≤ self.old.session.lines + length bytes.now) }
     {
-        for b in bytes {
-            self.take_byte(alloc, *b, listener)?;
+        let mut rest = bytes;
+        while let Some((line, others)) = split_line(rest) {
+            self.take_line(alloc, line, listener)?;
+            rest = others;
         }
+        self.pending.extend(rest)?;
         Ok(())
     }
 
-    fn take_byte<L: Listener>(
+    /// Answers the line that these bytes end, whose line feed has come. One that has come in one piece isn't copied.
+    fn take_line<L: Listener>(
         &mut self,
         alloc: Global,
-        b: u8,
+        bytes: &[u8],
         listener: &mut L,
     ) -> Result<(), Memory>
-        requires { self.old.session.lines + 1 < 2 ^ 64 }
-        ensures takes { OnOk result (Takes self.old (b ∷ []) self.new) }
-        ensures lines { OnOk result (self.new.session.lines ≤ self.old.session.lines + 1) }
+        requires lines { self.old.session.lines + 1 < 2 ^ 64 }
+        requires line { is_line bytes.now ≡ true }
+        ensures takes { OnOk result (Takes self.old (bytes.now ++ 10 ∷ []) self.new) }
+        ensures lines { OnOk result (self.new.session.lines ≡ self.old.session.lines + 1) }
     {
-        if b != b'\n' {
-            self.pending.push(b)?;
-            return Ok(());
+        if self.pending.is_empty() {
+            let line = whole_line(bytes);
+            return self.session.answer(alloc, &line, &mut self.rows, listener);
         }
+        self.pending.extend(bytes)?;
         let line = self.pending.whole();
         self.session.answer(alloc, &line, &mut self.rows, listener)?;
         self.pending.clear();

@@ -15,7 +15,8 @@ use crate::session::Session;
 use ipc_call::{Limits, Memory};
 use ipc_commands::Job;
 use ipc_creds::Creds;
-use ipc_text::{Command, Line, Name, Pending};
+use ipc_text::{Command, Line, Name};
+use ipc_words::{last_line, split_line, whole_line};
 use std::alloc::Global;
 use std::io::Read;
 use std::marker::Model;
@@ -91,17 +92,13 @@ fn take_lines<L: Listener>(
     ensures planned { OnOk result (planning.new ≡ planned (lines_of text.now)) }
     ensures ready { OnOk result (IsReady planning.new) }
 {
-    let mut pending = Pending::new(alloc);
-    for b in text {
-        if *b == b'\n' {
-            planning.take_line(alloc, &pending.whole(), listener)?;
-            pending.clear();
-        } else {
-            pending.push(*b)?;
-        }
+    let mut rest = text;
+    while let Some((line, others)) = split_line(rest) {
+        planning.take_line(alloc, &whole_line(line), listener)?;
+        rest = others;
     }
-    if !pending.is_empty() {
-        planning.take_line(alloc, &pending.last(), listener)?;
+    if !rest.is_empty() {
+        planning.take_line(alloc, &last_line(rest), listener)?;
     }
     Ok(())
 }

@@ -4,54 +4,11 @@ use Rattle.std.specs.Prelude.{not, ◌&&◌, ◌==◌, flat_map, codes, filter, 
 use Rattle.std.specs.List.{list_all}
 use Rattle.std.proofs.lemmas.Grind.{flat_map-append}
 use Rattle.std.proofs.lemmas.List.Folds.{list_all-append}
-use Rattle.memchr.specs.Find.{IsFirstByte, is_byte}
-use Rattle.ipc_words.specs.Lines.{Split, onto, onto_first, split}
+use Rattle.ipc_words.proofs.LineLemmas.{and_left, and_right, split_first, split_none}
+use Rattle.ipc_words.specs.Lines.{Split, is_line, onto, onto_first, split}
 use Rattle.row_notes.specs.declared.notes.Note.{Note}
 use Rattle.row_notes.specs.Noted.{Noted, noted}
-use Rattle.row_notes.specs.Merging.{IsExplained, Row, are_lines, below, beyond, explained, explained_rows, is_below, is_end, is_line, is_row, last_notes, line_alone, lines_of_notes, note_line, note_lines, notes_text, row_alone, row_explained}
-
--- what a search for a line feed tells
-
-not_true : (b : Bool) → ¬ (b ≡ true) → not b ≡ true
-not_true true h = absurd (h refl)
-not_true false h = refl
-
-pub no_feed : (text : List ℕ) (n : ℕ) → ((k : ℕ) → k < n → ¬ ((slice_index text k == 10) ≡ true)) → n ≤ length text → is_line (take n text) ≡ true
-no_feed text zero h w = refl
-no_feed [] (suc n) h w = refl
-no_feed (b ∷ bs) (suc n) h w =
-    let here = not_true (b == 10) (h 0 (omega arith)) in
-    let more = no_feed bs n (λ k l. h (suc k) (omega arith)) (omega arith) in
-    (λ i. here i && more i)
-
--- a text that begins with a line, and one without a line feed
-
-onto_if : (feed : Bool) (more : Bool) (b : ℕ) (s t : Split) → (not feed && more) ≡ true → cond feed s t ≡ t
-onto_if true more b s t h = absurd (let e : false ≡ true = h in cc)
-onto_if false more b s t h = refl
-
-and_right : (a b : Bool) → (a && b) ≡ true → b ≡ true
-and_right true b h = h
-and_right false b h = absurd (let e : false ≡ true = h in cc)
-
-and_left : (a b : Bool) → (a && b) ≡ true → a ≡ true
-and_left true b h = refl
-and_left false b h = absurd (let e : false ≡ true = h in cc)
-
-pub split_first : (line others : List ℕ) → is_line line ≡ true → split (line ++ 10 ∷ others) ≡ record { whole = line ∷ (split others).whole; rest = (split others).rest }
-split_first [] others h = refl
-split_first (b ∷ bs) others h =
-    ap (onto b) (split_first bs others (and_right (not (b == 10)) (is_line bs) h))
-    ∙ onto_if (b == 10) (is_line bs) b _ _ h
-
-pub split_none : (text : List ℕ) → is_line text ≡ true → split text ≡ record { whole = []; rest = text }
-split_none [] h = refl
-split_none (b ∷ bs) h =
-    ap (onto b) (split_none bs (and_right (not (b == 10)) (is_line bs) h)) ∙ onto_if (b == 10) (is_line bs) b _ _ h
-
-pub feed_tells : (text : List ℕ) (r : Option ℕ) → IsFirstByte (is_byte 10) text r → MatchOption r (is_line text ≡ true) (λ place. is_line (take place text) ≡ true)
-feed_tells text None h = subst (λ (l : List ℕ). is_line l ≡ true) (take_all (length text) text (omega arith)) (no_feed text (length text) (λ k l. h k (omega arith) l) (omega arith))
-feed_tells text (Some place) h = no_feed text place (λ k l. h.0.before k (omega arith) l) (let high = h.0.high in omega (arith, high))
+use Rattle.row_notes.specs.Merging.{IsExplained, Row, are_lines, below, beyond, explained, explained_rows, is_below, is_end, is_row, last_notes, line_alone, lines_of_notes, note_line, note_lines, notes_text, row_alone, row_explained}
 
 -- the lines of a note
 

@@ -1,7 +1,7 @@
 -- Rows with notes between them.
 use Rattle.std.specs.Prelude.{◌≡◌, ℕ, ◌==◌, Bool, true, false, not, ◌&&◌, nat_eq, List, [], ◌∷◌, ◌++◌, codes, filter, flat_map, if◌then◌else◌}
 use Rattle.std.specs.List.{list_all, starts_with}
-use Rattle.ipc_words.specs.Lines.{split}
+use Rattle.ipc_words.specs.Lines.{is_line, split}
 use Rattle.row_notes.specs.declared.notes.Head.{Head}
 use Rattle.row_notes.specs.declared.notes.Head.TheVariants.{End}
 use Rattle.row_notes.specs.Noted.{Noted, head_text}
@@ -64,10 +64,6 @@ row_alone r = line_alone r.line
 
 abbrev pub row_explained : Row → List ℕ
 row_explained r = row_alone r ++ note_lines r.notes
-
--- a text within a line
-abbrev pub is_line : List ℕ → Bool
-is_line text = list_all (λ b. not (b == 10)) text
 
 abbrev pub are_lines : List (List ℕ) → Bool
 are_lines texts = list_all is_line texts

@@ -1,6 +1,6 @@
 //! Rows with notes below them.
 
-ghost use Rattle.std.specs.Prelude.{◌≡◌, ◌<◌, ◌++◌, [], ◌∷◌, true, IfOk, IfSome, OnOk, MatchOption, filter, length, map, slice_index, string_bytes, take};
+ghost use Rattle.std.specs.Prelude.{◌≡◌, ◌<◌, ◌++◌, [], ◌∷◌, IfOk, OnOk, filter, length, map, string_bytes};
 ghost use Rattle.ipc_words.specs.Lines.{split};
 ghost use Rattle.row_notes.specs.Merging.{
   IsExplained,
@@ -9,7 +9,6 @@ ghost use Rattle.row_notes.specs.Merging.{
   explained,
   is_below,
   is_end,
-  is_line,
   line_alone,
   note_lines,
   notes_text,
@@ -17,7 +16,7 @@ ghost use Rattle.row_notes.specs.Merging.{
 ghost use Rattle.row_notes.specs.Noted.{head_text, next_head, noted};
 
 use crate::notes::{Head, Note, Notes};
-use memchr::memchr;
+use ipc_words::split_line;
 use std::alloc::{AllocError, Global};
 use std::fmt::Write;
 
@@ -46,25 +45,6 @@ pub fn merge(alloc: Global, rows: &[u8], notes: &Notes) -> Result<Vec<u8>, Alloc
         print_last(&mut out, left)?;
     }
     Ok(out)
-}
-
-/// The first line without its line feed, and what follows it; `None` where no line feed is left.
-fn split_line(text: &[u8]) -> Option<(&[u8], &[u8])>
-    ensures none { MatchOption result (is_line text.now ≡ true) (λ x. is_line x.0.now ≡ true) }
-    ensures parts { IfSome result (λ x. text.now ≡ x.0.now ++ 10 ∷ x.1.now) }
-    ensures shorter { IfSome result (λ x. length x.1.now < length text.now) }
-{
-    let place = line_end(text)?;
-    Some((&text[..place], &text[place + 1..]))
-}
-
-/// Where the first line feed stands.
-fn line_end(text: &[u8]) -> Option<usize>
-    ensures line { MatchOption result (is_line text.now ≡ true) (λ place. is_line (take place text.now) ≡ true) }
-    ensures feed { IfSome result (λ place. slice_index text.now place ≡ 10) }
-    ensures within { IfSome result (λ place. place < length text.now) }
-{
-    memchr(b'\n', text)
 }
 
 /// Appends a line with its line feed.

@@ -1,4 +1,4 @@
-use Rattle.std.proofs.Common.{◌≡◌, [], refl}
+use Rattle.std.proofs.Common.{[], refl}
 use Rattle.std.specs.Prelude.{None, string_bytes}
 use Rattle.ipcsh.specs.Inputs.{HasRead}
 use Rattle.ipcsh.proofs.RunLemmas.{Going-start}

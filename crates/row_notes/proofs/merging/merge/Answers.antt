@@ -8,7 +8,7 @@ use Rattle.row_notes.proofs.merging.merge.Goals.{then-is_empty+in_ok-print_last,
 
 pub loop-row-preserved : goal.loop-row-preserved
 loop-row-preserved c = (
-  row_step _ c.loop-row.out.items c.loop-row.rest.now c.in-Some.row.now c.in-Some.others.now c.print_line.new.out.items _ (map noted c.loop-row.left.now) _ c.loop-row.invariant.0 c.in-Some.ensures.parts c.in-Some.ensures.none c.in_ok-print_line.ensures c.in_ok-left.ensures.text c.in_ok-left.ensures.left,
+  row_step _ c.loop-row.out.items c.loop-row.rest.now c.in-Some.row.now c.in-Some.others.now c.print_line.new.out.items _ (map noted c.loop-row.left.now) _ c.loop-row.invariant.0 c.in-Some.ensures.parts c.in-Some.ensures.line c.in_ok-print_line.ensures c.in_ok-left.ensures.text c.in_ok-left.ensures.left,
   c.in_ok-left.ensures.head,
 )
 
@@ -16,7 +16,7 @@ pub returns-clause-text : goal.returns-clause-text
 returns-clause-text c =
     let notes = map noted c.loop-row.left.now in
     let rest = c.loop-row.rest.now in
-    let end = rows_end _ c.loop-row.out.items rest notes c.loop-row.invariant.0 c.in_default.ensures.none in
+    let end = rows_end _ c.loop-row.out.items rest notes c.loop-row.invariant.0 c.in_default.ensures.line in
     let all : explained c.args.rows.now (map noted c.as_slice-left.result.now) ≡ explained c.args.rows.now c.args.notes.now = ap (explained c.args.rows.now) c.as_slice-left.ensures in
     let front = c.in_ok-extend_from_slice.ensures.items in
     elim c.if-is_empty.branch [

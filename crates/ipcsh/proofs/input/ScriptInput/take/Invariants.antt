@@ -1,10 +1,13 @@
-use Rattle.std.proofs.Common.{◌+◌, ◌≤◌, take}
+use Rattle.std.proofs.Common.{◌≡◌, ℕ, List, ◌+◌, ◌≤◌, ◌++◌, length}
 use Rattle.ipcsh.specs.Inputs.{Takes}
 use Rattle.ipcsh.proofs.input.ScriptInput.take.Given as goal
 
--- the bytes so far are read
-abbrev pub invariant-loop-b : goal.invariant-loop-b
-invariant-loop-b g l = record {
-  takes : Takes l.fn.self (take l.b-index l.bytes) l.self;
-  lines : l.self.session.lines ≤ l.fn.self.session.lines + l.b-index;
+-- a front of the bytes is read
+abbrev pub invariant-loop-line : goal.invariant-loop-line
+invariant-loop-line g l = record {
+  takes : (front : List ℕ) × (front ++ l.rest ≡ l.bytes) × Takes l.fn.self front l.self;
+  lines : l.self.session.lines + length l.rest ≤ l.fn.self.session.lines + length l.bytes;
 }
+
+abbrev pub decreases-loop-line : goal.decreases-loop-line
+decreases-loop-line g l = length l.rest
