@@ -1,2 +1,7 @@
 pub mod CallText
+pub mod Gives
 pub mod JournalText
+pub mod Laws
+pub mod Ranges
+pub mod Reading
+pub mod RuleNames

@@ -1,5 +1,8 @@
 // Why a text is no journal.
 
+ghost use Rattle.std.specs.Prelude.{◌≡◌};
+ghost use Rattle.ipc_journal_text.specs.Gives.{IsAt, memory_lacked, out_of_memory};
+
 use std::alloc::AllocError;
 use thiserror::Error;
 
@@ -42,6 +45,8 @@ pub(crate) enum Cause {
 }
 
 impl From<AllocError> for Cause {
+    ghost from_gives = { λ _ cause. cause ≡ memory_lacked };
+
     fn from(_e: AllocError) -> Cause {
         Cause::Memory
     }
@@ -79,7 +84,9 @@ pub enum Unread {
 
 impl Unread {
     /// What comes of a cause in a line.
-    pub(crate) fn at(line: u64, cause: Cause) -> Unread {
+    pub(crate) fn at(line: u64, cause: Cause) -> Unread
+        ensures { IsAt line cause result }
+    {
         match cause {
             Cause::Memory => Unread::Memory,
             Cause::Wanted(wanted) => Unread::Line { line, wanted },
@@ -88,6 +95,8 @@ impl Unread {
 }
 
 impl From<AllocError> for Unread {
+    ghost from_gives = { λ _ unread. unread ≡ out_of_memory };
+
     fn from(_e: AllocError) -> Unread {
         Unread::Memory
     }

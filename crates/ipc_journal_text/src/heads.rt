@@ -1,17 +1,25 @@
 // The clients of a journal, read from their lines.
 
-ghost use Rattle.std.specs.Prelude.{◌≤◌, vec_len};
+ghost use Rattle.std.specs.Prelude.{◌≡◌, ◌≤◌, IfOk, codes, option_map, vec_len};
+ghost use Rattle.ipc_journal_text.specs.Gives.{Gives, ids_shown};
+ghost use Rattle.ipc_journal_text.specs.Reading.{caps_of as caps_word, client_of as client_words, credentials, ids_of as ids_words, lists_of as lists_words, pair_behind as behind_pair};
+ghost use Rattle.ipc_text.specs.Calls.{new_groups};
+ghost use Rattle.ipc_text.specs.Grammar.{number_list as numbers_word};
+ghost use Rattle.ipc_words.specs.Words.{words_of};
 
 use crate::errors::{Cause, Wanted};
-use crate::rows::client_and_rest;
+use crate::rows::{client_and_rest, two_fields, word_behind};
 use bitflags::Flags;
 use ipc_creds::{Caps, Creds, GROUPS_MAX};
-use ipc_text::{one_word, two_numbers};
+use ipc_text::two_numbers;
 use ipc_words::{number, number_32, split_field, split_word};
 use std::alloc::{AllocError, Global};
 
 /// The credentials of `client N: effective UID:GID real UID:GID saved UID:GID groups GROUPS caps CAPS`.
-pub(crate) fn client_of(alloc: Global, line: &[u8]) -> Result<Creds, Cause> {
+#[tactic(auto, unfolding(crate::specs::Reading::client_of))]
+pub(crate) fn client_of(alloc: Global, line: &[u8]) -> Result<Creds, Cause>
+    ensures { Gives result (client_words (words_of line.now)) }
+{
     let Some((ids, words)) = ids_of(line) else {
         return Err(Cause::Wanted(Wanted::Client));
     };
@@ -39,6 +47,7 @@ impl Ids {
     /// The credentials of these, with supplementary groups and capabilities.
     fn with(self, groups: Vec<u32>, caps: Caps) -> Creds
         requires { vec_len groups ≤ GROUPS_MAX }
+        ensures { result ≡ credentials (ids_shown self) groups.items caps.0 }
     {
         let mut creds = Creds::new(self.real.0, self.real.1, groups, caps).with_saved(
             self.saved.0,
@@ -49,7 +58,9 @@ impl Ids {
     }
 }
 
-fn ids_of(line: &[u8]) -> Option<(Ids, &[u8])> {
+fn ids_of(line: &[u8]) -> Option<(Ids, &[u8])>
+    ensures { option_map (λ x. (ids_shown x.0, words_of x.1.now)) result ≡ ids_words (words_of line.now) }
+{
     let (_, words) = client_and_rest(line)?;
     let (effective, words) = pair_behind(b"effective", words)?;
     let (real, words) = pair_behind(b"real", words)?;
@@ -62,25 +73,20 @@ fn ids_of(line: &[u8]) -> Option<(Ids, &[u8])> {
     Some((ids, words))
 }
 
-// What stands behind a word, and what follows it.
-fn word_behind<'a>(name: &[u8], words: &'a [u8]) -> Option<(&'a [u8], &'a [u8])> {
-    let (word, words) = split_word(words)?;
-    if word != name {
-        return None;
-    }
-    split_word(words)
-}
-
 // `NAME UID:GID`
-fn pair_behind<'a>(name: &[u8], words: &'a [u8]) -> Option<((u32, u32), &'a [u8])> {
+fn pair_behind<'a>(name: &[u8], words: &'a [u8]) -> Option<((u32, u32), &'a [u8])>
+    ensures { option_map (λ x. (x.0, words_of x.1.now)) result ≡ behind_pair name.now (words_of words.now) }
+{
     let (pair, words) = word_behind(name, words)?;
-    let (user, group) = split_field(pair, b':');
-    let pair = two_numbers(user, group?)?;
+    let (user, group) = two_fields(pair, b':')?;
+    let pair = two_numbers(user, group)?;
     Some((pair, words))
 }
 
 // `groups GROUPS caps CAPS`
-fn lists_of(words: &[u8]) -> Option<(&[u8], &[u8])> {
+fn lists_of(words: &[u8]) -> Option<(&[u8], &[u8])>
+    ensures { option_map (λ x. (x.0.now, x.1.now)) result ≡ lists_words (words_of words.now) }
+{
     let (groups, words) = word_behind(b"groups", words)?;
     let (caps, words) = word_behind(b"caps", words)?;
     match split_word(words) {
@@ -90,22 +96,37 @@ fn lists_of(words: &[u8]) -> Option<(&[u8], &[u8])> {
 }
 
 // `-`, or numbers with commas between them.
-fn groups_of(alloc: Global, text: &[u8]) -> Result<Option<Vec<u32>>, AllocError> {
-    let mut groups = Vec::new(alloc);
+fn groups_of(alloc: Global, text: &[u8]) -> Result<Option<Vec<u32>>, AllocError>
+    ensures { IfOk result (λ groups. option_map (λ x. x.items) groups ≡ new_groups text.now) }
+{
     if text == b"-".as_slice() {
-        return Ok(Some(groups));
+        return Ok(Some(Vec::new(alloc)));
     }
-    for field in text.split(|byte| *byte == b',') {
-        match number_32(field) {
-            Some(group) => groups.push(group)?,
-            None => return Ok(None),
-        }
+    number_list(alloc, text)
+}
+
+// Numbers with commas between them.
+#[tactic(auto, unfolding(ipc_text::specs::Grammar::number_list))]
+fn number_list(alloc: Global, text: &[u8]) -> Result<Option<Vec<u32>>, AllocError>
+    ensures { IfOk result (λ numbers. option_map (λ x. x.items) numbers ≡ numbers_word text.now) }
+{
+    let mut numbers = Vec::new(alloc);
+    let mut rest = Some(text);
+    while let Some(text) = rest {
+        let (field, others) = split_field(text, b',');
+        let Some(number) = number_32(field) else {
+            return Ok(None);
+        };
+        numbers.push(number)?;
+        rest = others;
     }
-    Ok(Some(groups))
+    Ok(Some(numbers))
 }
 
 // The set as a number; the names behind it follow from it.
-fn caps_of(text: &[u8]) -> Option<Caps> {
+fn caps_of(text: &[u8]) -> Option<Caps>
+    ensures { option_map (λ x. x.0) result ≡ caps_word text.now }
+{
     let (bits, _) = split_field(text, b',');
     let bits = number(bits, u64::from(u8::MAX))?;
     Some(Caps::from_bits_retain(bits as u8))

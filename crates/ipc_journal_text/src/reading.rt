@@ -1,8 +1,11 @@
 // A journal's text is read back.
 
-ghost use Rattle.std.specs.Prelude.{◌≡◌, ◌≤◌, IfOk, OnOk, IsTrue, vec_len};
+ghost use Rattle.std.specs.Prelude.{◌≡◌, ◌≤◌, [], ◌∷◌, ◌++◌, IfErr, IfOk, OnOk, IsTrue, length, vec_len};
 ghost use Rattle.ipc_call.specs.Limits.{are_in_range};
+ghost use Rattle.ipc_journal_text.specs.Gives.{AreEnough, IsWritten, Leaves, LeavesCount, LeavesRead, ReadsBack, Refuses, shown};
 ghost use Rattle.ipc_journal_text.specs.JournalText.{text_of};
+ghost use Rattle.ipc_journal_text.specs.Reading.{Read, read_client, read_heading, read_limit, read_line, read_lines, read_row, read_text};
+ghost use Rattle.ipc_words.specs.Words.{fields_of};
 
 use crate::errors::{Cause, Unread, Wanted};
 use crate::heads::client_of;
@@ -11,6 +14,7 @@ use crate::rows::row_of;
 use ipc_call::{JournalRow, Limits};
 use ipc_creds::Creds;
 use ipc_text::limit_of;
+use ipc_words::split_field;
 use std::alloc::{AllocError, Global};
 
 /// How many clients a namespace may have.
@@ -33,12 +37,14 @@ pub struct Recorded {
 }
 
 /// Reads the text of a journal, whole. It is one only where it is, byte for byte, what the journal that was read is
-/// written as: nothing else stands in it, and each number has one form. `Memory` comes where a growth was refused.
+/// written as: nothing else stands in it, and each number has one form. `Memory` comes where a growth was refused, and no
+/// other error for the text of a journal.
 pub fn read_journal(alloc: Global, text: &[u8]) -> Result<Recorded, Unread>
     ensures text { IfOk result (λ read. text.now ≡ text_of read.limits read.clients.items read.rows.items) }
     ensures limits { IfOk result (λ read. IsTrue (are_in_range read.limits)) }
     ensures some { IfOk result (λ read. 1 ≤ vec_len read.clients) }
     ensures few { IfOk result (λ read. vec_len read.clients ≤ 64) }
+    ensures back { ReadsBack text.now result }
 {
     let mut read = Recorded {
         limits: Limits::default(),
@@ -51,23 +57,39 @@ pub fn read_journal(alloc: Global, text: &[u8]) -> Result<Recorded, Unread>
 }
 
 /// Takes what the lines say.
-fn take_lines(alloc: Global, read: &mut Recorded, text: &[u8]) -> Result<(), Unread> {
+#[tactic(auto, unfolding(crate::specs::Reading::read_text))]
+fn take_lines(alloc: Global, read: &mut Recorded, text: &[u8]) -> Result<(), Unread>
+    ensures { LeavesRead result (shown read.new) (read_text (shown read.old) text.now) }
+{
     let (lines, is_ended) = match text.strip_suffix(b"\n") {
         Some(lines) => (lines, true),
         None => (text, false),
     };
+    let number = take_each(alloc, read, lines)?;
+    ended(number, is_ended)
+}
+
+/// Takes what each line says, and answers how many there are.
+fn take_each(alloc: Global, read: &mut Recorded, lines: &[u8]) -> Result<u64, Unread>
+    ensures { LeavesCount result (shown read.new) (read_lines 0 (shown read.old) (fields_of 10 lines.now)) (length (fields_of 10 lines.now)) }
+{
     let mut number: u64 = 0;
-    for line in lines.split(|byte| *byte == b'\n') {
+    let mut rest = Some(lines);
+    while let Some(text) = rest {
+        let (line, others) = split_field(text, b'\n');
         number = number.saturating_add(1);
         if let Err(cause) = take_line(alloc, read, number, line) {
             return Err(Unread::at(number, cause));
         }
+        rest = others;
     }
-    ended(number, is_ended)
+    Ok(number)
 }
 
 /// Finds that the last line has a line feed, and is none of those that others must follow.
-fn ended(number: u64, is_ended: bool) -> Result<(), Unread> {
+fn ended(number: u64, is_ended: bool) -> Result<(), Unread>
+    ensures { AreEnough number is_ended result }
+{
     if !is_ended {
         let wanted = Wanted::LineFeed;
         return Err(Unread::Line {
@@ -82,7 +104,10 @@ fn ended(number: u64, is_ended: bool) -> Result<(), Unread> {
     Err(Unread::Line { line, wanted })
 }
 
-fn take_line(alloc: Global, read: &mut Recorded, number: u64, line: &[u8]) -> Result<(), Cause> {
+#[tactic(auto, unfolding(crate::specs::Reading::read_line))]
+fn take_line(alloc: Global, read: &mut Recorded, number: u64, line: &[u8]) -> Result<(), Cause>
+    ensures { Leaves result (shown read.new) (read_line number (shown read.old) line.now) }
+{
     if number == HEADING {
         return take_heading(line);
     }
@@ -92,14 +117,12 @@ fn take_line(alloc: Global, read: &mut Recorded, number: u64, line: &[u8]) -> Re
     if line.starts_with(b"client ") && read.rows.is_empty() {
         return take_client(alloc, read, line);
     }
-    if read.clients.is_empty() {
-        return Err(Cause::Wanted(Wanted::Client));
-    }
-    let row = row_of(alloc, line)?;
-    Ok(add(&mut read.rows, row)?)
+    take_row(alloc, read, line)
 }
 
-fn take_heading(line: &[u8]) -> Result<(), Cause> {
+fn take_heading(line: &[u8]) -> Result<(), Cause>
+    ensures { (read : Read) → Leaves result read (read_heading read line.now) }
+{
     if line == b"ipcsh journal 1".as_slice() {
         Ok(())
     } else {
@@ -107,7 +130,9 @@ fn take_heading(line: &[u8]) -> Result<(), Cause> {
     }
 }
 
-fn take_limit(read: &mut Recorded, line: &[u8]) -> Result<(), Cause> {
+fn take_limit(read: &mut Recorded, line: &[u8]) -> Result<(), Cause>
+    ensures { Leaves result (shown read.new) (read_limit (shown read.old) line.now) }
+{
     let Some(words) = line.strip_prefix(b"limit ") else {
         return Err(Cause::Wanted(Wanted::Limit));
     };
@@ -118,7 +143,9 @@ fn take_limit(read: &mut Recorded, line: &[u8]) -> Result<(), Cause> {
     Ok(())
 }
 
-fn take_client(alloc: Global, read: &mut Recorded, line: &[u8]) -> Result<(), Cause> {
+fn take_client(alloc: Global, read: &mut Recorded, line: &[u8]) -> Result<(), Cause>
+    ensures { Leaves result (shown read.new) (read_client (shown read.old) line.now) }
+{
     if read.clients.len() == CLIENTS_MAX {
         return Err(Cause::Wanted(Wanted::NoClient));
     }
@@ -126,7 +153,19 @@ fn take_client(alloc: Global, read: &mut Recorded, line: &[u8]) -> Result<(), Ca
     Ok(add(&mut read.clients, creds)?)
 }
 
-fn add<T: Drop>(items: &mut Vec<T>, item: T) -> Result<(), AllocError> {
+fn take_row(alloc: Global, read: &mut Recorded, line: &[u8]) -> Result<(), Cause>
+    ensures { Leaves result (shown read.new) (read_row (shown read.old) line.now) }
+{
+    if read.clients.is_empty() {
+        return Err(Cause::Wanted(Wanted::Client));
+    }
+    let row = row_of(alloc, line)?;
+    Ok(add(&mut read.rows, row)?)
+}
+
+fn add<T: Drop>(items: &mut Vec<T>, item: T) -> Result<(), AllocError>
+    ensures { OnOk result (items.new.items ≡ items.old.items ++ item ∷ []) }
+{
     items.push(item)?;
     Ok(())
 }
@@ -137,6 +176,7 @@ fn check(alloc: Global, read: &Recorded, text: &[u8]) -> Result<(), Unread>
     ensures limits { OnOk result (IsTrue (are_in_range read.now.limits)) }
     ensures some { OnOk result (1 ≤ vec_len read.now.clients) }
     ensures few { OnOk result (vec_len read.now.clients ≤ 64) }
+    ensures refused { IfErr result (λ e. Refuses e (IsWritten (shown read.now) text.now)) }
 {
     if !read.limits.in_range() {
         return Err(ends_before(text, Wanted::Limit));

@@ -1,5 +1,8 @@
 // Rules by their names.
 
+ghost use Rattle.std.specs.Prelude.{◌≡◌};
+ghost use Rattle.ipc_journal_text.specs.RuleNames.{rule_named as rule_of_name};
+
 use ipc_call::Rule;
 
 /// All rules.
@@ -44,11 +47,10 @@ const RULES: [Rule; 37] = [
 ];
 
 /// The rule of this name.
-pub(crate) fn rule_named(word: &[u8]) -> Option<Rule> {
-    for rule in &RULES {
-        if rule.name().as_bytes() == word {
-            return Some(*rule);
-        }
-    }
-    None
+#[tactic(auto, unfolding(crate::specs::RuleNames::rule_named, crate::specs::RuleNames::all_rules))]
+pub(crate) fn rule_named(word: &[u8]) -> Option<Rule>
+    ensures { result ≡ rule_of_name word.now }
+{
+    let has_name = |rule: &Rule| rule.name().as_bytes() == word;
+    RULES.iter().copied().find(has_name)
 }

@@ -1,6 +1,6 @@
 // Why the program stopped.
 
-use ipc_journal_text::{Unread, Unwritten};
+use ipc_journal_text::Unread;
 use std::alloc::AllocError;
 use thiserror::Error;
 
@@ -22,9 +22,6 @@ pub(crate) enum Fault {
     /// The script makes no call.
     #[error("the script makes no call, so there is no journal")]
     NoCall,
-    /// The journal wasn't written.
-    #[error("{0}")]
-    Unwritten(Unwritten),
     /// The text is no journal.
     #[error("{0}: {1}")]
     Unread(String, Unread),
@@ -39,11 +36,5 @@ impl From<AllocError> for Fault {
 impl From<ipcsh::Fault> for Fault {
     fn from(fault: ipcsh::Fault) -> Fault {
         Fault::Run(fault)
-    }
-}
-
-impl From<Unwritten> for Fault {
-    fn from(unwritten: Unwritten) -> Fault {
-        Fault::Unwritten(unwritten)
     }
 }

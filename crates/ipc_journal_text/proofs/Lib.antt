@@ -1,0 +1,10 @@
+mod BackLemmas
+mod CallLemmas
+mod ClientLemmas
+mod FieldLemmas
+mod FormLemmas
+mod JournalLemmas
+mod NumberLemmas
+mod RowLemmas
+mod RuleLemmas
+mod WordLemmas
