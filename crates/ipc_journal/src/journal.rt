@@ -43,6 +43,7 @@ impl Journal {
     }
 
     /// Adds a row at the end, in room that there is. It takes no memory.
+    #[inline(always)]
     pub fn enter(&mut self, row: JournalRow)
         requires { 0 < self.old.room }
         ensures rows { self.new.rows ≡ self.old.rows ++ row ∷ [] }

@@ -1,5 +1,5 @@
 -- What can be looked at in a state without a call.
-use Rattle.std.specs.Prelude.{ℕ, Option, Some, None, option_and_then, option_map}
+use Rattle.std.specs.Prelude.{ℕ, Option, None, option_and_then, option_map}
 use Rattle.ipc_call.specs.declared.calls.Call.{Call}
 use Rattle.ipc_call.specs.declared.calls.Call.TheVariants.{SemOp}
 use Rattle.ipc_call.specs.declared.calls.Kind.{Kind}

@@ -4,10 +4,11 @@ ghost use Rattle.std.specs.Prelude.{◌≡◌, ◌+◌, ◌<◌, ◌≤◌, true
 ghost use Rattle.ipc_call.specs.Limits.{are_in_range};
 ghost use Rattle.ipc_model.specs.State.{opening, has_exited as exited_before, is_waiting as waits, waiting_of};
 ghost use Rattle.ipc_model.specs.Decision.{left_by, outcome_of};
-ghost use Rattle.ipc_model.specs.Decide.{decide_alive as decision_alive, decide_call as decision_made, deadline_of, is_reached, waits_as};
+ghost use Rattle.ipc_model.specs.Decide.{decide_alive as decision_alive, decide_call as decision_made, deadline_of, is_reached, waits_as, waits_at};
 ghost use Rattle.std.specs.List.{AllByRecursion, find};
 ghost use Rattle.ipc_parked.specs.Parked.{AreApart};
-ghost use Rattle.ipc_parked.specs.Touched.{is_touched};
+ghost use Rattle.ipc_parked.specs.Touched.{Covers, is_touched};
+ghost use Rattle.ipc_parked.specs.declared.touched.Touched.{Touched as AnyTouched};
 ghost use Rattle.ipc_model.specs.Step.{Moved as MovedTo, after, expire, is_ready, first_ready as first_that_is_ready, end_waiting, enter as enters, moved_by, settled, step, without};
 ghost use Rattle.ipc_namespace.specs.Namespace.{decide_made, is_grant, is_on_waiting as is_on_waiting_by, left_alive, left_made, sent_to as call_sent_to, stands, AreQuietBut};
 ghost use Rattle.ipc_model.specs.Decision.{without_answer};
@@ -156,6 +157,7 @@ impl Namespace {
 
     /// The waiting calls end whose deadline is reached; then the call is refused or granted, or made to wait. Where it is
     /// granted, the waiting calls end that it cancels, and then those that can proceed.
+    #[inline(always)]
     fn enter(
         &mut self,
         client: u32,
@@ -175,7 +177,7 @@ impl Namespace {
     {
         let own = self.carry_out(client, place, call, ended)?;
         if is_granted(&own) {
-            self.settle(Touched::by(call), ended);
+            self.settle(call, ended);
         }
         Ok(own)
     }
@@ -183,6 +185,7 @@ impl Namespace {
     /// The same but for the waiting calls that can proceed. The error comes only where an allocation fails, and then
     /// nothing has changed: so calls that take memory are served before those end whose deadline is reached, which
     /// doesn't matter to them.
+    #[inline(always)]
     fn carry_out(
         &mut self,
         client: u32,
@@ -217,6 +220,7 @@ impl Namespace {
     }
 
     /// Serves a call that ends no waiting call and doesn't look at them, of a client that hasn't ended.
+    #[inline(always)]
     fn carry_out_alone(
         &mut self,
         client: u32,
@@ -238,6 +242,7 @@ impl Namespace {
     }
 
     /// Makes the call wait, on which that was decided, or refuses it where its deadline isn't above the clock.
+    #[inline(never)]
     fn wait(&mut self, client: u32, place: u64, call: &Call) -> Result<Option<Outcome>, Memory>
         requires known { client < length self.old.clients }
         requires free { waits self.old client ≡ false }
@@ -262,6 +267,7 @@ impl Namespace {
 
     /// Serves a call that counts waiting calls or may end them, of a client that hasn't ended. It takes no memory. There
     /// is room for each that waits in the list of those that ended.
+    #[inline(never)]
     fn serve_on_waiting(&mut self, client: u32, call: &Call, ended: &mut Vec<Completion>) -> Outcome
         requires known { client < length self.old.clients }
         requires on_waiting { is_on_waiting_by call.now ≡ true }
@@ -299,6 +305,7 @@ impl Namespace {
 
     /// Refuses or grants a call that ends no waiting call and doesn't look at them. None where it is to wait, and then
     /// nothing has changed.
+    #[inline(always)]
     fn grant_or_refuse(&mut self, client: u32, call: &Call) -> Result<Option<Outcome>, Memory>
         requires known { client < length self.old.clients }
         requires free { waits self.old client ≡ false }
@@ -309,13 +316,6 @@ impl Namespace {
         ensures err { OnErr result (self.new ≡ self.old) }
     {
         match call {
-            Call::MsgGet { key, flags } => {
-                let asked = Get {
-                    key: *key,
-                    flags: *flags,
-                };
-                Ok(Some(self.msgget(client, asked)?))
-            }
             Call::MsgSnd {
                 id,
                 mtype,
@@ -337,23 +337,46 @@ impl Namespace {
             }
             Call::SemOp { id, ops } => self.semop(client, *id, ops),
             Call::SemTimedOp { id, ops, .. } => self.semop(client, *id, ops),
+            _ => Ok(Some(self.answer(client, call)?)),
+        }
+    }
+
+    /// Refuses or grants a call that never waits, ends no waiting call and doesn't look at them. The error comes only where
+    /// an allocation fails, and then nothing has changed.
+    fn answer(&mut self, client: u32, call: &Call) -> Result<Outcome, Memory>
+        requires known { client < length self.old.clients }
+        requires free { waits self.old client ≡ false }
+        requires alone { is_on_waiting_by call.now ≡ false }
+        requires at_once { waits_at call.now ≡ None }
+        ensures outcome { IfOk result (λ outcome. outcome_of (decision_alive self.old client call.now) ≡ Some outcome) }
+        ensures state { OnOk result (self.new ≡ left_by self.old (decision_alive self.old client call.now)) }
+        ensures err { OnErr result (self.new ≡ self.old) }
+    {
+        match call {
+            Call::MsgGet { key, flags } => {
+                let asked = Get {
+                    key: *key,
+                    flags: *flags,
+                };
+                self.msgget(client, asked)
+            }
             Call::SemGet { .. }
             | Call::GetVal { .. }
             | Call::GetPid { .. }
             | Call::GetAll { .. }
             | Call::SetVal { .. }
-            | Call::SetAll { .. } => Ok(Some(self.on_sets(client, call)?)),
+            | Call::SetAll { .. } => self.on_sets(client, call),
             Call::ShmGet { .. }
             | Call::ShmAt { .. }
             | Call::ShmDt { .. }
             | Call::ShmRead { .. }
-            | Call::ShmWrite { .. } => Ok(Some(self.on_segments(client, call)?)),
-            Call::IpcStat { kind, id } => Ok(Some(self.stat(client, *kind, *id)?)),
-            Call::Listing { kind } => Ok(Some(self.list(client, *kind)?)),
-            Call::SetCreds { euid, egid, groups } => Ok(Some(self.set_creds(
-                client, *euid, *egid, groups,
-            )?)),
-            Call::Exit => Ok(Some(self.exit(client)?)),
+            | Call::ShmWrite { .. } => self.on_segments(client, call),
+            Call::IpcStat { kind, id } => self.stat(client, *kind, *id),
+            Call::Listing { kind } => self.list(client, *kind),
+            Call::SetCreds { euid, egid, groups } => {
+                self.set_creds(client, *euid, *egid, groups)
+            }
+            Call::Exit => self.exit(client),
             _ => unreachable!(),
         }
     }
@@ -420,9 +443,25 @@ impl Namespace {
         parked
     }
 
+    /// Ends the waiting calls that can proceed after the grant of a call, the earliest first, until none can. There is room
+    /// for each in the list of those that ended.
+    #[inline(always)]
+    fn settle(&mut self, call: &Call, ended: &mut Vec<Completion>)
+        requires quiet { (touched : AnyTouched) → Covers call.now touched → AreQuietBut (is_touched touched) self.old }
+        requires room { vec_len ended.old + length self.old.parked ≤ vec_capacity ended.old }
+        ensures state { self.new ≡ (settled self.old).state }
+        ensures ended { ended.new.items ≡ ended.old.items ++ (settled self.old).ended }
+        ensures few { vec_len ended.new ≤ vec_len ended.old + length self.old.parked }
+    {
+        if self.parked.len() > 0 {
+            self.settle_touched(Touched::by(call), ended);
+        }
+    }
+
     /// Ends the waiting calls that can proceed, the earliest first, until none can: at first only those that were touched
     /// can, and a call that ends touches no others. There is room for each in the list of those that ended.
-    fn settle(&mut self, touched: Touched, ended: &mut Vec<Completion>)
+    #[inline(never)]
+    fn settle_touched(&mut self, touched: Touched, ended: &mut Vec<Completion>)
         requires quiet { AreQuietBut (is_touched touched) self.old }
         requires room { vec_len ended.old + length self.old.parked ≤ vec_capacity ended.old }
         ensures state { self.new ≡ (settled self.old).state }

@@ -1,5 +1,5 @@
 -- How rows are followed, an event at a time.
-use Rattle.std.specs.Prelude.{◌≡◌, ℕ, Bool, true, false}
+use Rattle.std.specs.Prelude.{◌≡◌, Bool, true, false}
 use Rattle.ipc_call.specs.declared.replies.JournalRow.{JournalRow}
 use Rattle.ipc_call.specs.declared.replies.JournalRow.TheVariants.{Called, Answered}
 use Rattle.ipc_history.specs.History.{History, IsLegalAt, run, with_event}

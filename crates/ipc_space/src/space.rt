@@ -1,6 +1,6 @@
 // A namespace with its journal.
 
-ghost use Rattle.std.specs.Prelude.{◌≡◌, ◌+◌, ◌<◌, ◌≤◌, true, false, [], ◌∷◌, ◌++◌, length, map, vec_len, vec_capacity, IsTrue, IfOk, OnOk, OnErr};
+ghost use Rattle.std.specs.Prelude.{◌≡◌, ◌+◌, ◌<◌, ◌≤◌, ◌^◌, true, false, [], ◌∷◌, ◌++◌, length, map, vec_len, vec_capacity, IsTrue, IfOk, OnOk, OnErr};
 ghost use Rattle.ipc_call.specs.Limits.{are_in_range};
 ghost use Rattle.ipc_model.specs.State.{is_waiting as waits};
 ghost use Rattle.ipc_model.specs.Step.{Stepped};
@@ -103,18 +103,28 @@ impl Space {
         ensures err { OnErr result (self.new ≡ self.old) }
     {
         let most = self.namespace.most_ended();
-        self.journal.reserve(most + 2)?;
-        self.ended.reserve(most + 1)?;
-        self.others.reserve(most)?;
+        match reserve(&mut self.journal, &mut self.ended, &mut self.others, most) {
+            Ok(()) => {}
+            Err(memory) => {
+                drop(call);
+                return Err(memory);
+            }
+        }
         let place = self.events + 1;
-        let outcome = self
+        let served = self
             .namespace
-            .serve(client, place, now, &call, &mut self.ended)?;
+            .serve(client, place, now, &call, &mut self.ended);
+        let outcome = match served {
+            Ok(outcome) => outcome,
+            Err(memory) => {
+                drop(call);
+                return Err(memory);
+            }
+        };
         self.events = place;
         self.journal.enter(JournalRow::Called { client, now, call });
         let own = tell_own(&mut self.journal, client, place, outcome);
-        tell_others(&mut self.journal, &mut self.others, place, &mut self.ended);
-        let others = hand_out(&mut self.others);
+        let others = tell_others(&mut self.journal, &mut self.others, place, &mut self.ended);
         Ok(Effects { place, own, others })
     }
 
@@ -172,7 +182,33 @@ impl Space {
     }
 }
 
+/// Makes room for an event that ends so many waiting calls at most, and its own: for its rows, for those that it ends,
+/// and for their replies. Memory comes where a growth was refused.
+#[inline(always)]
+fn reserve(
+    journal: &mut Journal,
+    ended: &mut Vec<Completion>,
+    others: &mut Vec<(u32, Reply)>,
+    most: usize,
+) -> Result<(), Memory>
+    requires few { most ≤ 64 }
+    requires none_ended { ended.old.items ≡ [] }
+    requires none_told { others.old.items ≡ [] }
+    ensures rows { journal.new.rows ≡ journal.old.rows }
+    ensures journal_room { OnOk result (most + 2 ≤ journal.new.room) }
+    ensures ended { ended.new.items ≡ [] }
+    ensures ended_room { OnOk result (most < vec_capacity ended.new) }
+    ensures others { others.new.items ≡ [] }
+    ensures others_room { OnOk result (most ≤ vec_capacity others.new) }
+    ensures fits { OnOk result (length journal.new.rows + most + 2 < 2 ^ 64) }
+{
+    journal.reserve(most + 2)?;
+    ended.reserve(most + 1)?;
+    others.reserve(most)
+}
+
 /// Enters how an event's own call ended, and gives the reply. A call that waits has none.
+#[inline(always)]
 fn tell_own(journal: &mut Journal, client: u32, place: u64, own: Option<Outcome>) -> Option<Reply>
     requires { 0 < journal.old.room }
     ensures rows { journal.new.rows ≡ journal.old.rows ++ map answered_row (reply_to_own client place own) }
@@ -188,9 +224,36 @@ fn tell_own(journal: &mut Journal, client: u32, place: u64, own: Option<Outcome>
     })
 }
 
+/// Enters how the waiting calls ended that an event ended, and hands out the replies to them. The list for these is
+/// empty, and has room.
+#[inline(always)]
+fn tell_others(
+    journal: &mut Journal,
+    others: &mut Vec<(u32, Reply)>,
+    place: u64,
+    ended: &mut Vec<Completion>,
+) -> Vec<(u32, Reply)>
+    requires few { vec_len ended.old ≤ 65 }
+    requires journal_room { vec_len ended.old ≤ journal.old.room }
+    requires empty { others.old.items ≡ [] }
+    requires room { vec_len ended.old ≤ vec_capacity others.old }
+    ensures rows { journal.new.rows ≡ journal.old.rows ++ map answered_row (replies_to_ended place 1 ended.old.items) }
+    ensures others { result.items ≡ other_replies place ended.old.items }
+    ensures left { others.new.items ≡ [] }
+    ensures told { ended.new.items ≡ [] }
+{
+    let none = Vec::new(*others.allocator());
+    if ended.is_empty() {
+        return none;
+    }
+    tell_each(journal, others, place, ended);
+    mem::replace(others, none)
+}
+
 /// Enters how the waiting calls ended that an event ended, and moves the replies to them to an empty list
 /// that has room.
-fn tell_others(
+#[inline(never)]
+fn tell_each(
     journal: &mut Journal,
     others: &mut Vec<(u32, Reply)>,
     place: u64,
@@ -218,20 +281,8 @@ fn tell_others(
     }
 }
 
-/// Takes what is in a list out, and leaves it empty. Where it is empty, it keeps its room.
-fn hand_out(list: &mut Vec<(u32, Reply)>) -> Vec<(u32, Reply)>
-    ensures handed { result.items ≡ list.old.items }
-    ensures left { list.new.items ≡ [] }
-{
-    let empty = Vec::new(*list.allocator());
-    if list.is_empty() {
-        empty
-    } else {
-        mem::replace(list, empty)
-    }
-}
-
 /// The row of an answer.
+#[inline(always)]
 fn answered(client: u32, place: u64, turn: u32, outcome: &Outcome) -> JournalRow
     ensures { result ≡ answered_row (record { client = client; place = place; turn = turn; outcome = outcome.now }) }
 {
@@ -244,6 +295,7 @@ fn answered(client: u32, place: u64, turn: u32, outcome: &Outcome) -> JournalRow
 }
 
 /// The rule that refused the call, None where it was served.
+#[inline(always)]
 fn refusal(outcome: &Outcome) -> Option<Rule>
     ensures { result ≡ rule_in outcome.now }
 {

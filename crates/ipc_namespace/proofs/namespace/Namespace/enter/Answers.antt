@@ -21,8 +21,8 @@ settle-requires-clause-quiet c =
     let client = c.args.client in
     let granted : is_grant (outcome_of (decide_call t client c.args.call.now)) ≡ true = ap is_grant (sym c.in_ok-own.ensures.own) ∙ sym c.is_granted.ensures ∙ c.if-is_granted.true in
     let free : is_waiting t client ≡ false = list_any-filter (λ w. w.client == client) (λ w. is_none (expired s w)) s.parked c.requires.free in
-    subst (λ (u : State). AreQuietBut (is_touched c.by.result) u) (sym c.in_ok-own.ensures.state)
-    (quiet-moved t client c.args.call.now c.by.result c.by.ensures (quiet-expire s c.requires.quiet) free granted)
+    λ touched covers. subst (λ (u : State). AreQuietBut (is_touched touched) u) (sym c.in_ok-own.ensures.state)
+    (quiet-moved t client c.args.call.now touched covers (quiet-expire s c.requires.quiet) free granted)
 
 pub returns-clause-ok : goal.returns-clause-ok
 returns-clause-ok c =

@@ -9,89 +9,89 @@ use Rattle.ipc_space.proofs.Histories.{IsOfHistory-push, clients-reached, length
 use Rattle.ipc_space.proofs.Once.{waits_once}
 use Rattle.ipc_space.proofs.Permitted.{run_attached, run_not_ready, run_permitted, run_in_time}
 use Rattle.ipc_space.proofs.space.Space.apply.Goals as goal
-use Rattle.ipc_space.proofs.space.Space.apply.Goals.{After-tell_others}
+use Rattle.ipc_space.proofs.space.Space.apply.Goals.{After-tell_others-others}
 use Rattle.ipc_space.proofs.Balance.{caller-apart}
 use Rattle.ipc_space.specs.Telling.{replies_in}
 
-event : (c : After-tell_others) → Event
+event : (c : After-tell_others-others) → Event
 event c = record { client = c.args.client; now = c.args.now; call = c.args.call }
 
-stepped : (c : After-tell_others) → Stepped
-stepped c = record { state = c.serve.new.self; own = c.in_ok-outcome.outcome; ended = c.serve.new.ended.items }
+stepped : (c : After-tell_others-others) → Stepped
+stepped c = record { state = c.serve-served.new.self; own = c.in-Ok-served.outcome; ended = c.serve-served.new.ended.items }
 
 -- the client is known, by the credentials at the start as by those now
 among : (clients now count : ℕ) → now ≡ clients → count < clients → count < now
 among clients now count same less = omega (arith, same, less)
 
-known : (c : After-tell_others) → c.args.client < length c.self.inside.namespace.clients
+known : (c : After-tell_others-others) → c.args.client < length c.self.inside.namespace.clients
 known c =
     let s = c.self.inside in
     among (length s.opening.items) (length s.namespace.clients) c.args.client (clients-reached s.namespace s.opening.items s.journal.rows s.events c.self.invariant.0)
     (subst (λ (h : History). c.args.client < length h.clients) (sym c.self.view_is) c.requires.known)
 
-legal : (c : After-tell_others) → IsLegalAt c.self.inside.namespace (event c)
+legal : (c : After-tell_others-others) → IsLegalAt c.self.inside.namespace (event c)
 unfolding event
 legal c = record {
   known = known c;
   free = ap (λ (s : State). is_waiting s c.args.client) (c.self.invariant.0.state ∙ ap run c.self.view_is) ∙ c.requires.free;
 }
 
-rows : (c : After-tell_others) → c.tell_others.new.journal.rows ≡ c.self.inside.journal.rows ++ rows_by (c.self.inside.events + 1) (event c) (stepped c)
+rows : (c : After-tell_others-others) → c.tell_others-others.new.journal.rows ≡ c.self.inside.journal.rows ++ rows_by (c.self.inside.events + 1) (event c) (stepped c)
 unfolding event stepped
 rows c =
     let place = c.self.inside.events + 1 in
-    let own = map answered_row (reply_to_own c.args.client place c.in_ok-outcome.outcome) in
-    let others = map answered_row (replies_to_ended place 1 c.serve.new.ended.items) in
+    let own = map answered_row (reply_to_own c.args.client place c.in-Ok-served.outcome) in
+    let others = map answered_row (replies_to_ended place 1 c.serve-served.new.ended.items) in
     let called : c.enter.new.self.rows ≡ c.self.inside.journal.rows ++ Called c.args.client c.args.now c.args.call ∷ [] =
     c.enter.ensures.rows ∙ ap (λ r. r ++ Called c.args.client c.args.now c.args.call ∷ []) c.reserve.ensures.rows in
-    c.tell_others.ensures.rows ∙ ap (λ r. r ++ others) (c.tell_own-own.ensures.rows ∙ ap (λ r. r ++ own) called)
+    c.tell_others-others.ensures.rows ∙ ap (λ r. r ++ others) (c.tell_own-own.ensures.rows ∙ ap (λ r. r ++ own) called)
     ∙ rows_by-entered c.self.inside.journal.rows place (event c) (stepped c)
 
-longer : (c : After-tell_others) → IsOfHistory c.serve.new.self c.self.inside.opening.items c.tell_others.new.journal.rows (c.self.inside.events + 1)
-    × (history_in c.serve.new.self.limits c.self.inside.opening.items c.tell_others.new.journal.rows ≡ with_event (history_in c.self.inside.namespace.limits c.self.inside.opening.items c.self.inside.journal.rows) (event c))
+longer : (c : After-tell_others-others) → IsOfHistory c.serve-served.new.self c.self.inside.opening.items c.tell_others-others.new.journal.rows (c.self.inside.events + 1)
+    × (history_in c.serve-served.new.self.limits c.self.inside.opening.items c.tell_others-others.new.journal.rows ≡ with_event (history_in c.self.inside.namespace.limits c.self.inside.opening.items c.self.inside.journal.rows) (event c))
 unfolding event stepped
 longer c =
     let s = c.self.inside in
-    let steps = c.in_ok-outcome.ensures.ok in
-    IsOfHistory-push s.namespace s.opening.items s.journal.rows c.tell_others.new.journal.rows s.events (event c) (stepped c) c.self.invariant.0 (legal c) steps c.serve.ensures.limits (rows c)
+    let steps = c.in-Ok-served.ensures.ok in
+    IsOfHistory-push s.namespace s.opening.items s.journal.rows c.tell_others-others.new.journal.rows s.events (event c) (stepped c) c.self.invariant.0 (legal c) steps c.serve-served.ensures.limits (rows c)
 
 pub overflow_add-place : goal.overflow_add-place
 overflow_add-place c =
     let s = c.self.inside in
-    omega (arith, c.self.invariant.0.counted, length-events_in s.journal.rows, c.in_ok-reserve.ensures.fits, ap length c.reserve.ensures.rows)
+    omega (arith, c.self.invariant.0.counted, length-events_in s.journal.rows, c.in-Ok.ensures.fits, ap length c.reserve.ensures.rows)
 
-pub serve-requires-clause-quiet : goal.serve-requires-clause-quiet
-serve-requires-clause-quiet c = subst AreNotReady (sym c.self.invariant.0.state) (run_not_ready (history_in c.self.inside.namespace.limits c.self.inside.opening.items c.self.inside.journal.rows))
+pub serve-served-requires-clause-quiet : goal.serve-served-requires-clause-quiet
+serve-served-requires-clause-quiet c = subst AreNotReady (sym c.self.invariant.0.state) (run_not_ready (history_in c.self.inside.namespace.limits c.self.inside.opening.items c.self.inside.journal.rows))
 
 pub invariant_of-self-2 : goal.invariant_of-self-2
-invariant_of-self-2 c = ((longer (goal.at.invariant_of-self-2 c).After-tell_others).0, c.tell_others.ensures.told, c.hand_out-others.ensures.left)
+invariant_of-self-2 c = ((longer (goal.at.invariant_of-self-2 c).After-tell_others-others).0, c.tell_others-others.ensures.told, c.tell_others-others.ensures.left)
 
 pub returns-clause-event : goal.returns-clause-event
 unfolding event
 returns-clause-event c =
-    let b = (goal.at.returns-clause-event c).After-tell_others in
+    let b = (goal.at.returns-clause-event c).After-tell_others-others in
     (longer b).1 ∙ ap (λ (h : History). with_event h (event b)) c.self.view_is
 
 pub returns-clause-not_ready : goal.returns-clause-not_ready
-returns-clause-not_ready c = run_not_ready (history_in c.serve.new.self.limits c.self.inside.opening.items c.tell_others.new.journal.rows)
+returns-clause-not_ready c = run_not_ready (history_in c.serve-served.new.self.limits c.self.inside.opening.items c.tell_others-others.new.journal.rows)
 
 pub returns-clause-permitted : goal.returns-clause-permitted
-returns-clause-permitted c = run_permitted (history_in c.serve.new.self.limits c.self.inside.opening.items c.tell_others.new.journal.rows)
+returns-clause-permitted c = run_permitted (history_in c.serve-served.new.self.limits c.self.inside.opening.items c.tell_others-others.new.journal.rows)
 
 pub returns-clause-in_time : goal.returns-clause-in_time
-returns-clause-in_time c = run_in_time (history_in c.serve.new.self.limits c.self.inside.opening.items c.tell_others.new.journal.rows)
+returns-clause-in_time c = run_in_time (history_in c.serve-served.new.self.limits c.self.inside.opening.items c.tell_others-others.new.journal.rows)
 
 pub returns-clause-attached : goal.returns-clause-attached
-returns-clause-attached c = run_attached (history_in c.serve.new.self.limits c.self.inside.opening.items c.tell_others.new.journal.rows)
+returns-clause-attached c = run_attached (history_in c.serve-served.new.self.limits c.self.inside.opening.items c.tell_others-others.new.journal.rows)
 
 pub returns-clause-once : goal.returns-clause-once
-returns-clause-once c = waits_once (history_in c.serve.new.self.limits c.self.inside.opening.items c.tell_others.new.journal.rows) (longer (goal.at.returns-clause-once c).After-tell_others).0.legal
+returns-clause-once c = waits_once (history_in c.serve-served.new.self.limits c.self.inside.opening.items c.tell_others-others.new.journal.rows) (longer (goal.at.returns-clause-once c).After-tell_others-others).0.legal
 
 pub returns-clause-legal : goal.returns-clause-legal
-returns-clause-legal c = (longer (goal.at.returns-clause-legal c).After-tell_others).0.legal
+returns-clause-legal c = (longer (goal.at.returns-clause-legal c).After-tell_others-others).0.legal
 
-pub serve-requires-clause-known : goal.serve-requires-clause-known
-serve-requires-clause-known c =
+pub serve-served-requires-clause-known : goal.serve-served-requires-clause-known
+serve-served-requires-clause-known c =
     let s = c.self.inside in
     among (length s.opening.items) (length s.namespace.clients) c.args.client (clients-reached s.namespace s.opening.items s.journal.rows s.events c.self.invariant.0)
     (subst (λ (h : History). c.args.client < length h.clients) (sym c.self.view_is) c.requires.known)
@@ -99,11 +99,11 @@ serve-requires-clause-known c =
 pub returns-clause-apart : goal.returns-clause-apart
 unfolding event stepped
 returns-clause-apart c =
-    let b = (goal.at.returns-clause-apart c).After-tell_others in
+    let b = (goal.at.returns-clause-apart c).After-tell_others-others in
     let s = c.self.inside in
     let place = s.events + 1 in
     let h = history_in s.namespace.limits s.opening.items s.journal.rows in
-    let is : next_step h (event b) ≡ stepped b = ap (λ (x : State). step x (event b)) (sym c.self.invariant.0.state) ∙ c.in_ok-outcome.ensures.ok in
+    let is : next_step h (event b) ≡ stepped b = ap (λ (x : State). step x (event b)) (sym c.self.invariant.0.state) ∙ c.in-Ok-served.ensures.ok in
     let law : IsLegal (with_event h (event b)) = subst (λ (h : History). IsLegal h) (longer b).1 (longer b).0.legal in
-    ap (λ others. replies_in others c.args.client) (c.hand_out-others.ensures.handed ∙ c.tell_others.ensures.others ∙ ap (λ (m : Stepped). other_replies place m.ended) (sym is))
+    ap (λ others. replies_in others c.args.client) (c.tell_others-others.ensures.others ∙ ap (λ (m : Stepped). other_replies place m.ended) (sym is))
     ∙ caller-apart h (event b) place law

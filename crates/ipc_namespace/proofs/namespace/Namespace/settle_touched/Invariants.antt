@@ -2,7 +2,7 @@ use Rattle.std.proofs.Common.{◌≡◌, ◌+◌, ◌≤◌, ◌++◌, length, v
 use Rattle.ipc_model.specs.Step.{settled}
 use Rattle.ipc_parked.specs.Touched.{is_touched}
 use Rattle.ipc_namespace.specs.Namespace.{AreQuietBut}
-use Rattle.ipc_namespace.proofs.namespace.Namespace.settle.Given as goal
+use Rattle.ipc_namespace.proofs.namespace.Namespace.settle_touched.Given as goal
 
 -- what is left to end completes what has ended, and waits on what was touched
 abbrev pub invariant-loop-completion : goal.invariant-loop-completion

@@ -2,7 +2,7 @@ use Rattle.std.proofs.Common.{◌++◌, [], ◌∷◌, sym, ap, ◌∙◌, arith
 use Rattle.ipc_model.specs.Step.{Moved, settled}
 use Rattle.ipc_namespace.proofs.Quiet.{quiet-turn}
 use Rattle.ipc_namespace.proofs.Settling.{settled-turn}
-use Rattle.ipc_namespace.proofs.namespace.Namespace.settle.Goals as goal
+use Rattle.ipc_namespace.proofs.namespace.Namespace.settle_touched.Goals as goal
 
 pub loop-completion-preserved : goal.loop-completion-preserved
 loop-completion-preserved c =

@@ -1,7 +1,7 @@
 use Rattle.std.proofs.Common.{◌≡◌, ◌+◌, ◌≤◌, ◌++◌, map, length, vec_len, vec_capacity}
 use Rattle.std.specs.Vec.Iter.{drain_items}
 use Rattle.ipc_history.specs.History.{answered_row, reply_of, replies_to_ended}
-use Rattle.ipc_space.proofs.space.tell_others.Given as goal
+use Rattle.ipc_space.proofs.space.tell_each.Given as goal
 
 -- what the calls that are left give completes the rows and the replies
 abbrev pub invariant-loop-completion : goal.invariant-loop-completion
