@@ -3,7 +3,7 @@
 ghost use Rattle.std.specs.Prelude.{◌≡◌, IfOk, map};
 ghost use Rattle.ipc_live.specs.Told.{kind_of, told_of, wanted_to_write};
 ghost use Rattle.ipc_perm.specs.Access.{Control, Permission, class_of, denial, denied_rule, to_read};
-ghost use Rattle.perm_words.specs.Standing.{class_in};
+ghost use Rattle.perm_words.specs.Standing.{class_in, standing_of};
 ghost use Rattle.client_rights.specs.Rights.{all_told};
 
 use ipc_creds::Creds;
@@ -34,6 +34,7 @@ pub struct Rights {
 /// What a caller of these credentials may do to the object. Each decision is what the caller's need is denied by, if by anything.
 #[tactic(auto, using(crate::proofs::Denials::denied_is))]
 pub fn rights_of(creds: &Creds, object: &Object) -> Rights
+    ensures standing { result.standing ≡ standing_of creds.now object.now.perm }
     ensures class { class_in result.standing ≡ class_of creds.now object.now.perm }
     ensures told { result.told ≡ told_of creds.now object.now }
     ensures read { denied_rule result.told.read ≡ denial creds.now (Permission object.now.perm to_read) }

@@ -1,2 +1,3 @@
+pub mod ClassText
 pub mod ObjectText
 pub mod Standing

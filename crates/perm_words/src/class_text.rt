@@ -1,6 +1,8 @@
 //! The class of a caller in words.
 
-ghost use Rattle.std.specs.Prelude.{◌≡◌};
+ghost use Rattle.std.specs.Prelude.{◌≡◌, ◌++◌, OnOk, string_bytes};
+ghost use Rattle.perm_words.specs.ClassText.{class_text, given_text, group_text, sort_text, standing_text};
+ghost use Rattle.perm_words.specs.ObjectText.{mode_text};
 ghost use Rattle.perm_words.specs.Standing.{name_of_rights};
 
 use crate::standing::{Standing, class_bits, rights_in, stands};
@@ -11,30 +13,68 @@ use std::fmt::Write;
 
 /// Appends by what the caller comes into its class, and what the mode gives that class, without a line feed: `class group: its
 /// group 10 is the owner's; the mode 0640 gives this class r-`. The error comes only where an allocation fails.
-pub fn print_class(out: &mut String, creds: &Creds, perm: &Perm) -> Result<(), AllocError> {
-    let (user, mode) = (creds.euid(), perm.mode.bits());
+pub fn print_class(out: &mut String, creds: &Creds, perm: &Perm) -> Result<(), AllocError>
+    ensures { OnOk result (string_bytes out.new ≡ string_bytes out.old ++ class_text creds.now perm.now) }
+{
     let standing = stands(creds, perm);
+    print_standing(out, creds, perm, standing)?;
+    let mode = perm.mode.bits();
+    let given = rights_name(rights_in(class_bits(standing, mode)));
+    print_given(out, mode, given)
+}
+
+fn print_standing(
+    out: &mut String,
+    creds: &Creds,
+    perm: &Perm,
+    standing: Standing,
+) -> Result<(), AllocError>
+    ensures { OnOk result (string_bytes out.new ≡ string_bytes out.old ++ standing_text creds.now perm.now standing) }
+{
+    let user = creds.euid();
     match standing {
-        Standing::Owner => write!(out, "class owner: its user {user} is the owner")?,
-        Standing::Creator => write!(out, "class owner: its user {user} is the creator")?,
-        Standing::OwnersGroup => print_group(out, creds, perm.gid, "owner's")?,
-        Standing::CreatorsGroup => print_group(out, creds, perm.cgid, "creator's")?,
+        Standing::Owner => write!(out, "class owner: its user {user} is the owner"),
+        Standing::Creator => write!(out, "class owner: its user {user} is the creator"),
+        Standing::OwnersGroup => print_group(out, creds, perm.gid, "owner's"),
+        Standing::CreatorsGroup => print_group(out, creds, perm.cgid, "creator's"),
         Standing::Other => write!(
             out,
             "class others: its user {user} is neither owner nor creator, and none of its groups is one of theirs"
-        )?,
+        ),
     }
-    let bits = rights_name(rights_in(class_bits(standing, mode)));
-    write!(out, "; the mode {mode:04o} gives this class {bits}")
 }
 
-fn print_group(out: &mut String, creds: &Creds, group: u32, whose: &str) -> Result<(), AllocError> {
-    let sort = if group == creds.egid() {
+fn print_group(out: &mut String, creds: &Creds, group: u32, whose: &str) -> Result<(), AllocError>
+    ensures { OnOk result (string_bytes out.new ≡ string_bytes out.old ++ group_text creds.now group whose.now) }
+{
+    let sort = sort_of(creds, group);
+    write!(out, "class group: its {sort}group {group} is the {whose}")
+}
+
+#[tactic(auto, unfolding(crate::specs::ClassText::sort_text))]
+fn sort_of(creds: &Creds, group: u32) -> &'static str
+    ensures { result.now ≡ sort_text creds.now group }
+{
+    if group == creds.egid() {
         ""
     } else {
         "supplementary "
-    };
-    write!(out, "class group: its {sort}group {group} is the {whose}")
+    }
+}
+
+fn print_given(out: &mut String, mode: u16, given: &str) -> Result<(), AllocError>
+    ensures { OnOk result (string_bytes out.new ≡ string_bytes out.old ++ given_text mode given.now) }
+{
+    out.push_str("; the mode ")?;
+    print_mode(out, mode)?;
+    write!(out, " gives this class {given}")
+}
+
+#[tactic(auto, unfolding(crate::specs::ObjectText::mode_text))]
+fn print_mode(out: &mut String, mode: u16) -> Result<(), AllocError>
+    ensures { OnOk result (string_bytes out.new ≡ string_bytes out.old ++ mode_text mode) }
+{
+    write!(out, "{mode:04o}")
 }
 
 /// Rights as ls(1) shows them, without execute, which no call asks for.

@@ -2,7 +2,7 @@
 
 ghost use Rattle.std.specs.Prelude.{◌≡◌};
 ghost use Rattle.ipc_perm.specs.Access.{bits_of, class_of, is_subset, rights};
-ghost use Rattle.perm_words.specs.Standing.{class_in};
+ghost use Rattle.perm_words.specs.Standing.{class_in, standing_of};
 
 use ipc_creds::Creds;
 use ipc_perm::{Perm, Want};
@@ -24,7 +24,8 @@ pub enum Standing {
 
 /// By what a caller of these credentials comes into the class whose bits decide.
 pub fn stands(creds: &Creds, perm: &Perm) -> Standing
-    ensures { class_in result ≡ class_of creds.now perm.now }
+    ensures standing { result ≡ standing_of creds.now perm.now }
+    ensures class { class_in result ≡ class_of creds.now perm.now }
 {
     if perm.uid == creds.euid() {
         Standing::Owner
