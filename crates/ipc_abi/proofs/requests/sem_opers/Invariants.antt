@@ -1,0 +1,6 @@
+use Rattle.std.proofs.Common.{◌≡◌, map, take}
+use Rattle.ipc_abi.specs.Requests.{sem_oper}
+use Rattle.ipc_abi.proofs.requests.sem_opers.Given as goal
+
+abbrev pub invariant-loop-op : goal.invariant-loop-op
+invariant-loop-op l = l.opers.items ≡ map sem_oper (take l.op-index l.ops)

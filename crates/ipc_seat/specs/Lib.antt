@@ -1,0 +1,4 @@
+pub mod Codes
+pub mod Openings
+pub mod Raw
+pub mod Seats

@@ -1,0 +1,86 @@
+//! A service is opened for clients, each of which gets a value of its own.
+
+ghost use Rattle.std.specs.Prelude.{◌≡◌, Err, false, map, IfOk};
+ghost use Rattle.ipc_call.specs.Limits.{are_in_range};
+ghost use Rattle.ipc_abi.specs.Openings.{creds_in, limits_in};
+ghost use Rattle.ipc_seat.specs.Codes.{code_of_opening};
+ghost use Rattle.ipc_seat.specs.Openings.{AreClients, AreOpened, AreSeated};
+ghost use Rattle.ipc_seat.specs.declared.opening.NotOpened.TheVariants.{BadLimits, BadClients};
+
+use crate::seat::{Seat, State};
+use ipc_abi::{RawClient, RawLimits, creds_of};
+use ipc_call::Memory;
+use ipc_member::Member;
+use std::alloc::Global;
+
+/// Why a service isn't opened.
+#[derive(Clone, Copy, Debug, PartialEq, Eq)]
+pub enum NotOpened {
+    /// A limit isn't in its range.
+    BadLimits,
+    /// There are none or more than 64 clients; or one has more than 32 supplementary groups, or capabilities that there
+    /// aren't.
+    BadClients,
+    /// There aren't as many places for handles as clients.
+    NoRoom,
+    /// An allocation fails (ENOMEM).
+    Memory,
+}
+
+impl NotOpened {
+    /// Its code.
+    pub fn code(self) -> i32
+        ensures { result ≡ code_of_opening self }
+    {
+        match self {
+            NotOpened::NoRoom => -6,
+            NotOpened::Memory => -7,
+            NotOpened::BadLimits => -8,
+            NotOpened::BadClients => -9,
+        }
+    }
+}
+
+impl From<Memory> for NotOpened {
+    ghost use Rattle.ipc_seat.specs.declared.opening.NotOpened.TheVariants.{Memory as NoMemory};
+
+    ghost from_gives = { λ _ error. error ≡ NoMemory };
+
+    fn from(_memory: Memory) -> NotOpened {
+        NotOpened::Memory
+    }
+}
+
+/// Opens a service with these limits for these clients, and gives a value for each, in their order.
+pub fn open(
+    alloc: Global,
+    limits: &RawLimits,
+    clients: &[RawClient],
+) -> Result<Vec<Box<Seat>>, NotOpened>
+    ensures opened { IfOk result (λ seats. AreOpened (limits_in limits.now) (map creds_in clients.now) seats.items) }
+    ensures limits { result ≡ Err BadLimits → are_in_range (limits_in limits.now) ≡ false }
+    ensures clients { result ≡ Err BadClients → ¬ AreClients clients.now }
+{
+    let limits = limits.limits();
+    if !limits.in_range() {
+        return Err(NotOpened::BadLimits);
+    }
+    if clients.is_empty() || clients.len() > 64 || !clients.iter().all(RawClient::is_valid) {
+        return Err(NotOpened::BadClients);
+    }
+    let creds = creds_of(alloc, clients)?;
+    let members = ipc_member::open(alloc, limits, creds)?;
+    Ok(seated(alloc, members)?)
+}
+
+// A value for each client.
+fn seated(alloc: Global, members: Vec<Member>) -> Result<Vec<Box<Seat>>, Memory>
+    ensures { IfOk result (λ seats. AreSeated members.items seats.items) }
+{
+    let mut seats = Vec::with_capacity(alloc, members.len())?;
+    for member in members {
+        let state = State::Idle(member);
+        seats.push(Box::new(alloc, Seat { alloc, state })?)?;
+    }
+    Ok(seats)
+}
