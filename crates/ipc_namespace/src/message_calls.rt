@@ -1,6 +1,6 @@
 // The calls on message queues, msgget(2) and msgop(2), in a namespace.
 
-ghost use Rattle.std.specs.Prelude.{◌≡◌, ◌<◌, length, IfOk, OnOk, OnErr, Some};
+ghost use Rattle.std.specs.Prelude.{◌≡◌, ◌<◌, length, IfOk, OnOk, OnErr, Ok, Some};
 ghost use Rattle.ipc_model.specs.Decision.{left_by, outcome_of};
 ghost use Rattle.ipc_model.specs.Decide.{decide_alive as decision_on};
 
@@ -24,14 +24,19 @@ impl Namespace {
 
     /// msgrcv: None where it is to wait, and then nothing has changed. It takes no memory.
     #[tactic(auto, unfolding(ipc_model::specs::Decide::part_plan))]
-    pub(super) fn msgrcv(&mut self, client: u32, id: u32, asked: Receive) -> Option<Outcome>
+    pub(super) fn msgrcv(
+        &mut self,
+        client: u32,
+        id: u32,
+        asked: Receive,
+    ) -> Result<Option<Outcome>, Memory>
         requires known { client < length self.old.clients }
-        ensures outcome { result ≡ outcome_of (decision_on self.old client (Call.MsgRcv id asked.size asked.msgtyp asked.flags)) }
+        ensures outcome { result ≡ Ok (outcome_of (decision_on self.old client (Call.MsgRcv id asked.size asked.msgtyp asked.flags))) }
         ensures state { self.new ≡ left_by self.old (decision_on self.old client (Call.MsgRcv id asked.size asked.msgtyp asked.flags)) }
         ensures parked { self.new.parked ≡ self.old.parked }
     {
         let who = caller_of(&self.clients, client, self.clock);
-        self.queues.msgrcv(&who, id, asked)
+        Ok(self.queues.msgrcv(&who, id, asked))
     }
 
     /// msgsnd: None where it is to wait, and then nothing has changed. The error comes only where an allocation fails,

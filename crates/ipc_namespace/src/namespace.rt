@@ -333,26 +333,26 @@ impl Namespace {
                     msgtyp: *msgtyp,
                     flags: *flags,
                 };
-                Ok(self.msgrcv(client, *id, asked))
+                self.msgrcv(client, *id, asked)
             }
             Call::SemOp { id, ops } => self.semop(client, *id, ops),
             Call::SemTimedOp { id, ops, .. } => self.semop(client, *id, ops),
-            _ => Ok(Some(self.answer(client, call)?)),
+            _ => self.answer(client, call),
         }
     }
 
     /// Refuses or grants a call that never waits, ends no waiting call and doesn't look at them. The error comes only where
     /// an allocation fails, and then nothing has changed.
-    fn answer(&mut self, client: u32, call: &Call) -> Result<Outcome, Memory>
+    fn answer(&mut self, client: u32, call: &Call) -> Result<Option<Outcome>, Memory>
         requires known { client < length self.old.clients }
         requires free { waits self.old client ≡ false }
         requires alone { is_on_waiting_by call.now ≡ false }
         requires at_once { waits_at call.now ≡ None }
-        ensures outcome { IfOk result (λ outcome. outcome_of (decision_alive self.old client call.now) ≡ Some outcome) }
+        ensures own { IfOk result (λ own. own ≡ outcome_of (decision_alive self.old client call.now)) }
         ensures state { OnOk result (self.new ≡ left_by self.old (decision_alive self.old client call.now)) }
         ensures err { OnErr result (self.new ≡ self.old) }
     {
-        match call {
+        let outcome = match call {
             Call::MsgGet { key, flags } => {
                 let asked = Get {
                     key: *key,
@@ -378,7 +378,8 @@ impl Namespace {
             }
             Call::Exit => self.exit(client),
             _ => unreachable!(),
-        }
+        }?;
+        Ok(Some(outcome))
     }
 
     /// Ends the waiting calls whose deadline is reached, the earliest first. There is room for each in the list of those
