@@ -1,6 +1,6 @@
 # Proofs and times.
 
-programs='ipcsh_cli ipcwho ipcsh_explain ipcsh_journal ipc_bench thread_bench'
+programs='ipcsh_cli ipcwho ipcsh_explain ipcsh_journal ipc_bench thread_bench ipcsh_c'
 
 check_bench() {
     attempt bench measures
@@ -44,7 +44,7 @@ programs_made() {
     for crate in $programs; do sources_of "$crate"; done
 }
 
-# rt ci, with what it counts. It builds the programs.
+# rt ci, with what it counts. It builds the programs, and proves the library for C, which is built then.
 check_proofs() {
     mkfifo "$scratch/ci.pipe"
     tee "$scratch/ci" <"$scratch/ci.pipe" &
@@ -54,7 +54,13 @@ check_proofs() {
     in_group rt ci </dev/null >"$scratch/ci.pipe" || status=$?
     wait
     count_of 'rt ci' "$(tail -n 1 "$scratch/ci")" "$status"
+    [ "$status" != 0 ] || attempt 'library for C' builds_the_library
     [ "$before" != "$(programs_made)" ] || note_programs
+}
+
+builds_the_library() {
+    why='it is not built over what rt ci has proved:'
+    in_group python3 lib/crates.py archive ipcsh_c >"$scratch/shown" 2>&1
 }
 
 # count_of COMMAND LINE STATUS: adds what the last line of a command counts.
@@ -76,7 +82,7 @@ count_of() {
     esac
 }
 
-# The programs that rt ci has built are current.
+# The programs that rt ci has built are current, and the library that was built over it.
 note_programs() {
     for crate in $programs; do
         if [ -n "$(find "$(program_of "$crate")" -newer "$scratch/began" 2>/dev/null)" ]; then
