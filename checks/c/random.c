@@ -71,7 +71,17 @@ struct lists_of {
     uint32_t groups[2];
 };
 
-static uint32_t any_flags(struct client *it) { return (any(it, 4) ? (uint32_t)IPCSH_CREAT : 0) | (any(it, 4) ? 0u : (uint32_t)IPCSH_EXCL) | 0600 | any(it, 64); }
+static uint32_t any_flags(struct client *it)
+{
+    return (any(it, 4) ? (uint32_t)IPCSH_CREAT : 0) | (any(it, 8) ? 0u : (uint32_t)IPCSH_EXCL) | (any(it, 4) ? 0666 : any(it, 512));
+}
+
+/* A removal is rarer than the others, and an exit is rare, since all that follows is refused then. */
+static enum ipcsh_op any_op(struct client *it)
+{
+    uint32_t op = any(it, any(it, 200) ? 24 : 25);
+    return (enum ipcsh_op)(op == IPCSH_RMID && any(it, 4) ? any(it, IPCSH_RMID) : op);
+}
 
 static void any_ops(struct client *it, struct lists_of *own, struct ipcsh_lists *lists, struct text *line)
 {
@@ -98,7 +108,7 @@ static void any_call(struct client *it, struct ipcsh_request *r, struct lists_of
     r->kind = kind_of[any(it, 3)];
     r->key = any(it, 4);
     r->flags = any_flags(it);
-    r->id = any(it, 12);
+    r->id = any(it, any(it, 4) ? 3 : 12);
     r->num = any(it, SEMS + 1);
     switch (r->op) {
     case IPCSH_MSGGET: put(line, " %u %u", r->key, r->flags); break;
@@ -148,17 +158,17 @@ static void any_call(struct client *it, struct ipcsh_request *r, struct lists_of
         put(line, " %u %u", r->id, r->flags);
         break;
     case IPCSH_SHMDT:
-        r->id = any(it, 4);
+        r->id = any(it, 2);
         put(line, " %u", r->id);
         break;
     case IPCSH_SHMREAD:
-        r->id = any(it, 4);
+        r->id = any(it, 2);
         r->offset = any(it, 8);
         r->size = any(it, BYTES + 1);
         put(line, " %u %llu %llu", r->id, (unsigned long long)r->offset, (unsigned long long)r->size);
         break;
     case IPCSH_SHMWRITE:
-        r->id = any(it, 4);
+        r->id = any(it, 2);
         r->offset = any(it, 8);
         any_bytes(it, own, lists);
         put(line, " %u %llu ", r->id, (unsigned long long)r->offset);
@@ -250,8 +260,7 @@ static void put_reply(struct client *it, struct text *row, const struct ipcsh_re
 
 static void call(struct client *it, struct called *called)
 {
-    /* An exit is rare, since all that follows is refused then. */
-    struct ipcsh_request request = ipcsh_request_of((enum ipcsh_op)any(it, any(it, 100) ? 24 : 25), any(it, 1000));
+    struct ipcsh_request request = ipcsh_request_of(any_op(it), any(it, 1000));
     struct lists_of own;
     struct ipcsh_lists lists = {0};
     unsigned char bytes[BYTES];
