@@ -24,6 +24,7 @@ impl Namespace {
 
     /// msgrcv: None where it is to wait, and then nothing has changed. It takes no memory.
     #[tactic(auto, unfolding(ipc_model::specs::Decide::part_plan))]
+    #[inline(always)]
     pub(super) fn msgrcv(
         &mut self,
         client: u32,

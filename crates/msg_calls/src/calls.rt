@@ -87,6 +87,7 @@ impl Queues {
 
     /// Whether such a message may be sent (msgsnd of msgop(2)), or by which rule it is refused.
     /// None where the call waits.
+    #[inline(always)]
     pub fn decide_send(
         &self,
         limits: &Limits,

@@ -95,6 +95,7 @@ impl Queue {
     }
 
     /// Reserves a place for a message to come. Memory comes where a growth was refused, and then nothing has changed.
+    #[inline(always)]
     pub(super) fn reserve(&mut self) -> Result<(), Memory>
         ensures ok { OnOk result (self.new ≡ record self.old { reserved = self.old.reserved + 1 }) }
         ensures err { OnErr result (self.new ≡ self.old) }
@@ -111,6 +112,7 @@ impl Queue {
     }
 
     /// Adds a message of the caller at the end, in a place that was reserved (msgsnd of msgop(2)). It takes no memory.
+    #[inline(always)]
     pub(super) fn send(&mut self, who: &Caller, mtype: i64, text: Items<u8>)
         requires reserved { 0 < self.old.reserved }
         requires room { is_full self.old.queue.messages self.old.queue.qbytes (length text) ≡ false }
