@@ -18,20 +18,16 @@ c_checks() {
     for seed in 1 2 3 4 5 6 7 8 9 10; do
         attempt "2,000 random calls, $seed" random_calls_replay "$seed"
     done
-    attempt 'random calls under valgrind' random_calls_replay 11 watched
+    attempt 'random calls under valgrind' random_calls_replay 11 "$(watch)"
 }
 
 library_is_built() {
     built ipcsh_c && ./build c 2>"$scratch/shown"
 }
 
-# watched COMMAND..: the same under valgrind, which ends it with 99 for a complaint or for memory that is lost.
-watched() {
-    if command -v valgrind >/dev/null; then
-        valgrind --quiet --error-exitcode=99 --leak-check=full --log-file="$scratch/shown" "$@"
-    else
-        "$@"
-    fi
+# watch: the words before a command that run it under valgrind, where that is there. It ends with 99 for a complaint or for memory that is lost.
+watch() {
+    ! command -v valgrind >/dev/null || echo "valgrind --quiet --error-exitcode=99 --leak-check=full --log-file=$scratch/shown"
 }
 
 # with_library BASE: the program BASE.c is $scratch/with_library.
@@ -42,20 +38,20 @@ with_library() {
 
 prints_with_the_library() {
     with_library "$1" || return 1
-    for how in env watched; do
+    for how in '' "$(watch)"; do
         status=0
-        timeout 120 "$how" "$scratch/with_library" >"$scratch/out" 2>"$scratch/err" || status=$?
+        timeout 120 $how "$scratch/with_library" >"$scratch/out" 2>"$scratch/err" || status=$?
         same 'what it prints' "$1.out" "$scratch/out" || return 1
         why="status $status"
         [ "$status" = 0 ] || return 1
     done
 }
 
-# random_calls_replay SEED [HOW]
+# random_calls_replay SEED [WORDS]: where words are given, they run the program.
 random_calls_replay() {
     with_library checks/c/random || return 1
     why='it failed'
-    timeout 120 "${2-env}" "$scratch/with_library" "$1" "$scratch/script" "$scratch/rows" 2>"$scratch/shown" || return 1
+    timeout 120 ${2-} "$scratch/with_library" "$1" "$scratch/script" "$scratch/rows" 2>"$scratch/shown" || return 1
     "$(the_program)" <"$scratch/script" >"$scratch/wanted" 2>"$scratch/shown" || return 1
     same 'what the calls are answered' "$scratch/wanted" "$scratch/rows"
 }
