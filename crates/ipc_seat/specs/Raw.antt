@@ -1,5 +1,5 @@
 -- What posting and going on do in numbers.
-use Rattle.std.specs.Prelude.{◌≡◌, ℕ, ℤ, List, length, Option, None, Some, Result, Ok, Err}
+use Rattle.std.specs.Prelude.{◌≡◌, ℕ, ℤ, List, length, None, Some, Result, Ok, Err}
 use Rattle.ipc_call.specs.declared.calls.Call.{Call}
 use Rattle.ipc_call.specs.declared.replies.Reply.{Reply}
 use Rattle.ipc_abi.specs.Replies.{FitsIn, objects_in, put_in, reply_in_numbers, text_in, values_in}
