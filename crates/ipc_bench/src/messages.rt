@@ -43,7 +43,7 @@ fn receive(space: &mut Space, id: u32, msgtyp: i64) -> io::Result<Items<u8>> {
         msgtyp,
         flags: IPC_NOWAIT,
     };
-    match answer(space, call)? {
+    match answer(space, call) {
         Some(Answer::Message { text, .. }) => Ok(text),
         _ => Err(unanswered()),
     }
@@ -68,10 +68,7 @@ fn hand_over(space: &mut Space, id: u32, text: Items<u8>) -> io::Result<Items<u8
         text,
         flags: 0,
     };
-    let Some(told) = effects(space, 0, call)? else {
-        return Err(unanswered());
-    };
-    let Effects { mut others, .. } = told;
+    let Effects { mut others, .. } = effects(space, 0, call)?;
     match others.pop().and_then(|(_, reply)| answer_in(reply)) {
         Some(Answer::Message { text, .. }) => Ok(text),
         _ => Err(unanswered()),

@@ -72,7 +72,7 @@ fn shmget(space: &mut Space, bytes: u32) -> io::Result<u32> {
         size: u64::from(bytes),
         flags: 0o600,
     };
-    match answer(space, call)? {
+    match answer(space, call) {
         Some(Answer::Id(id)) => Ok(id),
         _ => Err(unanswered()),
     }
@@ -80,7 +80,7 @@ fn shmget(space: &mut Space, bytes: u32) -> io::Result<u32> {
 
 /// Attaches a segment to read and to write.
 fn shmat(space: &mut Space, id: u32) -> io::Result<u32> {
-    match answer(space, Call::ShmAt { id, flags: 0 })? {
+    match answer(space, Call::ShmAt { id, flags: 0 }) {
         Some(Answer::Attached(att)) => Ok(att),
         _ => Err(unanswered()),
     }
@@ -98,7 +98,7 @@ fn last_of(bytes: &[u8]) -> u32 {
 fn make_each(space: &mut Space, calls: Vec<Call>) -> io::Result<u32> {
     let mut last = 0;
     for call in calls {
-        match answer(space, call)? {
+        match answer(space, call) {
             Some(Answer::Bytes(bytes)) => last = last_of(bytes.as_slice()),
             Some(Answer::Done) => {}
             _ => return Err(unanswered()),

@@ -128,7 +128,7 @@ fn semget(space: &mut Space, nsems: u32) -> io::Result<u32> {
         nsems,
         flags: 0o600,
     };
-    match answer(space, call)? {
+    match answer(space, call) {
         Some(Answer::Id(id)) => Ok(id),
         _ => Err(unanswered()),
     }
@@ -136,7 +136,7 @@ fn semget(space: &mut Space, nsems: u32) -> io::Result<u32> {
 
 /// The value of a semaphore.
 fn value(space: &mut Space, id: u32, num: u32) -> io::Result<u32> {
-    match answer(space, Call::GetVal { id, num })? {
+    match answer(space, Call::GetVal { id, num }) {
         Some(Answer::Value(value)) => Ok(value),
         _ => Err(unanswered()),
     }

@@ -3,7 +3,7 @@
 
 use ipc_call::{Answer, Call, IPC_CREAT, IPC_NOWAIT, Kind};
 use ipc_space::{Effects, Space};
-use std::alloc::Global;
+use std::alloc::{AllocError, Global};
 use std::io;
 use std::time::{Clock, Instant};
 use test_support::calls::answer_in;
@@ -41,26 +41,26 @@ pub(crate) fn in_spaces<Add: Fn(&mut Space, &mut Run, u32) -> io::Result<()>>(
     Ok(run)
 }
 
-/// What a call of a client tells, None where there is no such client or it waits.
-pub(crate) fn effects(space: &mut Space, client: u32, call: Call) -> io::Result<Option<Effects>> {
+/// What a call of a client tells. It is as where memory fails where there is no such client or it waits.
+#[inline(always)]
+pub(crate) fn effects(space: &mut Space, client: u32, call: Call) -> Result<Effects, AllocError> {
     if client >= space.clients() || space.is_waiting(client) {
-        return Ok(None);
+        drop(call);
+        return Err(AllocError);
     }
-    Ok(Some(space.apply(client, 0, call)?))
+    space.apply(client, 0, call)
 }
 
 /// The answer to a call of client 0, None where it isn't served.
-pub(crate) fn answer(space: &mut Space, call: Call) -> io::Result<Option<Answer>> {
-    let Some(told) = effects(space, 0, call)? else {
-        return Ok(None);
-    };
-    let Effects { own, .. } = told;
-    Ok(own.and_then(answer_in))
+#[inline(always)]
+pub(crate) fn answer(space: &mut Space, call: Call) -> Option<Answer> {
+    let Effects { own, .. } = effects(space, 0, call).ok()?;
+    own.and_then(answer_in)
 }
 
 /// Client 0 makes a call that is answered with nothing.
 pub(crate) fn done(space: &mut Space, call: Call) -> io::Result<()> {
-    match answer(space, call)? {
+    match answer(space, call) {
         Some(Answer::Done) => Ok(()),
         _ => Err(unanswered()),
     }
@@ -78,7 +78,7 @@ pub(crate) fn wait(space: &mut Space, client: u32, call: Call) -> io::Result<()>
 
 /// One msgget of client 0.
 pub(crate) fn msgget(space: &mut Space, key: u32, flags: u32) -> io::Result<u32> {
-    match answer(space, Call::MsgGet { key, flags })? {
+    match answer(space, Call::MsgGet { key, flags }) {
         Some(Answer::Id(id)) => Ok(id),
         _ => Ok(u32::MAX),
     }
@@ -157,7 +157,7 @@ impl Asked {
         let mut run = Run::new(calls);
         let start = Instant::now(rt)?;
         for _ in 0..calls {
-            let is_answered = answer(space, self.call(id))?.is_some();
+            let is_answered = answer(space, self.call(id)).is_some();
             run.add_answer(u32::from(is_answered));
         }
         run.add_time(rt, start)?;
@@ -172,7 +172,7 @@ impl Asked {
 
 /// How many queues client 0 is shown.
 fn shown(space: &mut Space) -> io::Result<u32> {
-    match answer(space, Call::Listing { kind: Kind::Queue })? {
+    match answer(space, Call::Listing { kind: Kind::Queue }) {
         Some(Answer::Rows(rows)) => Ok(u32::try_from(rows.len()).unwrap_or(u32::MAX)),
         _ => Err(unanswered()),
     }
