@@ -4,7 +4,7 @@
 ghost use Rattle.std.specs.Prelude.{◌≡◌};
 ghost use types.Logic.{sem};
 ghost use Rattle.std.specs.Box.Ownership.{box_owns};
-ghost use Rattle.libc.specs.Heap.{chunk};
+ghost use Rattle.std.specs.contracts.impls.GlobalAllocator.TheImpl.{ghosts as heap};
 ghost use Rattle.ipc_abi.specs.Requests.{given};
 ghost use Rattle.ipc_seat.specs.Raw.{AdvancesInNumbers, PostsInNumbers, room};
 ghost use Rattle.ipc_seat.specs.declared.seat.Seat.{Seat as SeatValue};
@@ -58,8 +58,8 @@ pub unsafe extern "C" fn ipcsh_raw_post(
     groups: &[u32],
 ) -> i32
     ghost before: { SeatValue }
-    requires* { sem 𝓛 (box_owns chunk seat_row handle before) }
-    ensures* { ∃ₛ (λ (after : SeatValue). sem 𝓛 (box_owns chunk seat_row handle after)
+    requires* { sem 𝓛 (box_owns (heap.dealloc_token before.alloc) seat_row handle before) }
+    ensures* { ∃ₛ (λ (after : SeatValue). sem 𝓛 (box_owns (heap.dealloc_token after.alloc) seat_row handle after)
         ∗ ⌜ (PostsInNumbers before request.now (given text.now ops.now values.now groups.now) after result) ⌝) }
 {
     posted(
@@ -101,8 +101,8 @@ pub unsafe extern "C" fn ipcsh_raw_advance(
     objects: &mut [RawObject],
 ) -> i32
     ghost before: { SeatValue }
-    requires* { sem 𝓛 (box_owns chunk seat_row handle before) }
-    ensures* { ∃ₛ (λ (after : SeatValue). sem 𝓛 (box_owns chunk seat_row handle after)
+    requires* { sem 𝓛 (box_owns (heap.dealloc_token before.alloc) seat_row handle before) }
+    ensures* { ∃ₛ (λ (after : SeatValue). sem 𝓛 (box_owns (heap.dealloc_token after.alloc) seat_row handle after)
         ∗ ⌜ (AdvancesInNumbers before after
         (room reply.old bytes.old values.old objects.old) (room reply.new bytes.new values.new objects.new) result) ⌝) }
 {
@@ -126,7 +126,7 @@ fn advanced(
 #[unsafe(no_mangle)]
 pub unsafe extern "C" fn ipcsh_raw_close(alloc: Global, handle: *mut u8)
     ghost before: { SeatValue }
-    requires* { sem 𝓛 (box_owns chunk seat_row handle before) }
+    requires* { sem 𝓛 (box_owns (heap.dealloc_token before.alloc) seat_row handle before) }
 {
     ended(Box::from_raw(alloc, handle as *mut Seat));
 }

@@ -3,7 +3,6 @@ use Rattle.std.proofs.Common.{List, [], ◌∷◌, refl}
 use Rattle.std.proofs.raw_atomic.Walks.{proved}
 use base.Fml.{ftrue}
 use mir.Val.{Val}
-use contract.Running.{tables}
 use types.Kit.{‵, raw, ◌$◌, ◌∵◌, !, qed, done, drop, join, feq_i, suffices}
 use types.Run.{enter, of_opd, returns}
 use types.ByLocal.{alloc_all, pass_all, free_all, look_at, get, sets}

@@ -1,12 +1,12 @@
 -- `ipcsh_raw_advance` lends the client behind the handle to `advanced`, and has it back at its last value. The other arguments it passes on.
-use Rattle.std.proofs.Common.{◌≡◌, ℕ, List, [], ◌∷◌, ◌++◌, refl, w8, w16, w32}
+use Rattle.std.proofs.Common.{ℕ, List, [], ◌∷◌, ◌++◌, refl, w32}
 use Rattle.std.proofs.raw_atomic.Walks.{proved}
 use base.Fraction.{full_share}
 use base.Logic.{id⊢, sep, fst∗, never}
-use base.Fml.{ftrue, flft, fres, flent}
+use base.Fml.{ftrue, flft, flent}
 use mir.Syntax.{named}
 use mir.Raw.{raw as bare}
-use mir.Val.{Val, vint, vptr}
+use mir.Val.{Val, vptr}
 use prog.Wp.{WpFn}
 use contract.Monad.{fact}
 use contract.Running.{tables}
@@ -34,7 +34,7 @@ use denote.Triple.Clauses.{Lasts, lasts}
 use denote.Triple.Spec.{triple_of}
 use denote.Triple.Walked.{says, Stays, walk_of, stay_dropped, Goes-dropped, gave_ref, Goes-gave_ref, gave_slice, Goes-gave_slice, ends_at}
 use denote.Triple.Table.{framed}
-use Rattle.libc.specs.Heap.{chunk}
+use Rattle.std.specs.contracts.impls.GlobalAllocator.TheImpl.{ghosts}
 use Rattle.std.specs.Box.Ownership.{box_owns}
 use Rattle.ipc_abi.specs.contracts.objects.RawObject.{the_row as Object}
 use Rattle.ipc_abi.specs.contracts.replies.RawReply.{the_row as Reply}
@@ -67,10 +67,10 @@ ipcsh_raw_advance_spec 𝓤 𝓛 𝓜 𝓡 wired =
     let given_vals : List Val = mut_vals a.1.0 ++ (mut_slice_vals a.1.1.0 ++ (mut_slice_vals a.1.1.1.0 ++ (mut_slice_vals a.1.1.1.1.0 ++ []))) in
     let y : Ptr → W.Ghost = λ p. ((κs, qs, bounds, (p, a.1), (rawptr_vals p, (mut_vals a.1.0, (mut_slice_vals a.1.1.0, (mut_slice_vals a.1.1.1.0, (mut_slice_vals a.1.1.1.1.0, tt)))))), v) in
     let tokens = ‵ (flft κs.0 qs.0) ⊛ ‵ (flft κs.1.0 qs.1.0) ⊛ ‵ (flft κs.1.1.0 qs.1.1.0) ⊛ ‵ (flft κs.1.1.1.0 qs.1.1.1.0) ⊛ ‵ ftrue in
-    qed 𝓛 ((tokens ⊛ ‵ (owns (types_at f.ended.signature.params κs) a (rawptr_vals a.0, (mut_vals a.1.0, (mut_slice_vals a.1.1.0, (mut_slice_vals a.1.1.1.0, (mut_slice_vals a.1.1.1.1.0, tt))))))) ∷ ‵ (box_owns chunk R a.0 v) ∷ []) ∵
+    qed 𝓛 ((tokens ⊛ ‵ (owns (types_at f.ended.signature.params κs) a (rawptr_vals a.0, (mut_vals a.1.0, (mut_slice_vals a.1.1.0, (mut_slice_vals a.1.1.1.0, (mut_slice_vals a.1.1.1.1.0, tt))))))) ∷ ‵ (box_owns (ghosts.dealloc_token v.alloc) R a.0 v) ∷ []) ∵
     split ! $ move ! (1 ∷ []) $ fsplit ! $ drop ! $ keep ! (2 ∷ 0 ∷ 1 ∷ []) $
     -- [the box; the other arguments; the tokens]
-    in_a_block ! a.0 (λ p. box_owns chunk R p v) (fst∗ 𝓤 (never 𝓤) (sem 𝓛 (chunk (bare (lone R.mir)) null_ptr))) (λ b o e.
+    in_a_block ! a.0 (λ p. box_owns (ghosts.dealloc_token v.alloc) R p v) (fst∗ 𝓤 (never 𝓤) (sem 𝓛 (ghosts.dealloc_token v.alloc (bare (lone R.mir)) null_ptr))) (λ b o e.
     regoal ! (λ p. prop (WpFn 𝓤 𝓛.H 𝓣.C 𝓣.Λ code.function (rawptr_vals p ++ given_vals) (W.post (y p)))) e refl $
     fsplit ! $ enter ! _ _ _ _ _ $
     alloc_all ! (λ l. pass_all ! refl ((tt, tt), ((tt, tt), ((tt, (tt, (record { fits = are.1.1.0.0.1.0 }, tt))), ((tt, (tt, (record { fits = are.1.1.1.0.0.1.0 }, tt))), ((tt, (tt, (record { fits = are.1.1.1.1.0.0.1.0 }, tt))), tt))))) $
@@ -112,4 +112,4 @@ ipcsh_raw_advance_spec 𝓤 𝓛 𝓜 𝓡 wired =
     suffices ! _ (ends_at 𝓛 f.ended stayed c (y (block_ptr b o)) u x (tt, (ws.1.0, (ws.1.1.0, (ws.1.1.1.0, (ws.1.1.1.1.0, tt))))) (tt, (tt, (bytes_same, (values_same, (objects_same, tt)))))) $
     move ! (5 ∷ 7 ∷ []) $ fjoin ! $ nothing ! $ move ! (3 ∷ 0 ∷ []) $ join ! $ move ! (3 ∷ 0 ∷ []) $ join ! $ move ! (3 ∷ 0 ∷ []) $ join ! $ move ! (3 ∷ 0 ∷ []) $ join ! $ nothing ! $ join ! $
     move ! (3 ∷ 0 ∷ 2 ∷ []) $ group ! 3 $ frame ! $
-    show ! (λ (s : Seat). sep 𝓤 (sem 𝓛 (box_owns chunk R (block_ptr b o) s)) (fact 𝓤 (Says x s ws))) ws.0 $ says ! eq $ done !)))))))))))))
+    show ! (λ (s : Seat). sep 𝓤 (sem 𝓛 (box_owns (ghosts.dealloc_token s.alloc) R (block_ptr b o) s)) (fact 𝓤 (Says x s ws))) ws.0 $ says ! eq $ done !)))))))))))))

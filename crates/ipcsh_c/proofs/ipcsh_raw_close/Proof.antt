@@ -1,9 +1,9 @@
 -- `ipcsh_raw_close` makes the box again, and hands it to `ended`.
-use Rattle.std.proofs.Common.{◌≡◌, ℕ, List, [], ◌∷◌, ◌++◌, refl, sym, ap, subst}
+use Rattle.std.proofs.Common.{◌≡◌, List, [], ◌∷◌, ◌++◌, refl, sym, ap, subst}
 use Rattle.std.proofs.raw_atomic.Walks.{proved_at}
 use base.Fraction.{full_share}
 use base.Logic.{SProp, ent, emp, id⊢}
-use base.Fml.{Lft, Share, ftrue, flft}
+use base.Fml.{ftrue, flft}
 use contract.BorrowLft.{◌⊑◌, ⊑_refl}
 use mir.Syntax.{Dict, impl, tcons, tnil, dnil}
 use mir.Val.{Val, vunit}
@@ -30,7 +30,6 @@ use denote.Triple.Walked.{Stays, walk_of, stay_dropped, Goes-dropped, ends_at}
 use denote.Triple.Table.{framed}
 use Rattle.std.proofs.alloc.Calls.{handle_tells}
 use Rattle.std.proofs.cell.Inside.{Good}
-use Rattle.libc.specs.Heap.{chunk}
 use Rattle.std.specs.Box.Ownership.{box_owns}
 use Rattle.std.proofs.BoxSteps.Form as box
 use Rattle.std.proofs.BoxSteps.Steps.{box_out, box_in}
@@ -80,7 +79,7 @@ ipcsh_raw_close_spec 𝓤 𝓛 𝓜 𝓡 wired =
     let a = z.0.3.0 in let p = z.0.3.1.0 in let v = z.1 in let B : RattleType = box.B E in
     let toks = ‵ (flft [] full_share) ⊛ ‵ (flft [] full_share) ⊛ ‵ ftrue in
     let k = triple_of 𝓛 (callee.signature R Z ghosts dict drops) (callee.spec R Z ghosts dict drops 𝓛 𝓜.mem 𝓡.returns) in
-    qed 𝓛 ((‵ ftrue ⊛ ‵ (owns (types_at f.ended.signature.params tt) z.0.3 z.0.4)) ∷ ‵ (box_owns chunk the_row p v) ∷ []) ∵ split ! $ drop ! $ fsplit ! $
+    qed 𝓛 ((‵ ftrue ⊛ ‵ (owns (types_at f.ended.signature.params tt) z.0.3 z.0.4)) ∷ ‵ (box_owns (ghosts.dealloc_token v.alloc) the_row p v) ∷ []) ∵ split ! $ drop ! $ fsplit ! $
     handle_tells E.al ! a z.0.4.0 (λ h eh fits. move ! (1 ∷ []) $ fsplit ! $ feq_l ! (λ ep. drop ! $
     let y : k.Ghost = ((([], ([], tt)), (full_share, (full_share, tt)), tt, (a, (p, tt)), (h ∷ [], (ptr_val p ∷ [], tt))), v) in
     -- [the handle of the heap; the box]

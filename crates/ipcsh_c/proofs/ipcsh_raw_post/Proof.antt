@@ -1,12 +1,12 @@
 -- `ipcsh_raw_post` lends the client behind the handle to `posted`, and has it back at its last value.
-use Rattle.std.proofs.Common.{◌≡◌, ℕ, List, [], ◌∷◌, ◌++◌, refl, w8, w16, w32}
+use Rattle.std.proofs.Common.{ℕ, List, [], ◌∷◌, ◌++◌, refl, w32}
 use Rattle.std.proofs.raw_atomic.Walks.{proved}
 use base.Fraction.{full_share}
 use base.Logic.{id⊢, sep, fst∗, never}
-use base.Fml.{ftrue, flft, fres, flent}
+use base.Fml.{ftrue, flft, flent}
 use mir.Syntax.{named}
 use mir.Raw.{raw as bare}
-use mir.Val.{Val, vint, vptr}
+use mir.Val.{Val, vptr}
 use prog.Wp.{WpFn}
 use contract.Monad.{fact}
 use contract.Running.{tables}
@@ -33,7 +33,7 @@ use denote.Triple.Clauses.{Lasts, lasts}
 use denote.Triple.Spec.{triple_of}
 use denote.Triple.Walked.{says, Stays, walk_of, stay_dropped, Goes-dropped, ends_at}
 use denote.Triple.Table.{framed}
-use Rattle.libc.specs.Heap.{chunk}
+use Rattle.std.specs.contracts.impls.GlobalAllocator.TheImpl.{ghosts}
 use Rattle.std.specs.Box.Ownership.{box_owns}
 use Rattle.ipc_abi.specs.Requests.{given}
 use Rattle.ipc_abi.specs.contracts.requests.RawRequest.{the_row as Request}
@@ -73,10 +73,10 @@ ipcsh_raw_post_spec 𝓤 𝓛 𝓜 𝓡 wired =
     let given_vals : List Val = shr_vals a.1.0 ++ (shr_slice_vals a.1.1.0 ++ (shr_slice_vals a.1.1.1.0 ++ (shr_slice_vals a.1.1.1.1.0 ++ (shr_slice_vals a.1.1.1.1.1.0 ++ [])))) in
     let y : Ptr → W.Ghost = λ p. ((κs, qs, bounds, (p, a.1), (rawptr_vals p, (shr_vals a.1.0, (shr_slice_vals a.1.1.0, (shr_slice_vals a.1.1.1.0, (shr_slice_vals a.1.1.1.1.0, (shr_slice_vals a.1.1.1.1.1.0, tt))))))), v) in
     let tokens = ‵ (flft κs.0 qs.0) ⊛ ‵ (flft κs.1.0 qs.1.0) ⊛ ‵ (flft κs.1.1.0 qs.1.1.0) ⊛ ‵ (flft κs.1.1.1.0 qs.1.1.1.0) ⊛ ‵ (flft κs.1.1.1.1.0 qs.1.1.1.1.0) ⊛ ‵ ftrue in
-    qed 𝓛 ((tokens ⊛ ‵ (owns (types_at f.ended.signature.params κs) a (rawptr_vals a.0, (shr_vals a.1.0, (shr_slice_vals a.1.1.0, (shr_slice_vals a.1.1.1.0, (shr_slice_vals a.1.1.1.1.0, (shr_slice_vals a.1.1.1.1.1.0, tt)))))))) ∷ ‵ (box_owns chunk R a.0 v) ∷ []) ∵
+    qed 𝓛 ((tokens ⊛ ‵ (owns (types_at f.ended.signature.params κs) a (rawptr_vals a.0, (shr_vals a.1.0, (shr_slice_vals a.1.1.0, (shr_slice_vals a.1.1.1.0, (shr_slice_vals a.1.1.1.1.0, (shr_slice_vals a.1.1.1.1.1.0, tt)))))))) ∷ ‵ (box_owns (ghosts.dealloc_token v.alloc) R a.0 v) ∷ []) ∵
     split ! $ move ! (1 ∷ []) $ fsplit ! $ drop ! $ keep ! (2 ∷ 0 ∷ 1 ∷ []) $
     -- [the box; the other arguments; the tokens]
-    in_a_block ! a.0 (λ p. box_owns chunk R p v) (fst∗ 𝓤 (never 𝓤) (sem 𝓛 (chunk (bare (lone R.mir)) null_ptr))) (λ b o e.
+    in_a_block ! a.0 (λ p. box_owns (ghosts.dealloc_token v.alloc) R p v) (fst∗ 𝓤 (never 𝓤) (sem 𝓛 (ghosts.dealloc_token v.alloc (bare (lone R.mir)) null_ptr))) (λ b o e.
     regoal ! (λ p. prop (WpFn 𝓤 𝓛.H 𝓣.C 𝓣.Λ code.function (rawptr_vals p ++ given_vals) (W.post (y p)))) e refl $
     fsplit ! $ enter ! _ _ _ _ _ $
     alloc_all ! (λ l. pass_all ! refl ((tt, tt), ((tt, tt), ((tt, (tt, (record { fits = are.1.1.0.0.1.0 }, tt))), ((tt, (tt, (record { fits = are.1.1.1.0.0.1.0 }, tt))), ((tt, (tt, (record { fits = are.1.1.1.1.0.0.1.0 }, tt))), ((tt, (tt, (record { fits = are.1.1.1.1.1.0.0.1.0 }, tt))), tt)))))) $
@@ -106,4 +106,4 @@ ipcsh_raw_post_spec 𝓤 𝓛 𝓜 𝓡 wired =
     suffices ! _ (ends_at 𝓛 f.ended stayed c (y (block_ptr b o)) u x (tt, (tt, (tt, (tt, (tt, (tt, tt)))))) (tt, (tt, (tt, (tt, (tt, (tt, tt))))))) $
     move ! (1 ∷ 3 ∷ []) $ fjoin ! $ nothing ! $ nothing ! $ join ! $ nothing ! $ join ! $ nothing ! $ join ! $ nothing ! $ join ! $ nothing ! $ join ! $ nothing ! $ join ! $
     move ! (3 ∷ 0 ∷ 2 ∷ []) $ group ! 3 $ frame ! $
-    show ! (λ (s : Seat). sep 𝓤 (sem 𝓛 (box_owns chunk R (block_ptr b o) s)) (fact 𝓤 (Says x s))) ws.0 $ says ! eq $ done !))))))))))
+    show ! (λ (s : Seat). sep 𝓤 (sem 𝓛 (box_owns (ghosts.dealloc_token s.alloc) R (block_ptr b o) s)) (fact 𝓤 (Says x s))) ws.0 $ says ! eq $ done !))))))))))
