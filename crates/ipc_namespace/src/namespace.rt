@@ -461,7 +461,6 @@ impl Namespace {
 
     /// Ends the waiting calls that can proceed, the earliest first, until none can: at first only those that were touched
     /// can, and a call that ends touches no others. There is room for each in the list of those that ended.
-    #[inline(never)]
     fn settle_touched(&mut self, touched: Touched, ended: &mut Vec<Completion>)
         requires quiet { AreQuietBut (is_touched touched) self.old }
         requires room { vec_len ended.old + length self.old.parked ≤ vec_capacity ended.old }
