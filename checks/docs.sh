@@ -117,7 +117,7 @@ holds() {
         ;;
     ipcsh) follows_rows ;;
     rows) prints_the_rows ;;
-    rust) stands_in ;;
+    c | rust) stands_in ;;
     sh | text) [ -z "$file" ] || stands_in ;;
     *)
         why="'$kind' is no kind of block"
