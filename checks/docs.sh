@@ -3,7 +3,7 @@
 #   console      commands, each after `$ `, with what it prints on standard output and standard error, in 60 s at most.
 #                A command with the comment `# about TIME` takes long and isn't run.
 #   ipcsh        a script. The next block, of kind `rows`, is what ./ipcsh prints for it on standard output.
-#   KIND FILE    lines that stand in this file as they are; of kind `rust` always.
+#   KIND FILE    lines that stand in this file as they are; of the kinds `c` and `rust` always.
 #   sh, text     what has no output: commands to be copied, a picture, a grammar.
 #
 # Their links lead somewhere, the pictures and tables of threads are those of docs/threads.rows, and the man pages those that lib/man_pages.py
