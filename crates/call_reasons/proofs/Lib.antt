@@ -1,4 +1,4 @@
 mod AskedNeeds
 mod Decided
-mod LastEvent
+mod LastCall
 mod TrialLemmas

@@ -5,7 +5,7 @@ use crate::calls::{object_of, word_of};
 use crate::cases::{NamedObject, Told, object_named};
 use crate::denials::denial_of;
 use crate::objects::{print_allowed, rights_in_words};
-use ipc_call::{Call, Rule};
+use ipc_call::{Call, Outcome, Rule};
 use ipc_space::Space;
 use perm_words::{kind_name, print_class, print_object};
 use std::fmt::Write;
@@ -32,21 +32,20 @@ pub struct Ender<'a> {
     pub call: &'a Call,
 }
 
-/// Appends lines that say what ended the wait of a client, and after how long. `rule` refused the call that waited, and is None
-/// where it was granted.
+/// Appends lines that say what ended the wait of a client, and after how long.
 pub fn explain_end(
     out: &mut String,
     space: &Space,
     client: u32,
     ender: Ender<'_>,
     wait: Wait,
-    rule: Option<Rule>,
+    outcome: &Outcome,
 ) -> Told {
     let clock = space.clock();
     let (since, seconds) = (wait.place, clock.saturating_sub(wait.clock));
     write!(out, "waited since event {since}, {seconds} s: ")?;
-    match rule {
-        Some(Rule::TimedOut) => {
+    match outcome {
+        Err(Rule::TimedOut) => {
             let place = ender.place;
             return write!(
                 out,
@@ -55,15 +54,15 @@ pub fn explain_end(
         }
         _ => print_ender(out, ender)?,
     }
-    match rule {
-        None => out.push_str(" let it proceed\n"),
-        Some(Rule::Removed) => out.push_str(" removed the object\n"),
-        Some(Rule::Interrupted) => out.push_str(" interrupted it\n"),
-        Some(Rule::OwnerBits | Rule::GroupBits | Rule::OtherBits) => {
+    match outcome {
+        Ok(_) => out.push_str(" let it proceed\n"),
+        Err(Rule::Removed) => out.push_str(" removed the object\n"),
+        Err(Rule::Interrupted) => out.push_str(" interrupted it\n"),
+        Err(Rule::OwnerBits | Rule::GroupBits | Rule::OtherBits) => {
             out.push_str(" took its right\n")?;
             explain_loss(out, space, client, wait.asked)
         }
-        Some(_) => out.push_str(" let it be decided again, and it is refused\n"),
+        Err(_) => out.push_str(" let it be decided again, and it is refused\n"),
     }
 }
 
