@@ -11,7 +11,8 @@ use Rattle.ipc_call.specs.declared.replies.Waiting.{Waiting}
 use Rattle.ipc_model.specs.State.{State}
 use Rattle.ipc_model.specs.Decide.{decide, decide_call, is_late}
 use Rattle.ipc_model.specs.Decision.{Decision, Granted, Refused, Waits, proceeds}
-use Rattle.ipc_namespace.specs.Namespace.{is_grant}
+use Rattle.ipc_model.proofs.Touched.{ready_touched}
+use Rattle.ipc_namespace.specs.Namespace.{is_grant, AreQuietBut}
 use Rattle.ipc_namespace.proofs.Own.{found-none}
 use Rattle.ipc_namespace.proofs.Parked.{all-filter}
 use Rattle.ipc_model.specs.Step.{Moved, and_then, at_time, cancelled_by, end_waiting, enter, entered, expire, expired, first_ready, is_ready, moved_by, settle, settle_from, settled, state_by, stepped, waiting_as}
@@ -27,6 +28,10 @@ settle-none (suc n) s none = ap (λ o. settle_from (settle n) s o) none
 
 pub settled-none : (s : State) → first_ready s ≡ None → settled s ≡ record { state = s; ended = [] }
 settled-none s none = settle-none (length s.parked) s none
+
+-- nothing that waits was touched, and no other call is ready
+pub settled-untouched : (touched : Waiting → Bool) (s : State) → AreQuietBut touched s → filter touched s.parked ≡ [] → settled s ≡ record { state = s; ended = [] }
+settled-untouched touched s quiet none = settled-none s (ready_touched touched s quiet ∙ ap (find (is_ready s)) none)
 
 settle-some : (n k : ℕ) (s new : State) (w : Waiting) (e : Completion) → n ≡ suc k → first_ready s ≡ Some w → end_waiting s w ≡ record { state = new; ended = e ∷ [] }
     → settle n s ≡ record { state = (settle k new).state; ended = e ∷ (settle k new).ended }

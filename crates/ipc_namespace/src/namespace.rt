@@ -455,7 +455,10 @@ impl Namespace {
         ensures few { vec_len ended.new ≤ vec_len ended.old + length self.old.parked }
     {
         if self.parked.len() > 0 {
-            self.settle_touched(Touched::by(call), ended);
+            let touched = Touched::by(call);
+            if self.parked.may_be_touched(touched) {
+                self.settle_touched(touched, ended);
+            }
         }
     }
 

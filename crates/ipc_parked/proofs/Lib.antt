@@ -1,6 +1,7 @@
 pub mod Clients
 pub mod Covering
 pub mod Listed
+pub mod Marked
 pub mod Marking
 pub mod Objects
 pub mod Picking

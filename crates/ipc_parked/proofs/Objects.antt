@@ -1,5 +1,5 @@
 -- The calls that wait on an object, among all: what a call more or less changes, and which is at an index.
-use Rattle.std.proofs.Common.{◌≡◌, ℕ, zero, suc, ◌≤◌, Bool, true, false, cond, eqb, List, [], ◌∷◌, ◌++◌, length, drop, slice_get, refl, sym, ap, subst, ◌∙◌, ⊎_elim, inl, inr, arith, Option, Some, None, is_some}
+use Rattle.std.proofs.Common.{◌≡◌, ℕ, zero, suc, ◌≤◌, Bool, true, false, cond, eqb, List, [], ◌∷◌, ◌++◌, length, map, drop, slice_get, refl, sym, ap, subst, ◌∙◌, ⊎_elim, inl, inr, arith, Option, Some, None, is_some}
 use Rattle.std.specs.Option.{option_map}
 use Rattle.std.specs.Borrow.{Bor}
 use Rattle.std.proofs.lemmas.Bool.{cases_Bool, true≢false, eqb-true, eq-eqb}
@@ -106,6 +106,15 @@ no_segment i call = refl
 pub none_on_segment : (i index : ℕ) (es : List (ℕ × Arrival)) → None ≡ slice_get (clients_on kinds.Segment i es) index
 none_on_segment i index [] = refl
 none_on_segment i index (e ∷ es) = rw (no_segment i e.1.call) (none_on_segment i index es)
+
+pub nobody_on_segment : (i : ℕ) (es : List (ℕ × Arrival)) → on_object kinds.Segment i es ≡ []
+nobody_on_segment i [] = refl
+nobody_on_segment i (e ∷ es) = rw (no_segment i e.1.call) (nobody_on_segment i es)
+
+-- where none of its clients waits no call does
+pub none_without_clients : (es : List (ℕ × Arrival)) → map (λ e. e.0) es ≡ [] → es ≡ []
+none_without_clients [] none = refl
+none_without_clients (e ∷ es) none = absurd (let h = ap length none in omega (arith, h))
 
 -- which is at an index
 pub there_from : (c : ℕ) (es : List (ℕ × Arrival)) (a : Arrival) → arrival_of c es ≡ Some a → is_there c es ≡ true

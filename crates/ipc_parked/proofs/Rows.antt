@@ -6,17 +6,17 @@ use Rattle.ipc_parked.specs.declared.waits.Wait.{Wait}
 use Rattle.ipc_parked.specs.Waits.{AreRising, IsPlace, NoneIs, client_if, clients_at, is_below, is_wait, without_first}
 
 -- lists
-all_map : (P Q : Wait → Type 0) (rows : List Wait) → ((row : Wait) → P row → Q row) → AllByRecursion P rows → AllByRecursion Q rows
+pub all_map : (P Q : Wait → Type 0) (rows : List Wait) → ((row : Wait) → P row → Q row) → AllByRecursion P rows → AllByRecursion Q rows
 all_map P Q [] f all = tt
 all_map P Q (row ∷ rows) f all = (f row all.0, all_map P Q rows f all.1)
 
-all_insert : (P : Wait → Type 0) (rows : List Wait) (i : ℕ) (new : Wait) → AllByRecursion P rows → P new → AllByRecursion P (insert rows i new)
+pub all_insert : (P : Wait → Type 0) (rows : List Wait) (i : ℕ) (new : Wait) → AllByRecursion P rows → P new → AllByRecursion P (insert rows i new)
 all_insert P [] zero new all here = (here, tt)
 all_insert P [] (suc i) new all here = (here, tt)
 all_insert P (row ∷ rows) zero new all here = (here, all)
 all_insert P (row ∷ rows) (suc i) new all here = (all.0, all_insert P rows i new all.1 here)
 
-all_remove : (P : Wait → Type 0) (rows : List Wait) (i : ℕ) → AllByRecursion P rows → AllByRecursion P (remove rows i)
+pub all_remove : (P : Wait → Type 0) (rows : List Wait) (i : ℕ) → AllByRecursion P rows → AllByRecursion P (remove rows i)
 all_remove P [] zero all = tt
 all_remove P [] (suc i) all = tt
 all_remove P (row ∷ rows) zero all = all.1

@@ -1,5 +1,5 @@
 -- The clients that wait on the objects of a kind, by identifier.
-use Rattle.std.specs.Prelude.{◌≡◌, ℕ, ◌<◌, ◌≤◌, ◌==◌, ◌&&◌, Bool, true, false, nat_lt, List, [], ◌∷◌, length, map, filter, take, drop, slice_get, Option, Some, None, if◌then◌else◌}
+use Rattle.std.specs.Prelude.{◌≡◌, ℕ, ◌<◌, ◌≤◌, ◌==◌, ◌&&◌, ◌%◌, Bool, true, false, nat_lt, List, [], ◌∷◌, length, map, filter, take, drop, slice_get, slice_index_or, Option, Some, None, if◌then◌else◌}
 use Rattle.std.specs.List.{AllByRecursion}
 use Rattle.ipc_parked.specs.declared.waits.Wait.{Wait}
 
@@ -21,6 +21,14 @@ without_first client (c ∷ clients) = if c == client then clients else c ∷ wi
 abbrev pub AreRising : List Wait → Type 0
 AreRising [] = Unit {0}
 AreRising (row ∷ rows) = AllByRecursion (λ later. row.id ≤ later.id) rows × AreRising rows
+
+-- objects whose identifiers leave the same rest share a mark
+abbrev pub mark_at : ℕ → ℕ
+mark_at id = id % 64
+
+-- no row is of an object whose mark isn't set
+abbrev pub AreMarked : List Bool → List Wait → Type 0
+AreMarked marks rows = AllByRecursion (λ row. slice_index_or marks (mark_at row.id) true ≡ true) rows
 
 -- how many rows there are of objects below a bound
 pub record IsPlace (rows : List Wait) (bound : ℕ) (at : ℕ) : Type 0 where

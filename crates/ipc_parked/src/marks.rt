@@ -1,14 +1,14 @@
-// Of which clients a call waits, known without a look-up.
+// Of which clients a call waits, and on which objects one may wait, known without a look-up.
 
 ghost use Rattle.std.specs.Prelude.{◌≡◌, [], slice_get, slice_set};
 ghost use Rattle.ipc_parked.specs.Parked.{AreMarks};
 
 use std::marker::Model;
 
-/// How many clients have a mark: as many as a namespace may have.
-const MARKED: usize = 64;
+/// How many marks there are: as many as a namespace may have clients.
+pub(crate) const MARKED: usize = 64;
 
-/// A mark for each of the clients below 64, whether a call of it waits.
+/// A mark for each number below 64: of a client whether a call of it waits.
 #[derive(Debug, Drop)]
 pub(crate) struct Marks {
     marks: [bool; MARKED],
@@ -23,7 +23,7 @@ impl Model for Marks {
 }
 
 impl Marks {
-    /// No call waits.
+    /// None is set.
     pub(crate) fn none() -> Marks
         ensures { AreMarks result [] }
     {
@@ -32,19 +32,19 @@ impl Marks {
         }
     }
 
-    /// The client's mark, None where it has none.
+    /// The mark of a client or of another number, None where it has none.
     #[inline(always)]
-    pub(crate) fn get(&self, client: u32) -> Option<bool>
-        ensures { result ≡ slice_get self.now client }
+    pub(crate) fn get(&self, number: u32) -> Option<bool>
+        ensures { result ≡ slice_get self.now number }
     {
-        self.marks.get(client as usize).copied()
+        self.marks.get(number as usize).copied()
     }
 
-    /// Marks the client so, where it has a mark.
-    pub(crate) fn set(&mut self, client: u32, waits: bool)
-        ensures { self.new ≡ slice_set self.old client waits }
+    /// Sets the mark so, where there is one.
+    pub(crate) fn set(&mut self, number: u32, waits: bool)
+        ensures { self.new ≡ slice_set self.old number waits }
     {
-        let at = client as usize;
+        let at = number as usize;
         if at < MARKED {
             self.marks[at] = waits;
         }

@@ -170,6 +170,18 @@ impl Parked {
         }
     }
 
+    /// Whether a call may wait on the object of this kind and identifier: what is known without a search.
+    #[inline(always)]
+    pub(super) fn may_wait_on(&self, kind: Kind, id: u32) -> bool
+        ensures { result ≡ false → those_on_object kind id self.now ≡ [] }
+    {
+        match kind {
+            Kind::Queue => self.queues.may_wait(id),
+            Kind::Sems => self.sets.may_wait(id),
+            Kind::Segment => false,
+        }
+    }
+
     /// The client of the earliest waiting call whose deadline is reached at a second of the clock. Where none is, this is
     /// known without a walk. Takes no memory.
     #[inline(always)]

@@ -1,6 +1,6 @@
 // The waiting calls that the grant of a call touches: no other can have become ready by it.
 
-ghost use Rattle.std.specs.Prelude.{◌≡◌, filter, slice_get};
+ghost use Rattle.std.specs.Prelude.{◌≡◌, [], false, filter, slice_get};
 ghost use Rattle.std.specs.Option.{option_map};
 ghost use Rattle.ipc_parked.specs.Parked.{waiting};
 ghost use Rattle.ipc_parked.specs.Touched.{Covers, is_touched};
@@ -47,6 +47,20 @@ impl Touched {
 }
 
 impl Parked {
+    /// Whether a waiting call may have been touched. This is known without a search, so it is also true where none was, but
+    /// one waits, or has waited since last none did, on another object of the kind whose identifier leaves the same rest
+    /// when it is divided by 64. Takes no memory.
+    #[inline(always)]
+    pub fn may_be_touched(&self, touched: Touched) -> bool
+        ensures { result ≡ false → filter (is_touched touched) (waiting self.now) ≡ [] }
+    {
+        match touched {
+            Touched::Nothing => false,
+            Touched::Object { kind, id } => self.may_wait_on(kind, id),
+            Touched::Anything => true,
+        }
+    }
+
     /// The client of the call at an index, from 0, in order of arrival among those that were touched. Those that wait
     /// elsewhere cost nothing. Takes no memory.
     pub fn nth_touched(&self, touched: Touched, index: usize) -> Option<u32>

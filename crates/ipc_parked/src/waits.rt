@@ -1,6 +1,6 @@
 // The clients that wait, by object.
 
-ghost use Rattle.std.specs.Prelude.{◌≡◌, ℕ, ◌+◌, ◌<◌, [], ◌∷◌, ◌++◌, length, Some, slice_get, OnOk, if◌then◌else◌, ◌==◌};
+ghost use Rattle.std.specs.Prelude.{◌≡◌, ℕ, ◌+◌, ◌<◌, [], ◌∷◌, ◌++◌, false, length, Some, slice_get, OnOk, if◌then◌else◌, ◌==◌};
 ghost use Rattle.ipc_parked.specs.Waits.{
   AreRising,
   IsFirst,
@@ -9,9 +9,11 @@ ghost use Rattle.ipc_parked.specs.Waits.{
   clients_at,
   is_below,
   is_wait,
+  mark_at,
   without_first,
 };
 
+use crate::marks::{MARKED, Marks};
 use ipc_call::Memory;
 use std::alloc::Global;
 use std::marker::Model;
@@ -41,17 +43,20 @@ impl Wait {
 #[derive(Debug, Drop)]
 pub(crate) struct Waits {
     rows: Vec<Wait>,
+    /// Whether a client may wait on an object. Objects whose identifiers leave the same rest share a mark. Those of the rows
+    /// are set, and none is where there are no rows.
+    marks: Marks,
 }
 
 impl Model for Waits {
     ghost use Rattle.std.specs.Prelude.{◌-◌, vec_len, vec_capacity};
-    ghost use Rattle.ipc_parked.specs.Waits.{AreRising, WaitsState};
+    ghost use Rattle.ipc_parked.specs.Waits.{AreMarked, AreRising, WaitsState};
 
     ghost Value = { WaitsState };
 
     ghost view = { λ w. record { rows = w.rows.items; spare = vec_capacity w.rows - vec_len w.rows } };
 
-    ghost invariant = { λ w. AreRising w.rows.items };
+    ghost invariant = { λ w. AreRising w.rows.items × AreMarked w.marks w.rows.items };
 }
 
 impl Waits {
@@ -61,6 +66,7 @@ impl Waits {
     {
         Waits {
             rows: Vec::new(alloc),
+            marks: Marks::none(),
         }
     }
 
@@ -80,6 +86,15 @@ impl Waits {
     {
         let at = place_of(self.rows.as_slice(), u64::from(id) + 1);
         self.rows.insert(at, Wait { id, client }).unwrap();
+        self.marks.set(mark_of(id), true);
+    }
+
+    /// Whether a client may wait on an object: what the object's mark tells without a search.
+    #[inline(always)]
+    pub(crate) fn may_wait(&self, id: u32) -> bool
+        ensures { result ≡ false → clients_at id self.now.rows ≡ [] }
+    {
+        self.marks.get(mark_of(id)).unwrap_or(true)
     }
 
     /// The client of this index, from 0, among those that wait on an object, in order of arrival.
@@ -97,8 +112,19 @@ impl Waits {
     {
         if let Some(at) = first_of(self.rows.as_slice(), id, client) {
             self.rows.remove(at);
+            if self.rows.is_empty() {
+                self.marks = Marks::none();
+            }
         }
     }
+}
+
+/// The number of an object's mark.
+#[inline(always)]
+fn mark_of(id: u32) -> u32
+    ensures { result ≡ mark_at id }
+{
+    id % MARKED as u32
 }
 
 /// The number of rows of objects below a bound.

@@ -1,7 +1,8 @@
-use Rattle.std.proofs.Common.{◌≡◌, ◌+◌, ◌∙◌, ℕ, cond, eqb, ap, subst, List, [], ◌∷◌, ◌++◌}
+use Rattle.std.proofs.Common.{◌≡◌, ◌+◌, ◌∙◌, ℕ, Bool, true, cond, eqb, ap, set, subst, sym, List, [], ◌∷◌, ◌++◌}
 use Rattle.std.specs.List.{insert}
 use Rattle.ipc_parked.specs.declared.waits.Wait.{Wait}
-use Rattle.ipc_parked.specs.Waits.{IsPlace, WaitsState, clients_at}
+use Rattle.ipc_parked.specs.Waits.{AreMarked, AreRising, IsPlace, WaitsState, clients_at}
+use Rattle.ipc_parked.proofs.Marked.{marked_inserted}
 use Rattle.ipc_parked.proofs.Rows.{clients_inserted, rising_inserted}
 use Rattle.ipc_parked.proofs.waits.Waits.add.Goals as goal
 use Rattle.ipc_parked.proofs.waits.Waits.add.Goals.{After-unwrap}
@@ -15,10 +16,19 @@ items : (c : After-unwrap) → c.insert.new.self.items ≡ insert c.self.inside.
 items c = let e = c.insert.ensures.items in rw c.unwrap.ensures at e
 
 pub invariant_of-self : goal.invariant_of-self
-invariant_of-self c = let e = items c in rw e (rising_inserted c.self.inside.rows.items c.args.id c.place_of-at.result c.args.client c.self.invariant (place c))
+invariant_of-self c =
+    let before = (goal.at.invariant_of-self c).After-unwrap in
+    let old = c.self.inside.rows.items in
+    let marked = marked_inserted c.self.inside.marks old c.args.id c.place_of-at.result c.args.client c.self.invariant.1 in (
+      subst (λ (rows : List Wait). AreRising rows) (sym (items before)) (rising_inserted old c.args.id c.place_of-at.result c.args.client c.self.invariant.0 (place before)),
+      subst (λ (marks : List Bool). AreMarked marks c.insert.new.self.items) (sym c.set.ensures)
+          (subst (λ (rows : List Wait). AreMarked (set c.self.inside.marks c.mark_of.result true) rows) (sym (items before))
+          (subst (λ (mark : ℕ). AreMarked (set c.self.inside.marks mark true) (insert old c.place_of-at.result (record { id = c.args.id; client = c.args.client }))) (sym c.mark_of.ensures) marked)),
+    )
 
 pub returns : goal.returns
 returns c =
+    let before = (goal.at.returns c).After-unwrap in
     let after = c.insert.new.self.items in
     subst (λ (w : WaitsState). (i : ℕ) → clients_at i after ≡ cond (eqb c.args.id i) (clients_at i w.rows ++ c.args.client ∷ []) (clients_at i w.rows)) c.self.view_is
-    (λ i. ap (λ (xs : List Wait). clients_at i xs) (items c) ∙ clients_inserted c.self.inside.rows.items c.args.id c.place_of-at.result c.args.client i (place c))
+    (λ i. ap (λ (xs : List Wait). clients_at i xs) (items before) ∙ clients_inserted c.self.inside.rows.items c.args.id c.place_of-at.result c.args.client i (place before))
