@@ -1,6 +1,6 @@
 // The calls that the words behind a client's name make.
 
-ghost use Rattle.std.specs.Prelude.{◌≡◌, ◌++◌, IfOk, option_map};
+ghost use Rattle.std.specs.Prelude.{◌≡◌, ◌∷◌, ◌++◌, IfOk, option_map};
 ghost use Rattle.ipc_text.specs.CallWords.{call_of as call_words, controls, process_calls, read_by, shm_calls, sem_calls, value_calls};
 ghost use Rattle.ipc_text.specs.Calls.{exit_of as exit_words, interrupt_of as interrupt_words, kind_named as kind_word, msgget_of as msgget_words, object_of as object_words};
 ghost use Rattle.ipc_text.specs.Calls.{groups_option as groups_words, new_groups as new_groups_text, qbytes_of as qbytes_words, set_of as set_line, set_words as set_parts, setcreds_of as setcreds_line, setcreds_words as setcreds_parts};
@@ -22,9 +22,21 @@ use std::alloc::{AllocError, Global};
 pub fn call_of(alloc: Global, words: &[u8]) -> Result<Option<Call>, AllocError>
     ensures { IfOk result (λ call. call ≡ call_words (words_of words.now)) }
 {
-    let Some((word, words)) = split_word(words) else {
-        return Ok(None);
-    };
+    match split_word(words) {
+        Some((word, words)) => call_named(alloc, word, words),
+        None => Ok(None),
+    }
+}
+
+/// The call of this name with these arguments.
+#[tactic(auto, unfolding(crate::specs::CallWords::call_of))]
+pub(crate) fn call_named(
+    alloc: Global,
+    word: &[u8],
+    words: &[u8],
+) -> Result<Option<Call>, AllocError>
+    ensures { IfOk result (λ call. call ≡ call_words (word.now ∷ words_of words.now)) }
+{
     if word == b"msgget".as_slice() {
         Ok(msgget_of(words))
     } else if word == b"msgsnd".as_slice() {

@@ -1,10 +1,10 @@
 // The calls that one line of a client makes.
 
-ghost use Rattle.std.specs.Prelude.{◌≡◌, IfOk};
+ghost use Rattle.std.specs.Prelude.{◌≡◌, ◌∷◌, IfOk};
 ghost use Rattle.ipc_text.specs.Commands.{command_of as command_words, plain_parts as plain_words};
 ghost use Rattle.ipc_words.specs.Words.{words_of};
 
-use crate::calls::call_of;
+use crate::calls::call_named;
 use crate::reasons::Reason;
 use ipc_call::Items;
 use ipc_commands::{Part, Tool, parts_of};
@@ -28,16 +28,16 @@ pub fn command_of(alloc: Global, words: &[u8]) -> Result<Result<Command, Reason>
     };
     let (parts, reason) = match Tool::from_word(word) {
         Some(tool) => (parts_of(alloc, tool, arguments)?, Reason::BadCommand),
-        None => (plain_parts(alloc, words)?, Reason::BadLine),
+        None => (plain_parts(alloc, word, arguments)?, Reason::BadLine),
     };
     Ok(parts.ok_or(reason))
 }
 
-// The one call that the words make.
-fn plain_parts(alloc: Global, words: &[u8]) -> Result<Option<Command>, AllocError>
-    ensures { IfOk result (λ parts. parts ≡ plain_words (words_of words.now)) }
+// The one call of this name with these arguments.
+fn plain_parts(alloc: Global, word: &[u8], arguments: &[u8]) -> Result<Option<Command>, AllocError>
+    ensures { IfOk result (λ parts. parts ≡ plain_words (word.now ∷ words_of arguments.now)) }
 {
-    let Some(call) = call_of(alloc, words)? else {
+    let Some(call) = call_named(alloc, word, arguments)? else {
         return Ok(None);
     };
     let mut parts = Vec::new(alloc);

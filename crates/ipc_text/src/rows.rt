@@ -1,6 +1,6 @@
 // The rows that a script prints.
 
-ghost use Rattle.std.specs.Prelude.{◌≡◌, ◌++◌, Ok, OnOk, string_bytes};
+ghost use Rattle.std.specs.Prelude.{◌≡◌, ◌++◌, codes, decimal, Ok, OnOk, string_bytes};
 ghost use Rattle.ipc_text.specs.Rows.{bad_row, error_text, name_of_reason, outcome_text, reply_row, row_head, waits_row};
 ghost use Rattle.ipc_text.specs.Rows.{message_text, queue_text, perm_text, key_text, mode_text, owners_text, contents_text, times_text};
 ghost use Rattle.ipc_text.specs.Rows.{bytes_text, hex_text, memory_text, owned_text, segment_mode as mode_with_mark, segment_text, set_text, values_text};
@@ -12,6 +12,7 @@ use ipc_call::{
     Answer, Errno, Listed, Memory, Mode, Outcome, Perm, QueueStatus, Reply, Row, SegmentStatus,
     SetStatus, Status,
 };
+use number_text::{print_number, print_signed};
 use std::fmt::Write;
 
 /// Of the mode of a segment: it is removed with its last attachment (shmctl(2)).
@@ -58,24 +59,38 @@ pub fn print_waits(rows: &mut String, place: u64, name: &str) -> Result<(), Memo
 fn print_head(rows: &mut String, place: u64, turn: u32, name: &str) -> Result<(), Memory>
     ensures { OnOk result (string_bytes rows.new ≡ string_bytes rows.old ++ row_head place turn name.now) }
 {
-    write!(rows, "{place}.{turn} {name} ")
+    print_number(rows, place)?;
+    rows.push_str(".")?;
+    print_number(rows, u64::from(turn))?;
+    rows.push_str(" ")?;
+    rows.push_str(name)?;
+    rows.push_str(" ")
 }
 
 fn print_outcome(rows: &mut String, outcome: &Outcome) -> Result<(), Memory>
     ensures { OnOk result (string_bytes rows.new ≡ string_bytes rows.old ++ outcome_text outcome.now) }
 {
     match outcome {
-        Ok(Answer::Id(id)) => write!(rows, "id {id}\n"),
+        Ok(Answer::Id(id)) => print_named(rows, "id ", *id),
         Ok(Answer::Done) => rows.push_str("ok\n"),
         Ok(Answer::Message { mtype, text }) => print_message(rows, *mtype, text.as_slice()),
         Ok(Answer::Status(status)) => print_status(rows, status.get()),
-        Ok(Answer::Value(value)) => write!(rows, "value {value}\n"),
+        Ok(Answer::Value(value)) => print_named(rows, "value ", *value),
         Ok(Answer::Values(values)) => print_values(rows, values.as_slice()),
-        Ok(Answer::Attached(att)) => write!(rows, "attached {att}\n"),
+        Ok(Answer::Attached(att)) => print_named(rows, "attached ", *att),
         Ok(Answer::Bytes(bytes)) => print_bytes(rows, bytes.as_slice()),
         Ok(Answer::Rows(listed)) => print_list(rows, listed.as_slice()),
         Err(rule) => print_error(rows, rule.error(), rule.name()),
     }
+}
+
+// A word with a space behind it, and a number.
+fn print_named(rows: &mut String, word: &str, number: u32) -> Result<(), Memory>
+    ensures { OnOk result (string_bytes rows.new ≡ string_bytes rows.old ++ (word.now ++ (decimal number ++ codes "\n"))) }
+{
+    rows.push_str(word)?;
+    print_number(rows, u64::from(number))?;
+    rows.push_str("\n")
 }
 
 // A listing: how many objects there are, and the line of each.
@@ -145,7 +160,8 @@ fn print_listed(rows: &mut String, kind: &str, object: Listed, mode: u16) -> Res
 fn print_message(rows: &mut String, mtype: i64, text: &[u8]) -> Result<(), Memory>
     ensures { OnOk result (string_bytes rows.new ≡ string_bytes rows.old ++ message_text mtype text.now) }
 {
-    write!(rows, "message {mtype}")?;
+    rows.push_str("message ")?;
+    print_signed(rows, mtype)?;
     print_hex(rows, text)
 }
 
@@ -160,7 +176,9 @@ fn print_hex(rows: &mut String, bytes: &[u8]) -> Result<(), Memory>
     ensures { OnOk result (string_bytes rows.new ≡ string_bytes rows.old ++ hex_text bytes.now) }
 {
     let digits = hex::encode(*rows.allocator(), bytes)?;
-    write!(rows, " x:{digits}\n")
+    rows.push_str(" x:")?;
+    rows.push_str(digits.as_str())?;
+    rows.push_str("\n")
 }
 
 fn print_values(rows: &mut String, values: &[u16]) -> Result<(), Memory>
@@ -168,7 +186,8 @@ fn print_values(rows: &mut String, values: &[u16]) -> Result<(), Memory>
 {
     rows.push_str("values")?;
     for value in values {
-        write!(rows, " {value}")?;
+        rows.push_str(" ")?;
+        print_number(rows, u64::from(*value))?;
     }
     rows.push_str("\n")
 }
@@ -324,9 +343,13 @@ fn print_times(
 fn print_error(rows: &mut String, error: Errno, cause: &str) -> Result<(), Memory>
     ensures { OnOk result (string_bytes rows.new ≡ string_bytes rows.old ++ error_text error cause.now) }
 {
-    let number = error.number();
-    let error = error.name();
-    write!(rows, "error {number} {error} {cause}\n")
+    rows.push_str("error ")?;
+    print_number(rows, u64::from(error.number()))?;
+    rows.push_str(" ")?;
+    rows.push_str(error.name())?;
+    rows.push_str(" ")?;
+    rows.push_str(cause)?;
+    rows.push_str("\n")
 }
 
 #[tactic(auto, unfolding(crate::specs::Rows::name_of_reason))]

@@ -19,15 +19,18 @@ abbrev pub group_text : Credentials → ℕ → List ℕ → List ℕ
 group_text c group whose =
     codes "class group: its " ++ (sort_text c group ++ (codes "group " ++ (decimal group ++ (codes " is the " ++ whose))))
 
+abbrev pub other_text : Credentials → List ℕ
+other_text c =
+    codes "class others: its user "
+    ++ (decimal c.euid ++ codes " is neither owner nor creator, and none of its groups is one of theirs")
+
 -- by which of its users or groups it is in its class
 abbrev pub standing_text : Credentials → Perm → Standing → List ℕ
 standing_text c p Owner = user_text c (codes "owner")
 standing_text c p Creator = user_text c (codes "creator")
 standing_text c p OwnersGroup = group_text c p.gid (codes "owner's")
 standing_text c p CreatorsGroup = group_text c p.cgid (codes "creator's")
-standing_text c p Other =
-    codes "class others: its user "
-    ++ (decimal c.euid ++ codes " is neither owner nor creator, and none of its groups is one of theirs")
+standing_text c p Other = other_text c
 
 -- what a mode gives a class, by the name of the rights
 abbrev pub given_text : ℕ → List ℕ → List ℕ

@@ -6,5 +6,5 @@ mod object_text;
 mod standing;
 
 pub use class_text::{print_class, rights_name};
-pub use object_text::{kind_name, print_object};
+pub use object_text::{kind_name, print_mode, print_object};
 pub use standing::{Standing, class_bits, is_within, rights_in, stands};

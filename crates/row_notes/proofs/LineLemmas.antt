@@ -1,14 +1,22 @@
 -- What a line is, and what one more of them adds.
-use Rattle.std.proofs.Common.{◌≡◌, ℕ, zero, suc, ◌<◌, ◌≤◌, Bool, true, false, cond, arith, List, [], ◌∷◌, ◌++◌, length, take, refl, sym, ap, ◌∙◌, append_assoc, append-nil, subst, take_all}
+use Rattle.std.proofs.Common.{◌≡◌, ℕ, zero, suc, ◌-◌, ◌<◌, ◌≤◌, Bool, true, false, cond, arith, List, [], ◌∷◌, ◌++◌, length, take, refl, sym, ap, ◌∙◌, append_assoc, append-nil, subst, take_all}
 use Rattle.std.specs.Prelude.{not, ◌&&◌, ◌==◌, flat_map, codes, filter, map, slice_index, Option, Some, None, MatchOption, IfSome}
 use Rattle.std.specs.List.{list_all}
-use Rattle.std.proofs.lemmas.Grind.{flat_map-append}
+use Rattle.std.proofs.lemmas.Grind.{common_steps, flat_map-append}
 use Rattle.std.proofs.lemmas.List.Folds.{list_all-append}
 use Rattle.ipc_words.proofs.LineLemmas.{and_left, and_right, split_first, split_none}
 use Rattle.ipc_words.specs.Lines.{Split, is_line, onto, onto_first, split}
-use Rattle.row_notes.specs.declared.notes.Note.{Note}
-use Rattle.row_notes.specs.Noted.{Noted, noted}
+use Rattle.row_notes.specs.Noted.{Noted}
 use Rattle.row_notes.specs.Merging.{IsExplained, Row, are_lines, below, beyond, explained, explained_rows, is_below, is_end, is_row, last_notes, line_alone, lines_of_notes, note_line, note_lines, notes_text, row_alone, row_explained}
+
+more_than_none : (n : ℕ) → (suc n == 0) ≡ true → ⊥
+more_than_none n h = grind arith
+
+-- what stands before the lines behind the first
+pub first_is : (text line others : List ℕ) → text ≡ line ++ 10 ∷ others → take (length text - length others) text ≡ line_alone line
+first_is text line others h =
+    let whole : text ≡ line_alone line ++ others = h ∙ sym (append_assoc line (10 ∷ []) others) in
+    rw whole (grind (arith, common_steps))
 
 -- the lines of a note
 
@@ -160,9 +168,6 @@ explained_is text notes =
     subst (λ (l : List ℕ). IsExplained l (explained text notes)) (sym (split_joined text)) (rows_explained (split text).whole (split text).rest notes (split_lines text))
 
 -- what stands behind the last row
-
-more_than_none : (n : ℕ) → (suc n == 0) ≡ true → ⊥
-more_than_none n h = grind arith
 
 none_is_none : (0 == 0) ≡ false → ⊥
 none_is_none h = grind arith

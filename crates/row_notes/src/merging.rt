@@ -1,6 +1,7 @@
 //! Rows with notes below them.
 
-ghost use Rattle.std.specs.Prelude.{◌≡◌, ◌<◌, ◌++◌, [], ◌∷◌, IfOk, OnOk, filter, length, map, string_bytes};
+ghost use Rattle.std.specs.Prelude.{◌≡◌, ◌-◌, ◌<◌, ◌≤◌, ◌++◌, [], ◌∷◌, IfOk, OnOk, filter, length, nat_eq, string_bytes, take};
+ghost use Rattle.std.specs.List.{starts_with};
 ghost use Rattle.ipc_words.specs.Lines.{split};
 ghost use Rattle.row_notes.specs.Merging.{
   IsExplained,
@@ -9,16 +10,15 @@ ghost use Rattle.row_notes.specs.Merging.{
   explained,
   is_below,
   is_end,
-  line_alone,
   note_lines,
   notes_text,
 };
-ghost use Rattle.row_notes.specs.Noted.{head_text, next_head, noted};
+ghost use Rattle.row_notes.specs.Noted.{head_text, left_of, next_head};
 
-use crate::notes::{Head, Note, Notes};
+use crate::notes::{Head, Notes, NotesLeft};
 use ipc_words::split_line;
+use number_text::print_number;
 use std::alloc::{AllocError, Global};
-use std::fmt::Write;
 
 /// What stands before each line of a note.
 const MARGIN: &[u8] = b"    ";
@@ -32,11 +32,11 @@ pub fn merge(alloc: Global, rows: &[u8], notes: &Notes) -> Result<Vec<u8>, Alloc
 {
     let mut out = Vec::new(alloc);
     let mut head = String::new(alloc);
-    let mut left = notes.as_slice();
+    let mut left = notes.all();
     let mut rest = rows;
     print_next(&mut head, left)?;
     while let Some((row, others)) = split_line(rest) {
-        print_line(&mut out, row)?;
+        print_first(&mut out, rest, others)?;
         left = print_below(&mut out, &mut head, row, left)?;
         rest = others;
     }
@@ -47,13 +47,13 @@ pub fn merge(alloc: Global, rows: &[u8], notes: &Notes) -> Result<Vec<u8>, Alloc
     Ok(out)
 }
 
-/// Appends a line with its line feed.
-fn print_line(out: &mut Vec<u8>, line: &[u8]) -> Result<(), AllocError>
-    ensures { OnOk result (out.new.items ≡ out.old.items ++ line_alone line.now) }
+/// Appends what stands before the others in a text: its first line with the line feed.
+fn print_first(out: &mut Vec<u8>, text: &[u8], others: &[u8]) -> Result<(), AllocError>
+    requires { length others.now ≤ length text.now }
+    ensures { OnOk result (out.new.items ≡ out.old.items ++ take (length text.now - length others.now) text.now) }
 {
-    out.extend_from_slice(line)?;
-    out.push(b'\n')?;
-    Ok(())
+    let first = &text[..text.len() - others.len()];
+    out.extend_from_slice(first)
 }
 
 /// Appends the notes at the front that stand below the row, and answers those that are left. `head` is what the row of
@@ -62,19 +62,19 @@ fn print_below<'n>(
     out: &mut Vec<u8>,
     head: &mut String,
     row: &[u8],
-    notes: &'n [Note],
-) -> Result<&'n [Note], AllocError>
-    requires { string_bytes head.old ≡ next_head notes.now }
-    ensures text { OnOk result (out.new.items ≡ out.old.items ++ notes_text (below row.now (map noted notes.now))) }
-    ensures left { IfOk result (λ left. map noted left.now ≡ beyond row.now (map noted notes.now)) }
-    ensures head { IfOk result (λ left. string_bytes head.new ≡ next_head left.now) }
+    notes: NotesLeft<'n>,
+) -> Result<NotesLeft<'n>, AllocError>
+    requires { string_bytes head.old ≡ next_head (left_of notes) }
+    ensures text { OnOk result (out.new.items ≡ out.old.items ++ notes_text (below row.now (left_of notes.entry))) }
+    ensures left { IfOk result (λ left. left_of left ≡ beyond row.now (left_of notes.entry)) }
+    ensures head { IfOk result (λ left. string_bytes head.new ≡ next_head (left_of left)) }
 {
     let mut left = notes;
-    while let Some((note, others)) = left.split_first() {
-        if !stands_below(row, note.head, head) {
+    while let Some((place, text, others)) = left.split_first() {
+        if !stands_below(row, place, head) {
             return Ok(left);
         }
-        print_note(out, note.text.as_slice())?;
+        print_note(out, text)?;
         print_next(head, others)?;
         left = others;
     }
@@ -88,17 +88,33 @@ fn stands_below(row: &[u8], place: Head, head: &str) -> bool
 {
     match place {
         Head::End => false,
-        Head::Event { .. } | Head::Line(_) => row.starts_with(head.as_bytes()),
+        Head::Event { .. } | Head::Line(_) => begins_with(row, head.as_bytes()),
     }
 }
 
+/// Whether a row begins with these bytes, which are few: one after the other is compared.
+fn begins_with(row: &[u8], head: &[u8]) -> bool
+    ensures { result ≡ starts_with nat_eq row.now head.now }
+{
+    let mut rest = row;
+    let mut left = head;
+    while let Some((byte, others)) = left.split_first() {
+        match rest.split_first() {
+            Some((first, more)) if first == byte => rest = more,
+            _ => return false,
+        }
+        left = others;
+    }
+    true
+}
+
 /// Writes what the row of the first note begins with.
-fn print_next(head: &mut String, notes: &[Note]) -> Result<(), AllocError>
-    ensures { OnOk result (string_bytes head.new ≡ next_head notes.now) }
+fn print_next(head: &mut String, notes: NotesLeft<'_>) -> Result<(), AllocError>
+    ensures { OnOk result (string_bytes head.new ≡ next_head (left_of notes.entry)) }
 {
     head.clear();
-    match notes.first() {
-        Some(note) => print_head(head, note.head),
+    match notes.split_first() {
+        Some((place, _, _)) => print_head(head, place),
         None => Ok(()),
     }
 }
@@ -108,21 +124,30 @@ fn print_head(head: &mut String, place: Head) -> Result<(), AllocError>
     ensures { OnOk result (string_bytes head.new ≡ string_bytes head.old ++ head_text place) }
 {
     match place {
-        Head::Event { place, turn } => write!(head, "{place}.{turn} "),
-        Head::Line(number) => write!(head, "line {number}: "),
+        Head::Event { place, turn } => {
+            print_number(head, place)?;
+            head.push('.')?;
+            print_number(head, u64::from(turn))?;
+            head.push(' ')
+        }
+        Head::Line(number) => {
+            head.push_str("line ")?;
+            print_number(head, number)?;
+            head.push_str(": ")
+        }
         Head::End => Ok(()),
     }
 }
 
 /// Appends the notes that stand below the last row.
-fn print_last(out: &mut Vec<u8>, notes: &[Note]) -> Result<(), AllocError>
+fn print_last(out: &mut Vec<u8>, notes: NotesLeft<'_>) -> Result<(), AllocError>
     ensures { OnOk result (out.new.items
-        ≡ out.old.items ++ notes_text (filter (λ n. is_end n.head) (map noted notes.now))) }
+        ≡ out.old.items ++ notes_text (filter (λ n. is_end n.head) (left_of notes.entry))) }
 {
     let mut left = notes;
-    while let Some((note, others)) = left.split_first() {
-        if note.head == Head::End {
-            print_note(out, note.text.as_slice())?;
+    while let Some((place, text, others)) = left.split_first() {
+        if place == Head::End {
+            print_note(out, text)?;
         }
         left = others;
     }
@@ -134,9 +159,12 @@ fn print_note(out: &mut Vec<u8>, text: &[u8]) -> Result<(), AllocError>
     ensures { OnOk result (out.new.items ≡ out.old.items ++ note_lines (split text.now).whole) }
 {
     let mut rest = text;
-    while let Some((line, others)) = split_line(rest) {
+    while !rest.is_empty() {
+        let Some((_, others)) = split_line(rest) else {
+            return Ok(());
+        };
         out.extend_from_slice(MARGIN)?;
-        print_line(out, line)?;
+        print_first(out, rest, others)?;
         rest = others;
     }
     Ok(())

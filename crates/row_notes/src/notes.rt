@@ -1,7 +1,7 @@
 //! Notes, each with the row below which it stands.
 
-ghost use Rattle.std.specs.Prelude.{◌≡◌, [], ◌∷◌, ◌++◌, map, IfOk, OnOk, OnErr};
-ghost use Rattle.row_notes.specs.Noted.{noted, with_note};
+ghost use Rattle.std.specs.Prelude.{◌≡◌, [], ◌∷◌, MatchOption, OnOk, OnErr};
+ghost use Rattle.row_notes.specs.Noted.{left_of, with_note};
 
 use std::alloc::{AllocError, Global};
 use std::marker::Model;
@@ -17,26 +17,30 @@ pub enum Head {
     End,
 }
 
-/// A note: where it stands, and its text.
-#[derive(Debug, Drop)]
+/// A note: where it stands, and how many bytes its text has.
+#[derive(Clone, Copy, Debug)]
 pub(crate) struct Note {
     pub(crate) head: Head,
-    pub(crate) text: Vec<u8>,
+    pub(crate) len: usize,
 }
 
 /// Notes in the order of their rows.
 #[derive(Debug, Drop)]
 pub struct Notes {
     notes: Vec<Note>,
+    /// Their texts, one behind the other.
+    text: Vec<u8>,
 }
 
 impl Model for Notes {
-    ghost use Rattle.std.specs.Prelude.{List, map};
-    ghost use Rattle.row_notes.specs.Noted.{Noted, noted};
+    ghost use Rattle.std.specs.Prelude.{◌≡◌, List, length};
+    ghost use Rattle.row_notes.specs.Noted.{Noted, noted, total_len};
 
     ghost Value = { List Noted };
 
-    ghost view = { λ n. map noted n.notes.items };
+    ghost view = { λ n. noted n.notes.items n.text.items };
+
+    ghost invariant = { λ n. total_len n.notes.items ≡ length n.text.items };
 }
 
 impl Notes {
@@ -46,26 +50,54 @@ impl Notes {
     {
         Notes {
             notes: Vec::new(alloc),
+            text: Vec::new(alloc),
         }
     }
 
     /// Adds a note of whole lines, unless its text is empty. Where an allocation fails, nothing is added.
-    pub fn add(&mut self, alloc: Global, head: Head, text: &str) -> Result<(), AllocError>
+    #[tactic(auto, using(crate::proofs::NotesLemmas::noted_push, crate::proofs::NotesLemmas::total_push))]
+    pub fn add(&mut self, head: Head, text: &str) -> Result<(), AllocError>
         ensures ok { OnOk result (self.new ≡ with_note self.old head text.now) }
         ensures err { OnErr result (self.new ≡ self.old) }
     {
         if text.is_empty() {
             return Ok(());
         }
-        let text = Vec::from_slice(alloc, text.as_bytes())?;
-        self.notes.push(Note { head, text })?;
+        self.notes.reserve(1)?;
+        self.text.extend_from_slice(text.as_bytes())?;
+        let len = text.len();
+        self.notes.push(Note { head, len }).unwrap();
         Ok(())
     }
 
-    /// The notes.
-    pub(crate) fn as_slice(&self) -> &[Note]
-        ensures { map noted result.now ≡ self.now }
+    /// All notes.
+    pub(crate) fn all(&self) -> NotesLeft<'_>
+        ensures { left_of result ≡ self.now }
     {
-        self.notes.as_slice()
+        NotesLeft {
+            notes: self.notes.as_slice(),
+            text: self.text.as_slice(),
+        }
+    }
+}
+
+/// The notes that are left to be printed.
+#[derive(Clone, Copy, Debug)]
+pub(crate) struct NotesLeft<'n> {
+    pub(crate) notes: &'n [Note],
+    /// Their texts, one behind the other.
+    pub(crate) text: &'n [u8],
+}
+
+impl<'n> NotesLeft<'n> {
+    /// The first note with its text, and the others.
+    pub(crate) fn split_first(&self) -> Option<(Head, &'n [u8], NotesLeft<'n>)>
+        ensures { MatchOption result
+            (left_of self.now ≡ [])
+            (λ r. left_of self.now ≡ record { head = r.0; text = r.1.now } ∷ left_of r.2) }
+    {
+        let (note, notes) = self.notes.split_first()?;
+        let (first, text) = self.text.split_at(note.len.min(self.text.len()));
+        Some((note.head, first, NotesLeft { notes, text }))
     }
 }

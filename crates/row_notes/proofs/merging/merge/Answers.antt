@@ -1,23 +1,23 @@
-use Rattle.std.proofs.Common.{◌≡◌, ◌++◌, ap, ◌∙◌, ℕ, List, map, subst, sym}
+use Rattle.std.proofs.Common.{◌≡◌, ◌++◌, ap, ◌∙◌, ℕ, List, subst, sym}
 use Rattle.row_notes.specs.Merging.{IsExplained, explained, is_end, notes_text}
 use Rattle.std.specs.Prelude.{filter}
-use Rattle.row_notes.specs.Noted.{noted}
-use Rattle.row_notes.proofs.LineLemmas.{explained_is, last_when_empty, last_when_not, row_step, rows_end}
+use Rattle.row_notes.specs.Noted.{left_of}
+use Rattle.row_notes.proofs.LineLemmas.{explained_is, first_is, last_when_empty, last_when_not, row_step, rows_end}
 use Rattle.row_notes.proofs.merging.merge.Goals as goal
 use Rattle.row_notes.proofs.merging.merge.Goals.{then-is_empty+in_ok-print_last, else-is_empty}
 
 pub loop-row-preserved : goal.loop-row-preserved
 loop-row-preserved c = (
-  row_step _ c.loop-row.out.items c.loop-row.rest.now c.in-Some.row.now c.in-Some.others.now c.print_line.new.out.items _ (map noted c.loop-row.left.now) _ c.loop-row.invariant.0 c.in-Some.ensures.parts c.in-Some.ensures.line c.in_ok-print_line.ensures c.in_ok-left.ensures.text c.in_ok-left.ensures.left,
+  row_step _ c.loop-row.out.items c.loop-row.rest.now c.in-Some.row.now c.in-Some.others.now c.print_first.new.out.items _ (left_of c.loop-row.left) _ c.loop-row.invariant.0 c.in-Some.ensures.parts c.in-Some.ensures.line (c.in_ok-print_first.ensures ∙ ap (λ (l : List ℕ). c.loop-row.out.items ++ l) (first_is c.loop-row.rest.now c.in-Some.row.now c.in-Some.others.now c.in-Some.ensures.parts)) c.in_ok-left.ensures.text c.in_ok-left.ensures.left,
   c.in_ok-left.ensures.head,
 )
 
 pub returns-clause-text : goal.returns-clause-text
 returns-clause-text c =
-    let notes = map noted c.loop-row.left.now in
+    let notes = left_of c.loop-row.left in
     let rest = c.loop-row.rest.now in
     let end = rows_end _ c.loop-row.out.items rest notes c.loop-row.invariant.0 c.in_default.ensures.line in
-    let all : explained c.args.rows.now (map noted c.as_slice-left.result.now) ≡ explained c.args.rows.now c.args.notes.now = ap (explained c.args.rows.now) c.as_slice-left.ensures in
+    let all : explained c.args.rows.now (left_of c.all-left.result) ≡ explained c.args.rows.now c.args.notes.now = ap (explained c.args.rows.now) c.all-left.ensures in
     let front = c.in_ok-extend_from_slice.ensures.items in
     elim c.if-is_empty.branch [
       | then-is_empty+in_ok-print_last w ↦ last_when_empty _ c.loop-row.out.items rest _ notes end (sym c.is_empty.ensures ∙ w.if-is_empty.true) (rw w.out-is (w.in_ok-print_last.ensures ∙ ap (λ (l : List ℕ). l ++ notes_text (filter (λ n. is_end n.head) notes)) front)) ∙ all

@@ -4,9 +4,9 @@ use Rattle.row_notes.specs.Merging.{note_lines}
 use Rattle.row_notes.proofs.merging.print_note.Given as goal
 
 -- the lines so far, and those that are left
-abbrev pub invariant-loop-line : goal.invariant-loop-line
-invariant-loop-line l =
+abbrev pub invariant-loop-rest : goal.invariant-loop-rest
+invariant-loop-rest l =
     l.initial.out.items ++ note_lines (split l.initial.rest).whole ≡ l.out.items ++ note_lines (split l.rest).whole
 
-abbrev pub decreases-loop-line : goal.decreases-loop-line
-decreases-loop-line l = length l.rest
+abbrev pub decreases-loop-rest : goal.decreases-loop-rest
+decreases-loop-rest l = length l.rest
