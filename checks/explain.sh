@@ -126,7 +126,7 @@ explain_cannot_write() {
     same 'its standard error' "$scratch/wanted" "$scratch/err"
 }
 
-# Thirty thousand lines, of which a third is refused and a sixth waits, take at most twice the instructions of ipcsh, as valgrind counts: they don't
+# Thirty thousand lines, of which half is refused and a sixth waits, take at most twice the instructions of ipcsh, as valgrind counts: they don't
 # vary with what else the machine does, as times do.
 explains_in_time() {
     {

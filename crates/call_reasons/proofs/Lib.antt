@@ -1,4 +1,4 @@
 mod AskedNeeds
 mod Decided
-mod LastCall
+mod LastEvent
 mod TrialLemmas

@@ -1,10 +1,10 @@
 //! A call that was answered, and what can be seen of it in the namespace that its event left.
 
-ghost use Rattle.std.specs.Prelude.{◌≡◌, Some, option_copied};
+ghost use Rattle.std.specs.Prelude.{◌≡◌, Some, option_map};
 ghost use Rattle.ipc_history.specs.History.{History, run, with_event};
 ghost use Rattle.ipc_model.specs.Step.{Event};
 ghost use Rattle.call_reasons.specs.Asked.{named as named_in};
-ghost use Rattle.call_reasons.specs.Cases.{last_called};
+ghost use Rattle.call_reasons.specs.Cases.{entered, last_event, shown};
 
 use crate::asked::Target;
 use ipc_call::{Call, JournalRow, Kind, Memory, Perm};
@@ -52,21 +52,37 @@ pub fn object_named(space: &Space, target: Target) -> Option<NamedObject>
     }
 }
 
-/// The call of the latest event.
-pub fn latest_call(space: &Space) -> Option<&Call>
-    ensures { (h : History) → (e : Event) → space.now ≡ with_event h e → option_copied result ≡ Some e.call }
-{
-    last_call(space.journal())
+/// The latest event of a journal.
+#[derive(Clone, Copy, Debug)]
+pub struct LatestEvent<'a> {
+    /// Its client, counted from 0.
+    pub client: u32,
+    /// Its call.
+    pub call: &'a Call,
+    /// Its answers, by turn: the rows behind that of the call.
+    pub answers: &'a [JournalRow],
 }
 
-/// The call of the last row that has one.
-fn last_call(rows: &[JournalRow]) -> Option<&Call>
-    ensures { option_copied result ≡ last_called rows.now }
+/// The latest event, as the journal has it.
+pub fn latest_event(space: &Space) -> Option<LatestEvent<'_>>
+    ensures { (h : History) → (e : Event) → space.now ≡ with_event h e → option_map shown result ≡ Some (entered h e) }
+{
+    latest_in(space.journal())
+}
+
+/// The event of the last row that has a call.
+fn latest_in(rows: &[JournalRow]) -> Option<LatestEvent<'_>>
+    ensures { option_map shown result ≡ last_event rows.now }
 {
     let mut left = rows;
     while let Some((row, others)) = left.split_last() {
-        if let JournalRow::Called { call, .. } = row {
-            return Some(call);
+        if let JournalRow::Called { client, call, .. } = row {
+            let answers = &rows[left.len()..];
+            return Some(LatestEvent {
+                client: *client,
+                call,
+                answers,
+            });
         }
         left = others;
     }

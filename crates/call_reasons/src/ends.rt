@@ -4,10 +4,11 @@ use crate::asked::Asked;
 use crate::calls::{object_of, word_of};
 use crate::cases::{NamedObject, Told, object_named};
 use crate::denials::denial_of;
-use crate::objects::{print_allowed, rights_in_words};
-use ipc_call::{Call, Outcome, Rule};
+use crate::objects::{print_allowed, print_named, rights_in_words};
+use ipc_call::{Call, Rule};
 use ipc_space::Space;
-use perm_words::{kind_name, print_class, print_object};
+use number_text::print_number;
+use perm_words::{print_class, print_object};
 use std::fmt::Write;
 
 /// A call that began to wait.
@@ -32,20 +33,25 @@ pub struct Ender<'a> {
     pub call: &'a Call,
 }
 
-/// Appends lines that say what ended the wait of a client, and after how long.
+/// Appends lines that say what ended the wait of a client, and after how long. `rule` refused the call that waited, and is None
+/// where it was granted.
 pub fn explain_end(
     out: &mut String,
     space: &Space,
     client: u32,
     ender: Ender<'_>,
     wait: Wait,
-    outcome: &Outcome,
+    rule: Option<Rule>,
 ) -> Told {
     let clock = space.clock();
     let (since, seconds) = (wait.place, clock.saturating_sub(wait.clock));
-    write!(out, "waited since event {since}, {seconds} s: ")?;
-    match outcome {
-        Err(Rule::TimedOut) => {
+    out.push_str("waited since event ")?;
+    print_number(out, since)?;
+    out.push_str(", ")?;
+    print_number(out, seconds)?;
+    out.push_str(" s: ")?;
+    match rule {
+        Some(Rule::TimedOut) => {
             let place = ender.place;
             return write!(
                 out,
@@ -54,26 +60,30 @@ pub fn explain_end(
         }
         _ => print_ender(out, ender)?,
     }
-    match outcome {
-        Ok(_) => out.push_str(" let it proceed\n"),
-        Err(Rule::Removed) => out.push_str(" removed the object\n"),
-        Err(Rule::Interrupted) => out.push_str(" interrupted it\n"),
-        Err(Rule::OwnerBits | Rule::GroupBits | Rule::OtherBits) => {
+    match rule {
+        None => out.push_str(" let it proceed\n"),
+        Some(Rule::Removed) => out.push_str(" removed the object\n"),
+        Some(Rule::Interrupted) => out.push_str(" interrupted it\n"),
+        Some(Rule::OwnerBits | Rule::GroupBits | Rule::OtherBits) => {
             out.push_str(" took its right\n")?;
             explain_loss(out, space, client, wait.asked)
         }
-        Err(_) => out.push_str(" let it be decided again, and it is refused\n"),
+        Some(_) => out.push_str(" let it be decided again, and it is refused\n"),
     }
 }
 
 /// Appends an event as whose it is, and which call.
 fn print_ender(out: &mut String, ender: Ender<'_>) -> Told {
     let Ender { place, name, call } = ender;
-    let word = word_of(call);
-    write!(out, "event {place}, {name}'s {word}")?;
+    out.push_str("event ")?;
+    print_number(out, place)?;
+    out.push_str(", ")?;
+    out.push_str(name)?;
+    out.push_str("'s ")?;
+    out.push_str(word_of(call))?;
     if let Some((kind, id)) = object_of(call) {
-        let kind = kind_name(kind);
-        write!(out, " on {kind} {id}")?;
+        out.push_str(" on ")?;
+        print_named(out, kind, id)?;
     }
     out.push_str(",")
 }

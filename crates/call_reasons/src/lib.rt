@@ -19,7 +19,7 @@ mod trials;
 mod waits;
 
 pub use asked::{Asked, Target, asked_by, controlled_by};
-pub use cases::{Case, NamedObject, latest_call, object_named};
+pub use cases::{Case, LatestEvent, NamedObject, latest_event, object_named};
 pub use denials::{Denial, denial_of};
 pub use ends::{Ender, Wait, explain_end};
 pub use refusals::explain_refusal;

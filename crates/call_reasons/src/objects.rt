@@ -4,10 +4,12 @@ use crate::asked::{Target, asked_by, controlled_by};
 use crate::calls::{key_of, object_of, word_of};
 use crate::cases::{Case, NamedObject, Told, object_named};
 use crate::denials::{Denial, denial_of};
-use ipc_call::{Call, Perm, is_read_only};
+use ipc_call::{Call, Kind, Mode, Perm, is_read_only};
 use ipc_perm::Want;
+use number_text::print_number;
 use perm_words::{
-    Standing, class_bits, is_within, kind_name, print_class, print_object, rights_in, rights_name,
+    Standing, class_bits, is_within, kind_name, print_class, print_mode, print_object, rights_in,
+    rights_name,
 };
 use std::fmt::Write;
 
@@ -41,8 +43,10 @@ pub(crate) fn explain_bits(out: &mut String, case: Case<'_>) -> Told {
 
 fn explain_denial(out: &mut String, call: &Call, perm: &Perm, denial: Denial) -> Told {
     print_asking(out, call)?;
-    let (rights, more) = (rights_in_words(denial.want), asking_detail(call));
-    write!(out, " to {rights}{more}; ")?;
+    out.push_str(" to ")?;
+    out.push_str(rights_in_words(denial.want))?;
+    out.push_str(asking_detail(call))?;
+    out.push_str("; ")?;
     print_allowed(out, perm, denial.want)?;
     out.push_str("CAP_IPC_OWNER allows it to any caller\n")
 }
@@ -52,8 +56,11 @@ fn print_asking(out: &mut String, call: &Call) -> Told {
     let word = word_of(call);
     match call {
         Call::MsgGet { flags, .. } | Call::SemGet { flags, .. } | Call::ShmGet { flags, .. } => {
-            let bits = *flags & 0o777;
-            write!(out, "the bits {bits:04o} in the flags of {word} ask")
+            out.push_str("the bits ")?;
+            print_mode(out, Mode::from_low_bits(*flags).bits())?;
+            out.push_str(" in the flags of ")?;
+            out.push_str(word)?;
+            out.push_str(" ask")
         }
         Call::ShmAt { flags, .. } => {
             let with = if is_read_only(*flags) {
@@ -66,7 +73,10 @@ fn print_asking(out: &mut String, call: &Call) -> Told {
         Call::SemOp { .. } | Call::SemTimedOp { .. } => {
             write!(out, "the operations of {word} ask")
         }
-        _ => write!(out, "{word} asks"),
+        _ => {
+            out.push_str(word)?;
+            out.push_str(" asks")
+        }
     }
 }
 
@@ -98,13 +108,15 @@ pub(crate) fn print_allowed(out: &mut String, perm: &Perm, want: Want) -> Told {
     for (standing, name) in &CLASSES {
         let rights = rights_in(class_bits(*standing, mode));
         if is_within(want, rights) {
-            let shown = rights_name(rights);
-            let before = if are_some {
+            out.push_str(if are_some {
                 " and "
             } else {
                 "the mode allows that to "
-            };
-            write!(out, "{before}{name} ({shown})")?;
+            })?;
+            out.push_str(name)?;
+            out.push_str(" (")?;
+            out.push_str(rights_name(rights))?;
+            out.push_str(")")?;
             are_some = true;
         }
     }
@@ -139,8 +151,16 @@ pub(crate) fn explain_bad_id(out: &mut String, case: Case<'_>) -> Told {
     let Some((kind, id)) = object_of(case.call) else {
         return Ok(());
     };
-    let kind = kind_name(kind);
-    write!(out, "there is no {kind} {id} now\n")
+    out.push_str("there is no ")?;
+    print_named(out, kind, id)?;
+    out.push_str(" now\n")
+}
+
+/// Appends the kind and the identifier of an object.
+pub(crate) fn print_named(out: &mut String, kind: Kind, id: u32) -> Told {
+    out.push_str(kind_name(kind))?;
+    out.push_str(" ")?;
+    print_number(out, u64::from(id))
 }
 
 /// Tells that a key has no object.
@@ -202,9 +222,7 @@ pub(crate) fn explain_bad_argument(out: &mut String, case: Case<'_>) -> Told {
     let Some((kind, id)) = object_of(case.call) else {
         return Ok(());
     };
-    let kind = kind_name(kind);
-    write!(
-        out,
-        "msg_qbytes is of queues alone, and this names {kind} {id}\n"
-    )
+    out.push_str("msg_qbytes is of queues alone, and this names ")?;
+    print_named(out, kind, id)?;
+    out.push_str("\n")
 }

@@ -8,6 +8,7 @@ use crate::cases::Told;
 use crate::queues::{print_fill, print_sought};
 use ipc_call::{Call, SemOper};
 use ipc_space::Space;
+use number_text::print_number;
 use std::fmt::Write;
 
 /// What a call waits for.
@@ -68,7 +69,8 @@ pub fn print_awaited(out: &mut String, space: &Space, client: u32, awaited: Awai
         Awaited::Message { id, msgtyp, flags } => {
             out.push_str("for ")?;
             print_sought(out, msgtyp, flags)?;
-            write!(out, " in queue {id}")?;
+            out.push_str(" in queue ")?;
+            print_number(out, u64::from(id))?;
         }
     }
     if let Some(arrival) = space.waiting_of(client) {

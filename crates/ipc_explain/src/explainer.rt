@@ -1,17 +1,19 @@
 //! A script that is run and explained.
 
 ghost use Rattle.std.specs.Prelude.{◌≡◌, [], Some, List, ℕ, IfOk};
-ghost use Rattle.ipc_history.specs.History.{run};
+ghost use Rattle.call_reasons.specs.Cases.{entered};
+ghost use Rattle.ipc_history.specs.History.{History, run, with_event};
+ghost use Rattle.ipc_model.specs.Step.{Event};
 ghost use Rattle.row_notes.specs.Merging.{IsExplained, explained};
 ghost use Rattle.row_notes.specs.Noted.{AddsNote, Noted};
-ghost use Rattle.ipc_explain.specs.Explaining.{head_of, newly_awaited_in};
+ghost use Rattle.ipc_explain.specs.Explaining.{head_of, newly_awaited_in, own_of, waiting_caller_of};
 ghost use Rattle.ipcsh.specs.Runs.{EndsBy, transfer};
 
 use call_reasons::{
-    Awaited, Case, Ender, Wait, asked_by, awaited_by, explain_end, explain_refusal, latest_call,
-    print_awaited,
+    Awaited, Case, Ender, LatestEvent, Wait, asked_by, awaited_by, explain_end, explain_refusal,
+    latest_event, print_awaited,
 };
-use ipc_call::{Memory, Outcome, Reply};
+use ipc_call::{JournalRow, Memory, Rule};
 use ipc_hints::Hints;
 use ipc_space::{Effects, Space};
 use ipc_text::{Command, Line, Reason, split_word};
@@ -96,7 +98,7 @@ impl Explainer {
     fn keep(&mut self, head: Head, text: &str) {
         let mut note = String::new(self.alloc);
         if push_bare(&mut note, text).is_ok() {
-            let _ = self.notes.add(self.alloc, head, note.as_str());
+            let _ = self.notes.add(head, note.as_str());
         }
     }
 
@@ -107,20 +109,15 @@ impl Explainer {
         Ok(())
     }
 
-    /// Tells of the event's own call.
-    fn tell_own(&mut self, case: Case<'_>, effects: &Effects, awaited: Option<Awaited>) -> Told
+    /// Tells of the event's own call: why a rule refused it, or what it waits for.
+    fn tell_own(&mut self, case: Case<'_>, own: Own, place: u64, awaited: Option<Awaited>) -> Told
         ensures { self.new.notes ≡ self.old.notes }
     {
-        match &effects.own {
-            Some(
-                Reply::Entered {
-                    outcome: Err(rule),
-                    ..
-                },
-            ) => explain_refusal(&mut self.text, case, *rule),
-            Some(_) => Ok(()),
-            None => {
-                self.begin_wait(case, effects.place);
+        match own {
+            Own::Refused(rule) => explain_refusal(&mut self.text, case, rule),
+            Own::Granted => Ok(()),
+            Own::Waits => {
+                self.begin_wait(case, place);
                 match awaited {
                     Some(awaited) => {
                         print_awaited(&mut self.text, case.space, case.client, awaited)?;
@@ -137,39 +134,55 @@ impl Explainer {
         ensures { AddsNote self.old.notes self.new.notes head }
     {
         if told.is_ok() {
-            let _ = self.notes.add(self.alloc, head, self.text.as_str());
+            let _ = self.notes.add(head, self.text.as_str());
         }
         self.text.clear();
     }
 
     /// Explains the event's own call.
-    fn explain_own(&mut self, case: Case<'_>, effects: &Effects, awaited: Option<Awaited>)
-        ensures { AddsNote self.old.notes self.new.notes (Head.Event effects.now.place 0) }
+    fn explain_own(&mut self, case: Case<'_>, own: Own, place: u64, awaited: Option<Awaited>)
+        ensures { AddsNote self.old.notes self.new.notes (Head.Event place 0) }
     {
-        let told = self.tell_own(case, effects, awaited);
-        let place = effects.place;
+        let told = self.tell_own(case, own, place, awaited);
         self.add_told(Head::Event { place, turn: 0 }, told);
     }
 
-    /// Explains what an event did.
-    fn explain_event(
-        &mut self,
-        space: &Space,
-        client: u32,
-        effects: &Effects,
-        awaited: Option<Awaited>,
-    ) {
-        let Some(call) = latest_call(space) else {
+    /// Explains what the latest event of the journal did.
+    fn explain_event(&mut self, space: &Space, awaited: Option<Awaited>) {
+        let Some(event) = latest_event(space) else {
             return;
         };
+        let LatestEvent {
+            client,
+            call,
+            answers,
+        } = event;
         let case = Case {
             space,
             client,
             call,
         };
-        self.explain_own(case, effects, awaited);
-        for (other, reply) in effects.others.iter() {
-            self.explain_other(case, effects.place, *other, reply);
+        self.explain_own(case, own_in(answers), space.events(), awaited);
+        for row in answers {
+            self.explain_row(case, row);
+        }
+    }
+
+    /// Explains an answer of an event: how it ended the wait of a client, unless it is that to its own call.
+    fn explain_row(&mut self, case: Case<'_>, row: &JournalRow)
+        ensures { AddsNote self.old.notes self.new.notes (head_of row.now) }
+    {
+        match row {
+            JournalRow::Answered {
+                client,
+                place,
+                turn,
+                rule,
+            } if *turn > 0 => {
+                let (place, turn) = (*place, *turn);
+                self.explain_other(case, *client, place, turn, *rule)
+            }
+            _ => (),
         }
     }
 
@@ -187,17 +200,20 @@ impl Explainer {
     }
 
     /// Explains how the event ended the wait of a client.
-    fn explain_other(&mut self, case: Case<'_>, place: u64, client: u32, reply: &Reply)
-        ensures { AddsNote self.old.notes self.new.notes (head_of place reply.now) }
+    fn explain_other(
+        &mut self,
+        case: Case<'_>,
+        client: u32,
+        place: u64,
+        turn: u32,
+        rule: Option<Rule>,
+    )
+        ensures { AddsNote self.old.notes self.new.notes (Head.Event place turn) }
     {
-        let Reply::Entered { turn, outcome, .. } = reply else {
-            return;
-        };
         let Some(wait) = self.end_wait(client) else {
             return;
         };
-        let turn = *turn;
-        let told = self.tell_end(case, place, client, wait, outcome);
+        let told = self.tell_end(case, client, place, wait, rule);
         self.add_told(Head::Event { place, turn }, told);
     }
 
@@ -205,10 +221,10 @@ impl Explainer {
     fn tell_end(
         &mut self,
         case: Case<'_>,
-        place: u64,
         client: u32,
+        place: u64,
         wait: Wait,
-        outcome: &Outcome,
+        rule: Option<Rule>,
     ) -> Told
         ensures { self.new.notes ≡ self.old.notes }
     {
@@ -217,7 +233,7 @@ impl Explainer {
             name: name_of(&self.clients, case.client),
             call: case.call,
         };
-        explain_end(&mut self.text, case.space, client, ender, wait, outcome)
+        explain_end(&mut self.text, case.space, client, ender, wait, rule)
     }
 
     fn end_wait(&mut self, client: u32) -> Option<Wait>
@@ -234,7 +250,7 @@ impl Explainer {
         let mut graph = Graph::new(self.alloc, space.clients())?;
         self.print_waiters(&mut text, &mut graph, space)?;
         self.print_cycle(&mut text, &graph, space.clients())?;
-        self.notes.add(self.alloc, Head::End, text.as_str())
+        self.notes.add(Head::End, text.as_str())
     }
 
     /// Appends a line for each client that waits, and notes for whom.
@@ -303,15 +319,45 @@ fn name_of(clients: &[Client], client: u32) -> &str {
     }
 }
 
-/// What an event's own call waits for, where it waits.
-fn newly_awaited(space: &mut Space, client: u32, effects: &Effects) -> Option<Awaited>
-    ensures awaited { result ≡ newly_awaited_in (run space.old) client effects.now.own }
+/// How an event's own call was answered.
+#[derive(Clone, Copy, Debug)]
+enum Own {
+    Granted,
+    Refused(Rule),
+    Waits,
+}
+
+/// How the own call of an event with these answers was answered: its answer is the first, with turn 0.
+fn own_in(answers: &[JournalRow]) -> Own
+    ensures { result ≡ own_of answers.now }
+{
+    match answers.first() {
+        Some(JournalRow::Answered { turn: 0, rule, .. }) => match *rule {
+            Some(rule) => Own::Refused(rule),
+            None => Own::Granted,
+        },
+        _ => Own::Waits,
+    }
+}
+
+/// The client of the latest event, where its call waits.
+fn waiting_caller(space: &Space) -> Option<u32>
+    ensures { (h : History) → (e : Event) → space.now ≡ with_event h e → result ≡ waiting_caller_of (entered h e) }
+{
+    let event = latest_event(space)?;
+    match own_in(event.answers) {
+        Own::Waits => Some(event.client),
+        _ => None,
+    }
+}
+
+/// What the own call of the latest event waits for, where it waits.
+fn newly_awaited(space: &mut Space) -> Option<Awaited>
+    ensures awaited { (h : History) → (e : Event) → space.old ≡ with_event h e → result ≡ newly_awaited_in (run space.old) (entered h e) }
     ensures same { space.new ≡ space.old }
 {
-    match effects.own {
-        None => awaited_by(space, client),
-        Some(_) => None,
-    }
+    let client = waiting_caller(space)?;
+    awaited_by(space, client)
 }
 
 /// The client waits for each that has taken some of the semaphore with SEM_UNDO.
@@ -386,9 +432,9 @@ impl Listener for Explainer {
         }
     }
 
-    fn answered(&mut self, space: &mut Space, client: u32, effects: &Effects) {
-        let awaited = newly_awaited(space, client, effects);
-        self.explain_event(space, client, effects, awaited);
+    fn answered(&mut self, space: &mut Space, _client: u32, _effects: &Effects) {
+        let awaited = newly_awaited(space);
+        self.explain_event(space, awaited);
     }
 
     fn ended(&mut self, space: &mut Space) {
