@@ -280,11 +280,23 @@ impl Session {
         requires { 1 ≤ length self.old.names }
         ensures { OnOk result (self.new ≡ record self.old { history = Some (history_of self.old) }) }
     {
-        if self.space.is_none() {
-            let clients = copies(alloc, &self.clients)?;
-            let space = Space::start(self.limits, clients)?;
-            self.space.insert(space);
+        if self.space.is_some() {
+            return Ok(());
         }
+        self.begin(alloc)
+    }
+
+    /// Starts the namespace.
+    #[cold]
+    #[inline(never)]
+    fn begin(&mut self, alloc: Global) -> Result<(), Memory>
+        requires some { 1 ≤ length self.old.names }
+        requires unstarted { started self.old ≡ false }
+        ensures { OnOk result (self.new ≡ record self.old { history = Some (history_of self.old) }) }
+    {
+        let clients = copies(alloc, &self.clients)?;
+        let space = Space::start(self.limits, clients)?;
+        self.space.insert(space);
         Ok(())
     }
 
