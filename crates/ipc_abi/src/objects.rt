@@ -87,11 +87,12 @@ impl RawObject {
     pub(crate) fn of_status(status: &Status) -> RawObject
         ensures { result ≡ object_of_status status.now }
     {
-        match status {
-            Status::Queue(queue) => RawObject::of_queue(queue).with_perm(&queue.perm),
-            Status::Set(set) => RawObject::of_set(set).with_perm(&set.perm),
-            Status::Segment(segment) => RawObject::of_segment(segment).with_perm(&segment.perm),
-        }
+        let (object, perm) = match status {
+            Status::Queue(queue) => (RawObject::of_queue(queue), &queue.perm),
+            Status::Set(set) => (RawObject::of_set(set), &set.perm),
+            Status::Segment(segment) => (RawObject::of_segment(segment), &segment.perm),
+        };
+        object.with_perm(perm)
     }
 
     fn of_queue(queue: &QueueStatus) -> RawObject

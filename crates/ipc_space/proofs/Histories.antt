@@ -38,12 +38,12 @@ pub rows_from-push : (place : ℕ) (s : State) (es : List Event) (e : Event) →
 rows_from-push place s es e =
     rows_from-append place s es (e ∷ []) ∙ ap (λ rows. rows_from place s es ++ rows) (append-nil (rows_by (length es + place) e (step (run_from s es) e)))
 
-events_in-append : (a b : List JournalRow) → events_in (a ++ b) ≡ events_in a ++ events_in b
+pub events_in-append : (a b : List JournalRow) → events_in (a ++ b) ≡ events_in a ++ events_in b
 events_in-append [] b = refl
 events_in-append (Called client now call ∷ a) b = ap (λ es. record { client = client; now = now; call = call } ∷ es) (events_in-append a b)
 events_in-append (Answered client place turn rule ∷ a) b = events_in-append a b
 
-events_in-answered : (ts : List ReplyTo) → events_in (map answered_row ts) ≡ []
+pub events_in-answered : (ts : List ReplyTo) → events_in (map answered_row ts) ≡ []
 events_in-answered [] = refl
 events_in-answered (t ∷ ts) = events_in-answered ts
 

@@ -1,6 +1,7 @@
 pub mod Alone
 pub mod Answering
 pub mod Balance
+pub mod Copies
 pub mod Fronts
 pub mod Histories
 pub mod Longest

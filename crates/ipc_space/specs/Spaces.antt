@@ -1,5 +1,6 @@
 -- The history that a state and a journal mean, and the replies of one event.
-use Rattle.std.specs.Prelude.{◌≡◌, ℕ, List, [], ◌∷◌, length, map, Option, option_map}
+use Rattle.std.specs.Prelude.{◌≡◌, ℕ, ◌≤◌, List, [], ◌∷◌, length, map, Option, option_map, IsTrue}
+use Rattle.ipc_call.specs.Limits.{are_in_range}
 use Rattle.ipc_call.specs.declared.limits.Limits.{Limits}
 use Rattle.ipc_call.specs.declared.replies.Completion.{Completion}
 use Rattle.ipc_call.specs.declared.replies.JournalRow.{JournalRow}
@@ -31,6 +32,12 @@ pub record IsOfHistory (s : State) (clients : List Credentials) (journal : List 
   pub rows : journal ≡ rows_of (history_in s.limits clients journal)
   pub legal : IsLegal (history_in s.limits clients journal)
   pub counted : events ≡ length (events_in journal)
+
+-- a namespace can be opened with these limits for these clients
+pub record CanOpen (limits : Limits) (clients : List Credentials) : Type 0 where
+  pub limited : IsTrue (are_in_range limits)
+  pub some : 1 ≤ length clients
+  pub few : length clients ≤ 64
 
 -- the reply to an event's own call, where it didn't wait
 abbrev pub own_reply : ℕ → Option Outcome → Option Reply

@@ -4,6 +4,7 @@
 #![tactic(auto)]
 
 mod comparing;
+mod copying;
 pub mod laws;
 mod looking;
 mod replaying;

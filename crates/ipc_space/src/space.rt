@@ -34,9 +34,9 @@ pub struct Effects {
 #[derive(Debug, Drop)]
 pub struct Space {
     /// The credentials of the clients at the start. Those that they have now are the namespace's.
-    opening: Vec<Creds>,
+    pub(super) opening: Vec<Creds>,
     pub(super) namespace: Namespace,
-    journal: Journal,
+    pub(super) journal: Journal,
     events: u64,
     /// The waiting calls that an event ends, and the replies to them. Between events both are empty, and keep their room.
     ended: Vec<Completion>,
@@ -46,13 +46,13 @@ pub struct Space {
 impl Model for Space {
     ghost use Rattle.std.specs.Prelude.{◌≡◌, []};
     ghost use Rattle.ipc_history.specs.History.{History};
-    ghost use Rattle.ipc_space.specs.Spaces.{history_in, IsOfHistory};
+    ghost use Rattle.ipc_space.specs.Spaces.{history_in, CanOpen, IsOfHistory};
 
     ghost Value = { History };
 
     ghost view = { λ s. history_in s.namespace.limits s.opening.items s.journal.rows };
 
-    ghost invariant = { λ s. IsOfHistory s.namespace s.opening.items s.journal.rows s.events × (s.ended.items ≡ []) × (s.others.items ≡ []) };
+    ghost invariant = { λ s. IsOfHistory s.namespace s.opening.items s.journal.rows s.events × (s.ended.items ≡ []) × (s.others.items ≡ []) × CanOpen s.namespace.limits s.opening.items };
 }
 
 impl Space {

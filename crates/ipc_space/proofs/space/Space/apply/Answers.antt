@@ -4,7 +4,8 @@ use Rattle.ipc_model.specs.State.{State, is_waiting}
 use Rattle.ipc_model.specs.Step.{Event, Stepped, step}
 use Rattle.ipc_history.specs.History.{History, IsLegalAt, answered_row, next_step, rows_by, run, replies_to_ended, reply_to_own, with_event, IsLegal}
 use Rattle.ipc_history.specs.Waits.{AreNotReady}
-use Rattle.ipc_space.specs.Spaces.{IsOfHistory, history_in, other_replies}
+use Rattle.ipc_call.specs.declared.limits.Limits.{Limits}
+use Rattle.ipc_space.specs.Spaces.{CanOpen, IsOfHistory, history_in, other_replies}
 use Rattle.ipc_space.proofs.Histories.{IsOfHistory-push, clients-reached, length-events_in, rows_by-entered}
 use Rattle.ipc_space.proofs.Once.{waits_once}
 use Rattle.ipc_space.proofs.Permitted.{run_attached, run_not_ready, run_permitted, run_in_time}
@@ -64,7 +65,12 @@ pub serve-served-requires-clause-quiet : goal.serve-served-requires-clause-quiet
 serve-served-requires-clause-quiet c = subst AreNotReady (sym c.self.invariant.0.state) (run_not_ready (history_in c.self.inside.namespace.limits c.self.inside.opening.items c.self.inside.journal.rows))
 
 pub invariant_of-self-2 : goal.invariant_of-self-2
-invariant_of-self-2 c = ((longer (goal.at.invariant_of-self-2 c).After-tell_others-others).0, c.tell_others-others.ensures.told, c.tell_others-others.ensures.left)
+invariant_of-self-2 c = (
+  (longer (goal.at.invariant_of-self-2 c).After-tell_others-others).0,
+  c.tell_others-others.ensures.told,
+  c.tell_others-others.ensures.left,
+  subst (λ (l : Limits). CanOpen l c.self.inside.opening.items) (sym c.serve-served.ensures.limits) c.self.invariant.3,
+)
 
 pub returns-clause-event : goal.returns-clause-event
 unfolding event
