@@ -1,5 +1,6 @@
 # The library for C: examples print their stored output, bad arguments get their errors, and random calls in threads are answered as ./ipcsh answers
-# them in the order of their places; without a complaint of valgrind where that is there.
+# them in the order of their places; without a complaint of valgrind where that is there. The crate for Rust over it, where there is cargo: its tests,
+# and its examples, which print what those in C do.
 
 check_c() { with_program c_checks; }
 
@@ -19,6 +20,33 @@ c_checks() {
         attempt "2,000 random calls, $seed" random_calls_replay "$seed"
     done
     attempt 'random calls under valgrind' random_calls_replay 11 "$(watch)"
+    if command -v cargo >/dev/null; then rust_checks; else echo 'c: there is no cargo, so rust/ was not tried'; fi
+}
+
+rust_checks() {
+    ! command -v rustfmt >/dev/null || attempt 'rust/, its layout' with_cargo fmt --check
+    attempt 'rust/ names the rules in their order' names_the_rules_in_rust
+    attempt 'rust/, its tests' with_cargo test --offline --quiet
+    for file in rust/examples/*.rs; do
+        attempt "$file" prints_in_rust "$file"
+    done
+}
+
+# with_cargo WORD..: what cargo makes of rust/ is in out/rust.
+with_cargo() {
+    why="cargo $1 fails:"
+    (cd rust && CARGO_TARGET_DIR=$top/out/rust CARGO_INCREMENTAL=0 exec cargo "$@") >"$scratch/said" 2>&1 && return 0
+    tail -n 12 "$scratch/said" >"$scratch/shown"
+    return 1
+}
+
+# prints_in_rust FILE: an example prints what that of its name in C prints, where there is one.
+prints_in_rust() {
+    name=$(basename "$1" .rs)
+    wanted=examples/c/$name.out
+    [ -f "$wanted" ] || wanted=${1%.rs}.out
+    with_cargo build --offline --quiet --example "$name" || return 1
+    prints "$wanted" "out/rust/debug/examples/$name"
 }
 
 library_is_built() {
@@ -38,10 +66,15 @@ with_library() {
 
 prints_with_the_library() {
     with_library "$1" || return 1
+    prints "$1.out" "$scratch/with_library"
+}
+
+# prints FILE PROGRAM: the program prints what stands in the file, also under valgrind.
+prints() {
     for how in '' "$(watch)"; do
         status=0
-        timeout 120 $how "$scratch/with_library" >"$scratch/out" 2>"$scratch/err" || status=$?
-        same 'what it prints' "$1.out" "$scratch/out" || return 1
+        timeout 120 $how "$2" >"$scratch/out" 2>"$scratch/err" || status=$?
+        same 'what it prints' "$1" "$scratch/out" || return 1
         why="status $status"
         [ "$status" = 0 ] || return 1
     done
@@ -62,11 +95,21 @@ is_cpp() {
     printf '#include "ipcsh.h"\n' | c++ -Wall -Wextra -Werror -I include -fsyntax-only -x c++ - 2>"$scratch/shown"
 }
 
-# The codes of rules in the proved source stand in the order of the header's names.
+# The header has the names of rules in the order of their codes in the proved source.
 names_the_rules() {
+    sed -n '/ipcsh_rule_name/,/};/p' include/ipcsh.h | grep -o '"[a-z-]\{1,\}"' | tr -d '"' >"$scratch/printed"
+    are_the_rules
+}
+
+names_the_rules_in_rust() {
+    sed -n 's/^    [A-Za-z]* "\([a-z-]*\)"$/\1/p' rust/src/rules.rs >"$scratch/printed"
+    are_the_rules
+}
+
+# are_the_rules: the lines of $scratch/printed are those names.
+are_the_rules() {
     sed -n 's/^ *Rule::\([A-Za-z]*\) => \([0-9]*\),$/\2 \1/p' crates/ipc_abi/src/rules.rt | sort -n >"$scratch/codes"
     sed -n 's/.*Rule::\([A-Za-z]*\) => (Errno::[A-Z0-9]*, "\([a-z-]*\)").*/\1 \2/p' crates/ipc_call/src/rules.rt >"$scratch/named"
     awk 'NR == FNR { name[$1] = $2; next } { print name[$2] }' "$scratch/named" "$scratch/codes" >"$scratch/wanted"
-    sed -n '/ipcsh_rule_name/,/};/p' include/ipcsh.h | grep -o '"[a-z-]\{1,\}"' | tr -d '"' >"$scratch/printed"
     same 'the names' "$scratch/wanted" "$scratch/printed"
 }
