@@ -40,22 +40,25 @@ with_cargo() {
     return 1
 }
 
-# prints_in_rust FILE: an example prints what that of its name in C prints, where there is one.
+# prints_in_rust FILE: an example prints what that of its name in C prints, where there is one. Rust's library holds the name of the first thread by
+# an address within it, which valgrind calls possibly lost.
 prints_in_rust() {
     name=$(basename "$1" .rs)
     wanted=examples/c/$name.out
     [ -f "$wanted" ] || wanted=${1%.rs}.out
     with_cargo build --offline --quiet --example "$name" || return 1
-    prints "$wanted" "out/rust/debug/examples/$name"
+    prints "$wanted" "out/rust/debug/examples/$name" definite
 }
 
 library_is_built() {
     built ipcsh_c && ./build c 2>"$scratch/shown"
 }
 
-# watch: the words before a command that run it under valgrind, where that is there. It ends with 99 for a complaint or for memory that is lost.
+# watch [KINDS]: the words before a command that run it under valgrind, where that is there. It ends with 99 for a complaint or for memory that is
+# lost, of all kinds or of those that are named.
 watch() {
-    ! command -v valgrind >/dev/null || echo "valgrind --quiet --error-exitcode=99 --leak-check=full --log-file=$scratch/shown"
+    ! command -v valgrind >/dev/null ||
+        echo "valgrind --quiet --error-exitcode=99 --leak-check=full --errors-for-leak-kinds=${1-definite,possible} --log-file=$scratch/shown"
 }
 
 # with_library BASE: the program BASE.c is $scratch/with_library.
@@ -69,9 +72,9 @@ prints_with_the_library() {
     prints "$1.out" "$scratch/with_library"
 }
 
-# prints FILE PROGRAM: the program prints what stands in the file, also under valgrind.
+# prints FILE PROGRAM [KINDS]: the program prints what stands in the file, also under valgrind, which refuses lost memory of all kinds or of those.
 prints() {
-    for how in '' "$(watch)"; do
+    for how in '' "$(watch ${3-})"; do
         status=0
         timeout 120 $how "$2" >"$scratch/out" 2>"$scratch/err" || status=$?
         same 'what it prints' "$1" "$scratch/out" || return 1

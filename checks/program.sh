@@ -46,7 +46,7 @@ converse() {
     (printf 'client alice 100 10\n# a comment\n' >&3) 2>/dev/null || return 1
     ask 'alice msgget 5 01600' '1.0 alice id 0' || return 1
     why='no hint on line 1 before line 5'
-    grep -q "^ipcsh: line 1: no client 'bob'" "$scratch/err" || return 1
+    grep -q "^ipcsh: line 1: column 1: no client 'bob'" "$scratch/err" || return 1
     ask 'alice msgget 5 03600' '2.0 alice error 17 EEXIST key-exists' || return 1
     ask 'alice msgget 0 0600' '3.0 alice id 1'
 }

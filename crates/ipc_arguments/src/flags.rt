@@ -1,7 +1,7 @@
 // Flags and modes: their names, and numbers that lack their leading 0.
 
 use crate::arguments::Argument;
-use crate::words::{Octal, Quoted, Told};
+use crate::words::{Octal, Quoted, Told, Word};
 use ipc_call::{Call, Memory, SemOper};
 use ipc_text::Part;
 use ipc_words::{number_32, numeral, split_field};
@@ -100,8 +100,9 @@ fn flags_in(argument: Argument, word: &[u8]) -> Option<(Argument, &[u8])> {
 }
 
 /// Appends a warning where the word of an argument has flags or a mode that lack their leading 0.
-pub fn warn_of_decimal(out: &mut String, number: u64, argument: Argument, word: &[u8]) -> Told {
-    let Some((argument, word)) = flags_in(argument, word) else {
+pub fn warn_of_decimal(out: &mut String, number: u64, argument: Argument, word: Word<'_>) -> Told {
+    let column = word.column;
+    let Some((argument, word)) = flags_in(argument, word.bytes) else {
         return Ok(());
     };
     let (Some(octal), Some(flags)) = (meant_octal(word), number_32(word)) else {
@@ -115,7 +116,7 @@ pub fn warn_of_decimal(out: &mut String, number: u64, argument: Argument, word: 
     );
     write!(
         out,
-        "ipcsh: line {number}: warning: {name} {shown} is decimal, {flags_octal} in octal"
+        "ipcsh: line {number}: column {column}: warning: {name} {shown} is decimal, {flags_octal} in octal"
     )?;
     if argument == Argument::GetFlags {
         push_meaning(out, flags)?;

@@ -18,4 +18,4 @@ pub use flags::{has_suspects, warn_of_decimal};
 pub use forms::{CALLS, Form, form_of};
 pub use spelling::{is_like, is_one_of, nearest};
 pub use values::{explain_comment, explain_word};
-pub use words::{Quoted, Shown, Told, words_in};
+pub use words::{Quoted, Shown, Told, Word, words_in};

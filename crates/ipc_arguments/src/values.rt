@@ -4,24 +4,27 @@ use crate::arguments::{Argument, Shape};
 use crate::numbers::explain_number;
 use crate::operations::explain_operation;
 use crate::texts::explain_text;
-use crate::words::{Quoted, Told};
+use crate::words::{Quoted, Told, Word};
 use std::fmt::Write;
 
 /// Appends that a word begins no comment.
-pub fn explain_comment(out: &mut String, word: &[u8]) -> Told {
-    let shown = Quoted(word);
+pub fn explain_comment(out: &mut String, word: Word<'_>) -> Told {
+    let shown = Quoted(word.bytes);
+    word.push_column(out)?;
     write!(
         out,
         "{shown} begins no comment here; a comment stands on a line of its own"
     )
 }
 
-/// Appends what is wrong with a word for an argument, and a way out.
-pub fn explain_word(out: &mut String, argument: Argument, word: &[u8]) -> Told {
-    if word.starts_with(b"#") {
+/// Appends what is wrong with a word for an argument of a call or a directive, and a way out.
+pub fn explain_word(out: &mut String, call: &str, argument: Argument, word: Word<'_>) -> Told {
+    if word.bytes.starts_with(b"#") {
         return explain_comment(out, word);
     }
-    let (name, shown) = (argument.name(), Quoted(word));
+    word.push_column(out)?;
+    let (name, shown, word) = (argument.name(), Quoted(word.bytes), word.bytes);
+    write!(out, "{call}: ")?;
     if argument == Argument::Groups {
         return write!(
             out,

@@ -11,11 +11,33 @@ pub type Told = Result<(), Memory>;
 /// How many bytes of a word are shown.
 const SHOWN: usize = 40;
 
+/// A word of a line.
+#[derive(Clone, Copy, Debug)]
+pub struct Word<'a> {
+    pub bytes: &'a [u8],
+    /// Where its first byte stands in the line, from 1.
+    pub column: usize,
+}
+
+impl Word<'_> {
+    /// Appends where it stands.
+    pub fn push_column(self, out: &mut String) -> Told {
+        let column = self.column;
+        write!(out, "column {column}: ")
+    }
+}
+
 /// The words of a text, in their order.
-pub fn words_in(alloc: Global, text: &[u8]) -> Result<Vec<&[u8]>, Memory> {
-    text.split(|byte| matches!(*byte, b' ' | b'\t'))
-        .filter(|word| !word.is_empty())
-        .collect(alloc)
+pub fn words_in(alloc: Global, text: &[u8]) -> Result<Vec<Word<'_>>, Memory> {
+    let mut words = Vec::new(alloc);
+    let mut column = 1;
+    for bytes in text.split(|byte| matches!(*byte, b' ' | b'\t')) {
+        if !bytes.is_empty() {
+            words.push(Word { bytes, column })?;
+        }
+        column = bytes.len().saturating_add(column).saturating_add(1);
+    }
+    Ok(words)
 }
 
 /// A word in quotes, of which the first bytes are shown.

@@ -1,33 +1,31 @@
 // Lines of a client that make no call.
 
 use ipc_arguments::{
-    Argument, CALLS, Form, Quoted, Told, explain_comment, explain_word, form_of, nearest,
+    Argument, CALLS, Form, Quoted, Told, Word, explain_comment, explain_word, form_of, nearest,
 };
 use std::fmt::Write;
 
 /// Appends what is wrong with the words after the name of a client.
-pub(crate) fn explain_call(out: &mut String, words: &[&[u8]]) -> Told {
+pub(crate) fn explain_call(out: &mut String, words: &[Word<'_>]) -> Told {
     let Some((call, arguments)) = words.split_first() else {
         return out.push_str("a call follows the client's name, as in alice msgget 5 01600");
     };
-    match form_of(call) {
+    match form_of(call.bytes) {
         Some(form) => explain_arguments(out, form, arguments),
-        None => explain_no_call(out, call),
+        None => explain_no_call(out, *call),
     }
 }
 
-fn explain_arguments(out: &mut String, form: Form, words: &[&[u8]]) -> Told {
-    let call = form.call;
+fn explain_arguments(out: &mut String, form: Form, words: &[Word<'_>]) -> Told {
     for (index, word) in words.iter().enumerate() {
         let Some(argument) = form.argument_at(index) else {
-            return explain_more(out, form, word);
+            return explain_more(out, form, *word);
         };
-        if !argument.takes(word) {
+        if !argument.takes(word.bytes) {
             if words.len() > form.takes.len() && form.takes.last() == Some(&argument) {
-                return explain_parts(out, form, words, word);
+                return explain_parts(out, form, words, *word);
             }
-            write!(out, "{call}: ")?;
-            return explain_word(out, argument, word);
+            return explain_word(out, form.call, argument, *word);
         }
     }
     match form.takes.get(words.len()) {
@@ -39,25 +37,28 @@ fn explain_arguments(out: &mut String, form: Form, words: &[&[u8]]) -> Told {
     }
 }
 
-fn explain_more(out: &mut String, form: Form, word: &[u8]) -> Told {
-    if word.starts_with(b"#") {
+fn explain_more(out: &mut String, form: Form, word: Word<'_>) -> Told {
+    if word.bytes.starts_with(b"#") {
         return explain_comment(out, word);
     }
-    let shown = Quoted(word);
+    word.push_column(out)?;
+    let shown = Quoted(word.bytes);
     write!(out, "{form}; {shown} is an argument too many")
 }
 
 /// Appends what is wrong where the last argument is bad and others follow it: blanks may have cut flags or a text.
-fn explain_parts(out: &mut String, form: Form, words: &[&[u8]], word: &[u8]) -> Told {
-    let shown = Quoted(word);
-    if word.starts_with(b"#") {
+fn explain_parts(out: &mut String, form: Form, words: &[Word<'_>], word: Word<'_>) -> Told {
+    let shown = Quoted(word.bytes);
+    if word.bytes.starts_with(b"#") {
         explain_comment(out, word)
-    } else if words.iter().any(|word| *word == b"|".as_slice()) {
+    } else if words.iter().any(|word| word.bytes == b"|".as_slice()) {
+        word.push_column(out)?;
         write!(
             out,
             "{form}; from {shown} on write one number, as 01600 for IPC_CREAT | 0600"
         )
     } else if form.takes.contains(&Argument::Text) {
+        word.push_column(out)?;
         write!(
             out,
             "{form}; before {shown} stands a blank, which x: writes as 20 and t: can't"
@@ -102,10 +103,12 @@ fn other_name(call: &[u8]) -> Option<&'static str> {
     }
 }
 
-fn explain_no_call(out: &mut String, call: &[u8]) -> Told {
+fn explain_no_call(out: &mut String, word: Word<'_>) -> Told {
+    let call = word.bytes;
     if call.starts_with(b"#") {
-        return explain_comment(out, call);
+        return explain_comment(out, word);
     }
+    word.push_column(out)?;
     let shown = Quoted(call);
     write!(out, "{shown} is no call; ")?;
     if let Some(text) = other_name(call) {

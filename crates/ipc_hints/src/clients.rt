@@ -1,7 +1,7 @@
 // Client lines.
 
 use ipc_arguments::{
-    Argument, Quoted, Told, are_numbers, explain_comment, explain_word, is_one_of, nearest,
+    Argument, Quoted, Told, Word, are_numbers, explain_comment, explain_word, is_one_of, nearest,
 };
 use ipc_words::{number_32, split_field};
 use std::fmt::Write;
@@ -18,21 +18,20 @@ const GROUPS_MAX: usize = 32;
 const FORM: &str = "client takes NAME UID GID [groups=G,..] [caps=CAP,..] [saved=UID:GID]";
 
 /// Appends what is wrong with the words after `client`.
-pub(crate) fn explain_client(out: &mut String, words: &[&[u8]]) -> Told {
+pub(crate) fn explain_client(out: &mut String, words: &[Word<'_>]) -> Told {
     match words {
         [] => write!(out, "{FORM}; NAME is missing"),
-        [name, ..] if !is_name(name) => explain_name(out, name),
+        [name, ..] if !is_name(name.bytes) => explain_name(out, *name),
         [_] => write!(out, "{FORM}; UID is missing"),
-        [_, uid, ..] if number_32(uid).is_none() => explain_argument(out, Argument::Uid, uid),
+        [_, uid, ..] if number_32(uid.bytes).is_none() => {
+            explain_word(out, "client", Argument::Uid, *uid)
+        }
         [_, _] => write!(out, "{FORM}; GID is missing"),
-        [_, _, gid, ..] if number_32(gid).is_none() => explain_argument(out, Argument::Gid, gid),
+        [_, _, gid, ..] if number_32(gid.bytes).is_none() => {
+            explain_word(out, "client", Argument::Gid, *gid)
+        }
         [_, _, _, options @ ..] => explain_options(out, options),
     }
-}
-
-fn explain_argument(out: &mut String, argument: Argument, word: &[u8]) -> Told {
-    out.push_str("client: ")?;
-    explain_word(out, argument, word)
 }
 
 /// Whether a word may be the name of a client.
@@ -44,8 +43,9 @@ fn is_name(word: &[u8]) -> bool {
         && !matches!(word, b"client" | b"limit" | b"clock")
 }
 
-fn explain_name(out: &mut String, word: &[u8]) -> Told {
-    let name = Quoted(word);
+fn explain_name(out: &mut String, word: Word<'_>) -> Told {
+    word.push_column(out)?;
+    let (name, word) = (Quoted(word.bytes), word.bytes);
     write!(out, "client: NAME {name}: ")?;
     match word {
         b"client" | b"limit" | b"clock" => out.push_str("it begins a directive; take another"),
@@ -54,37 +54,39 @@ fn explain_name(out: &mut String, word: &[u8]) -> Told {
     }
 }
 
-fn explain_options(out: &mut String, options: &[&[u8]]) -> Told {
+fn explain_options(out: &mut String, options: &[Word<'_>]) -> Told {
     let mut least = 0;
     for word in options {
         let Some(place) = OPTIONS
             .iter()
-            .position(|option| word.starts_with(option.as_bytes()))
+            .position(|option| word.bytes.starts_with(option.as_bytes()))
         else {
-            return explain_no_option(out, word);
+            return explain_no_option(out, *word);
         };
         if place < least {
-            let option = Quoted(word);
+            word.push_column(out)?;
+            let option = Quoted(word.bytes);
             return write!(
                 out,
                 "client: {option}: the order is groups=, caps=, saved=, each at most once"
             );
         }
-        let (_, text) = split_field(word, b'=');
-        let text = text.unwrap_or(word);
+        let (_, text) = split_field(word.bytes, b'=');
+        let text = text.unwrap_or(word.bytes);
         if !takes(place, text) {
-            return explain_option(out, place, word, text);
+            return explain_option(out, place, *word, text);
         }
         least = place.saturating_add(1);
     }
     out.push_str(FORM)
 }
 
-fn explain_no_option(out: &mut String, word: &[u8]) -> Told {
-    if word.starts_with(b"#") {
+fn explain_no_option(out: &mut String, word: Word<'_>) -> Told {
+    if word.bytes.starts_with(b"#") {
         return explain_comment(out, word);
     }
-    let shown = Quoted(word);
+    word.push_column(out)?;
+    let shown = Quoted(word.bytes);
     write!(
         out,
         "client: {shown} is no option; after GID come groups=10,20, caps=IPC_OWNER, saved=100:10"
@@ -109,8 +111,9 @@ fn bad_capability(text: &[u8]) -> Option<&[u8]> {
         .find(|field| !is_one_of(field, CAPS))
 }
 
-fn explain_option(out: &mut String, place: usize, word: &[u8], text: &[u8]) -> Told {
-    let shown = Quoted(word);
+fn explain_option(out: &mut String, place: usize, word: Word<'_>, text: &[u8]) -> Told {
+    word.push_column(out)?;
+    let shown = Quoted(word.bytes);
     write!(out, "client: {shown}: ")?;
     match place {
         0 => explain_groups(out, text),

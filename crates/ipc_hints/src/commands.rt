@@ -1,6 +1,6 @@
 // The lines of ipcs, ipcrm and ipcmk.
 
-use ipc_arguments::{Quoted, Told, explain_comment};
+use ipc_arguments::{Quoted, Told, Word, explain_comment};
 use ipc_words::{number_32, numeral};
 use std::fmt::Write;
 
@@ -26,9 +26,9 @@ enum Value {
 #[derive(Clone, Copy, Debug)]
 enum Fault<'a> {
     /// This word is neither an option nor a value.
-    Stray(&'a [u8]),
+    Stray,
     /// This word has a letter that is no option.
-    NoOption(&'a [u8]),
+    NoOption,
     /// The option has no value.
     NoValue(u8),
     /// The option has this one, which it doesn't take.
@@ -94,75 +94,80 @@ fn is_decimal(word: &[u8], most: u64) -> bool {
 }
 
 /// Appends what is wrong with the words of a command, of which the first names it.
-pub(crate) fn explain_command(out: &mut String, words: &[&[u8]]) -> Told {
-    let (tool, name, arguments) = match words {
-        [b"ipcs", arguments @ ..] => (Tool::Ipcs, "ipcs", arguments),
-        [b"ipcrm", arguments @ ..] => (Tool::Ipcrm, "ipcrm", arguments),
-        [_, arguments @ ..] => (Tool::Ipcmk, "ipcmk", arguments),
-        [] => return Ok(()),
+pub(crate) fn explain_command(out: &mut String, words: &[Word<'_>]) -> Told {
+    let Some((first, arguments)) = words.split_first() else {
+        return Ok(());
+    };
+    let (tool, name) = match first.bytes {
+        b"ipcs" => (Tool::Ipcs, "ipcs"),
+        b"ipcrm" => (Tool::Ipcrm, "ipcrm"),
+        _ => (Tool::Ipcmk, "ipcmk"),
     };
     let fault = fault_of(tool, arguments);
-    write!(out, "{name}: ")?;
-    explain_fault(out, fault)?;
-    if matches!(fault, Some(Fault::BadValue(..))) {
+    match fault {
+        Some((word, Fault::Stray)) if word.bytes.starts_with(b"#") => {
+            return explain_comment(out, word);
+        }
+        Some((word, fault)) => {
+            word.push_column(out)?;
+            write!(out, "{name}: ")?;
+            explain_fault(out, word.bytes, fault)?;
+        }
+        None => write!(out, "{name}: nothing is asked for")?,
+    }
+    if matches!(fault, Some((_, Fault::BadValue(..)))) {
         return Ok(());
     }
     let usage = tool.usage();
     write!(out, "; write {usage}")
 }
 
-fn explain_fault(out: &mut String, fault: Option<Fault<'_>>) -> Told {
+fn explain_fault(out: &mut String, word: &[u8], fault: Fault<'_>) -> Told {
+    let word = Quoted(word);
     match fault {
-        Some(Fault::Stray(word)) if word.starts_with(b"#") => explain_comment(out, word),
-        Some(Fault::Stray(word)) => {
-            let word = Quoted(word);
-            write!(out, "{word} is neither an option nor the value of one")
-        }
-        Some(Fault::NoOption(word)) => {
-            let word = Quoted(word);
-            write!(out, "{word} is no option here")
-        }
-        Some(Fault::NoValue(letter)) => {
+        Fault::Stray => write!(out, "{word} is neither an option nor the value of one"),
+        Fault::NoOption => write!(out, "{word} is no option here"),
+        Fault::NoValue(letter) => {
             let letter = char::from(letter);
             write!(out, "the value of -{letter} is missing")
         }
-        Some(Fault::BadValue(letter, value, word)) => {
+        Fault::BadValue(letter, value, word) => {
             let (letter, form, word) = (char::from(letter), value.form(), Quoted(word));
             write!(out, "-{letter} {word}: {form}")
         }
-        Some(Fault::Twice(letter)) => {
+        Fault::Twice(letter) => {
             let letter = char::from(letter);
             write!(out, "-{letter} stands twice")
         }
-        None => out.push_str("nothing is asked for"),
     }
 }
 
-/// The first fault of the words, where one of them has it.
-fn fault_of<'a>(tool: Tool, words: &[&'a [u8]]) -> Option<Fault<'a>> {
+/// The first word that has a fault, where one has, and which.
+fn fault_of<'a>(tool: Tool, words: &[Word<'a>]) -> Option<(Word<'a>, Fault<'a>)> {
     let mut wanting = None;
     let mut seen = 0;
     let mut has_ended = false;
     for word in words {
-        if let Some((letter, value)) = wanting {
-            if let Some(fault) = value_fault(letter, value, *word) {
-                return Some(fault);
+        if let Some((option, letter, value)) = wanting {
+            if let Some(fault) = value_fault(letter, value, word.bytes) {
+                let is_missing = matches!(fault, Fault::NoValue(_));
+                return Some((if is_missing { option } else { *word }, fault));
             }
             wanting = None;
             continue;
         }
-        match *word {
-            _ if has_ended => return Some(Fault::Stray(*word)),
+        match word.bytes {
+            _ if has_ended => return Some((*word, Fault::Stray)),
             b"--" => has_ended = true,
-            [b'-', b'-', ..] => return Some(Fault::NoOption(*word)),
-            [b'-', _, ..] => match read_letters(tool, *word, &mut seen) {
-                Ok(next) => wanting = next,
-                Err(fault) => return Some(fault),
+            [b'-', b'-', ..] => return Some((*word, Fault::NoOption)),
+            [b'-', _, ..] => match read_letters(tool, word.bytes, &mut seen) {
+                Ok(next) => wanting = next.map(|(letter, value)| (*word, letter, value)),
+                Err(fault) => return Some((*word, fault)),
             },
-            _ => return Some(Fault::Stray(*word)),
+            _ => return Some((*word, Fault::Stray)),
         }
     }
-    wanting.map(|(letter, _)| Fault::NoValue(letter))
+    wanting.map(|(option, letter, _)| (option, Fault::NoValue(letter)))
 }
 
 fn value_fault(letter: u8, value: Value, word: &[u8]) -> Option<Fault<'_>> {
@@ -179,7 +184,7 @@ fn read_letters<'a>(
     seen: &mut u64,
 ) -> Result<Option<(u8, Value)>, Fault<'a>> {
     for (index, letter) in word.iter().enumerate().skip(1) {
-        let value = tool.value_of(*letter).ok_or(Fault::NoOption(word))?;
+        let value = tool.value_of(*letter).ok_or(Fault::NoOption)?;
         let bit = 1u64 << (*letter % 64);
         if *seen & bit != 0 {
             return Err(Fault::Twice(*letter));

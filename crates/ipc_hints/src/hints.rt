@@ -7,7 +7,7 @@ use crate::commands::explain_command;
 use crate::directives::{explain_clock, explain_limit};
 use crate::lost::{Cause, LostNames};
 use ipc_arguments::{
-    CALLS, Quoted, Shown, Told, form_of, has_suspects, is_like, is_one_of, nearest,
+    CALLS, Quoted, Shown, Told, Word, form_of, has_suspects, is_like, is_one_of, nearest,
     warn_of_decimal, words_in,
 };
 use ipc_call::Memory;
@@ -67,7 +67,7 @@ impl Hints {
             return Ok(());
         };
         self.clients.push(Client {
-            name: Vec::from_slice(self.alloc, name)?,
+            name: Vec::from_slice(self.alloc, name.bytes)?,
             line: number,
             last: 0,
             told: 0,
@@ -94,12 +94,12 @@ impl Hints {
         let [_, call, arguments @ ..] = words.as_slice() else {
             return Ok(());
         };
-        let Some(form) = form_of(call) else {
+        let Some(form) = form_of(call.bytes) else {
             return Ok(());
         };
         for (index, word) in arguments.iter().enumerate() {
             if let Some(argument) = form.argument_at(index) {
-                warn_of_decimal(out, number, argument, word)?;
+                warn_of_decimal(out, number, argument, *word)?;
             }
         }
         Ok(())
@@ -118,13 +118,13 @@ impl Hints {
         let Some((first, rest)) = words.as_slice().split_first() else {
             return Ok(());
         };
-        if self.is_told(first, reason) {
+        if self.is_told(first.bytes, reason) {
             return Ok(());
         }
         write!(out, "ipcsh: line {number}: ")?;
-        self.explain(text, first, rest, reason, out)?;
+        self.explain(text, *first, rest, reason, out)?;
         out.push('\n')?;
-        self.lose(number, first, rest, reason)
+        self.lose(number, first.bytes, rest, reason)
     }
 
     /// Appends how many bad lines have no text.
@@ -171,12 +171,12 @@ impl Hints {
     }
 
     /// Keeps the name that a bad line has left without a client.
-    fn lose(&mut self, number: u64, first: &[u8], rest: &[&[u8]], reason: Reason) -> Told {
+    fn lose(&mut self, number: u64, first: &[u8], rest: &[Word<'_>], reason: Reason) -> Told {
         let directive = first.strip_prefix(b"\xef\xbb\xbf").unwrap_or(first);
         let is_client_line = is_like(directive, b"client") && rest.len() > 1;
         match rest.first() {
-            Some(name) if is_client_line && self.named(name).is_none() => {
-                self.lost.add(name, Cause::BadLine(number))
+            Some(name) if is_client_line && self.named(name.bytes).is_none() => {
+                self.lost.add(name.bytes, Cause::BadLine(number))
             }
             _ if reason == Reason::UnknownClient => self.lost.add(first, Cause::NoClient),
             _ => Ok(()),
@@ -186,8 +186,8 @@ impl Hints {
     fn explain(
         &self,
         text: &[u8],
-        first: &[u8],
-        rest: &[&[u8]],
+        first: Word<'_>,
+        rest: &[Word<'_>],
         reason: Reason,
         out: &mut String,
     ) -> Told {
@@ -204,22 +204,26 @@ impl Hints {
             }
             Reason::UnknownClient => self.explain_unknown(first, out),
             Reason::BadCommand => explain_command(out, rest),
-            Reason::Busy => self.explain_busy(first, out),
+            Reason::Busy => self.explain_busy(first.bytes, out),
         }
     }
 
-    fn explain_late(&self, first: &[u8], out: &mut String) -> Told {
-        let (line, word) = (self.start, Quoted(first));
+    fn explain_late(&self, first: Word<'_>, out: &mut String) -> Told {
+        first.push_column(out)?;
+        let (line, word) = (self.start, Quoted(first.bytes));
         write!(
             out,
             "{word} is late: line {line} has made the first call; put this one before that line"
         )
     }
 
-    fn explain_twice(&self, rest: &[&[u8]], out: &mut String) -> Told {
-        let name = rest.first().copied().unwrap_or(b"");
-        let line = self.named(name).map_or(0, |client| client.line);
-        let shown = Quoted(name);
+    fn explain_twice(&self, rest: &[Word<'_>], out: &mut String) -> Told {
+        let Some(name) = rest.first() else {
+            return Ok(());
+        };
+        name.push_column(out)?;
+        let line = self.named(name.bytes).map_or(0, |client| client.line);
+        let shown = Quoted(name.bytes);
         write!(
             out,
             "client: NAME {shown} is that of line {line}; take another, or setcreds to change its user"
@@ -235,8 +239,9 @@ impl Hints {
         )
     }
 
-    fn explain_unknown(&self, word: &[u8], out: &mut String) -> Told {
-        let shown = Quoted(word);
+    fn explain_unknown(&self, first: Word<'_>, out: &mut String) -> Told {
+        first.push_column(out)?;
+        let (shown, word) = (Quoted(first.bytes), first.bytes);
         if matches!(
             word,
             [b'/', b'/' | b'*', ..] | [b'-', b'-', ..] | [b';', ..]
@@ -287,11 +292,11 @@ impl Hints {
 }
 
 /// Appends what is wrong with a line that isn't in the grammar.
-fn explain_bad_line(out: &mut String, text: &[u8], first: &[u8], rest: &[&[u8]]) -> Told {
+fn explain_bad_line(out: &mut String, text: &[u8], first: Word<'_>, rest: &[Word<'_>]) -> Told {
     if let Some(place) = text.iter().position(is_odd) {
         return explain_byte(out, text, place);
     }
-    match first {
+    match first.bytes {
         b"client" => explain_client(out, rest),
         b"limit" => explain_limit(out, rest),
         b"clock" => explain_clock(out, rest),
