@@ -3,7 +3,7 @@ use Rattle.std.specs.Prelude.{ℕ, List, [], ◌∷◌, length, nat_le, codes, b
 use Rattle.ipc_creds.specs.Credentials.{Credentials, cap_ipc_owner}
 use Rattle.ipc_creds.specs.Credentials.{cap_setgid, cap_setuid, cap_sys_admin, cap_sys_resource}
 use Rattle.ipc_call.specs.declared.limits.Limit.{Limit}
-use Rattle.ipc_text.specs.Names.{name_of}
+use Rattle.ipc_words.specs.Names.{name_of}
 use Rattle.ipc_words.specs.Numbers.{number_32, number_64}
 use Rattle.ipc_text.specs.Settings.{limit_named, value_of}
 use Rattle.ipc_words.specs.Steps.{◌>>=◌}

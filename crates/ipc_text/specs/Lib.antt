@@ -2,7 +2,7 @@ pub mod CallWords
 pub mod Calls
 pub mod Commands
 pub mod Grammar
-pub mod Names
+pub mod Parts
 pub mod Rows
 pub mod Segments
 pub mod Sets

@@ -7,13 +7,14 @@ ghost use Rattle.ipc_text.specs.Calls.{groups_option as groups_words, new_groups
 ghost use Rattle.ipc_text.specs.Calls.{msgrcv_of as msgrcv_line, msgrcv_words as msgrcv_parts, msgsnd_of as msgsnd_line, msgsnd_words as msgsnd_parts};
 ghost use Rattle.ipc_words.specs.Words.{words_of};
 
-use crate::arguments::{first_two, four_words, one_word, two_numbers, two_words};
 use crate::grammar::option_text;
-use crate::lists::number_list;
+use crate::lists::{number_list, two_numbers};
 use crate::segments::segment_call_of;
 use crate::texts::text_of;
 use ipc_call::{Call, Items, Kind};
-use ipc_words::{number, number_32, signed_64, split_word};
+use ipc_words::{
+    first_two, four_words, number, number_32, one_word, signed_64, split_word, two_words,
+};
 use std::alloc::{AllocError, Global};
 
 /// The call that the words make, of which the first names it; `None` where they make none. `AllocError` comes where
@@ -49,6 +50,7 @@ pub(crate) fn call_named(
 }
 
 // A call whose word stands below those of queues in the table.
+#[inline(never)]
 fn control_of(alloc: Global, word: &[u8], words: &[u8]) -> Result<Option<Call>, AllocError>
     ensures { IfOk result (λ call. call
         ≡ read_by (controls ++ process_calls ++ shm_calls ++ sem_calls ++ value_calls) word.now (words_of words.now)) }
@@ -80,6 +82,7 @@ fn process_call_of(alloc: Global, word: &[u8], words: &[u8]) -> Result<Option<Ca
 }
 
 #[tactic(auto, unfolding(crate::specs::Calls::msgsnd_of))]
+#[inline(never)]
 fn msgsnd_of(alloc: Global, words: &[u8]) -> Result<Option<Call>, AllocError>
     ensures { IfOk result (λ call. call ≡ msgsnd_line (words_of words.now)) }
 {
@@ -119,6 +122,7 @@ fn msgsnd_words(
 }
 
 #[tactic(auto, unfolding(crate::specs::Calls::msgrcv_of))]
+#[inline(never)]
 fn msgrcv_of(words: &[u8]) -> Option<Call>
     ensures { result ≡ msgrcv_line (words_of words.now) }
 {

@@ -6,14 +6,12 @@ ghost use Rattle.ipc_text.specs.Grammar.{group_list as groups_words, limit_of as
 ghost use Rattle.ipc_call.specs.Limits.{is_in_range};
 ghost use Rattle.ipc_words.specs.Words.{words_of};
 
-use crate::arguments::{first_two, one_word, two_numbers, two_words};
-use crate::lists::number_list;
-use crate::names::Name;
+use crate::lists::{number_list, two_numbers};
 use crate::settings::{limit_named, value_of};
 use bitflags::Flags;
 use ipc_call::Limit;
 use ipc_creds::{Caps, Creds, GROUPS_MAX};
-use ipc_words::{number, split_field, split_word};
+use ipc_words::{Name, first_two, number, one_word, split_field, split_word, two_words};
 use std::alloc::{AllocError, Global};
 
 /// The client of `NAME EUID EGID [groups=G,G,..] [caps=C,C,..] [saved=SUID:SGID]`, the words behind `client`; `None`

@@ -1,13 +1,22 @@
 // Lists of words, and of numbers in one word.
 
 ghost use Rattle.std.specs.Prelude.{◌≡◌, IfOk, option_map};
-ghost use Rattle.ipc_text.specs.Grammar.{each_of, number_list as number_words};
+ghost use Rattle.ipc_text.specs.Grammar.{each_of, number_list as number_words, two_numbers as both_numbers};
 ghost use Rattle.ipc_words.specs.Numbers.{number_32 as word_32, signed_32 as signed_word_32};
 ghost use Rattle.ipc_words.specs.Words.{words_of};
 
 use ipc_call::Items;
 use ipc_words::{number_32, signed_32, split_field, split_word};
 use std::alloc::{AllocError, Global};
+
+/// The numbers that two words write; None where one of them writes none that 32 bits hold.
+pub fn two_numbers(first: &[u8], second: &[u8]) -> Option<(u32, u32)>
+    ensures { result ≡ both_numbers first.now second.now }
+{
+    let first = number_32(first)?;
+    let second = number_32(second)?;
+    Some((first, second))
+}
 
 /// What one word of a list writes.
 pub trait Item: Copy {

@@ -6,7 +6,6 @@ ghost use Rattle.ipc_text.specs.Rows.{message_text, queue_text, perm_text, key_t
 ghost use Rattle.ipc_text.specs.Rows.{bytes_text, hex_text, memory_text, owned_text, segment_mode as mode_with_mark, segment_text, set_text, values_text};
 ghost use Rattle.ipc_text.specs.Rows.{list_text, listed_text, object_rows, row_text};
 
-use crate::names::Name;
 use crate::reasons::Reason;
 use ipc_call::{
     Answer, Errno, Listed, Memory, Mode, Outcome, Perm, QueueStatus, Reply, Row, SegmentStatus,
@@ -60,10 +59,20 @@ fn print_head(rows: &mut String, place: u64, turn: u32, name: &str) -> Result<()
     ensures { OnOk result (string_bytes rows.new ≡ string_bytes rows.old ++ row_head place turn name.now) }
 {
     print_number(rows, place)?;
+    print_turn(rows, turn)?;
+    rows.push_str(name)?;
+    rows.push_str(" ")
+}
+
+// A turn, which mostly is 0.
+fn print_turn(rows: &mut String, turn: u32) -> Result<(), Memory>
+    ensures { OnOk result (string_bytes rows.new ≡ string_bytes rows.old ++ (codes "." ++ (decimal turn ++ codes " "))) }
+{
+    if turn == 0 {
+        return rows.push_str(".0 ");
+    }
     rows.push_str(".")?;
     print_number(rows, u64::from(turn))?;
-    rows.push_str(" ")?;
-    rows.push_str(name)?;
     rows.push_str(" ")
 }
 
@@ -89,8 +98,19 @@ fn print_named(rows: &mut String, word: &str, number: u32) -> Result<(), Memory>
     ensures { OnOk result (string_bytes rows.new ≡ string_bytes rows.old ++ (word.now ++ (decimal number ++ codes "\n"))) }
 {
     rows.push_str(word)?;
-    print_number(rows, u64::from(number))?;
+    print_small(rows, number)?;
     rows.push_str("\n")
+}
+
+// A number, which mostly has one digit.
+#[tactic(auto, using(std::proofs::lemmas::Fmt::decimal_digit))]
+fn print_small(rows: &mut String, number: u32) -> Result<(), Memory>
+    ensures { OnOk result (string_bytes rows.new ≡ string_bytes rows.old ++ decimal number) }
+{
+    if number < 10 {
+        return rows.push((b'0' + number as u8) as char);
+    }
+    print_number(rows, u64::from(number))
 }
 
 // A listing: how many objects there are, and the line of each.

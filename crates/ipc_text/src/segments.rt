@@ -6,11 +6,10 @@ ghost use Rattle.ipc_text.specs.Segments.{shmat_of as shmat_words, shmdt_of as s
 ghost use Rattle.ipc_text.specs.Segments.{shmget_of as shmget_line, shmget_words as shmget_parts, shmread_of as shmread_line, shmread_words as shmread_parts, shmwrite_of as shmwrite_line, shmwrite_words as shmwrite_parts};
 ghost use Rattle.ipc_words.specs.Words.{words_of};
 
-use crate::arguments::{one_word, three_words, two_words};
 use crate::sets::set_call_of;
 use crate::texts::text_of;
 use ipc_call::Call;
-use ipc_words::{number, number_32};
+use ipc_words::{number, number_32, one_word, three_words, two_words};
 use std::alloc::{AllocError, Global};
 
 /// The call on a shared memory segment that this word and those behind it make, or that on a semaphore set; `None` where they

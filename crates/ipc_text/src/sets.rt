@@ -6,10 +6,12 @@ ghost use Rattle.ipc_text.specs.Sets.{getall_of as getall_words, oper_flags as f
 ghost use Rattle.ipc_text.specs.Sets.{semget_of as semget_line, semget_words as semget_parts, semop_of as semop_words, semtimedop_of as semtimedop_words, setall_of as setall_words, setval_of as setval_line, setval_words as setval_parts};
 ghost use Rattle.ipc_words.specs.Words.{fields_of, words_of};
 
-use crate::arguments::{first_two, one_word, three_words, two_numbers, two_words};
-use crate::lists::{Item, items_of};
+use crate::lists::{Item, items_of, two_numbers};
 use ipc_call::{Call, SemOper};
-use ipc_words::{number, number_16, number_32, signed_16, signed_32, split_field, split_word};
+use ipc_words::{
+    first_two, number, number_16, number_32, one_word, signed_16, signed_32, split_field,
+    split_word, three_words, two_words,
+};
 use std::alloc::{AllocError, Global};
 
 /// The call on a semaphore set that this word and those behind it make; `None` where they make none.

@@ -1,11 +1,12 @@
 -- Lines whose bytes come one after the other.
-use Rattle.std.proofs.Common.{◌≡◌, ℕ, ◌+◌, ◌-◌, ◌<◌, ◌≤◌, ◌⊎◌, Bool, true, false, cond, List, [], ◌∷◌, ◌++◌, length, take, arith, refl, ap, sym, zero, suc, inl, inr, ◌∙◌, min, subst, append_assoc}
+use Rattle.std.proofs.Common.{◌≡◌, ℕ, ◌+◌, ◌-◌, ◌<◌, ◌≤◌, ◌⊎◌, Bool, true, false, cond, List, [], ◌∷◌, ◌++◌, length, take, arith, refl, ap, sym, zero, suc, one-add, inl, inr, ◌∙◌, min, subst, append_assoc}
 use Rattle.std.proofs.lemmas.Bool.Decides.{nat_tests}
 use Rattle.std.proofs.lemmas.Grind.{common_steps}
 use Rattle.std.proofs.lemmas.List.{append-nil, length-take-le, map-append, take_min, take_all}
 use Rattle.std.proofs.lemmas.Bool.{cases_lt}
 use Rattle.std.proofs.Math.Seq.{take-append-add}
-use Rattle.std.specs.Prelude.{◌==◌, ◌&&◌, not, map, Option, None, Some, MatchOption, slice_index}
+use Rattle.std.specs.List.{prefix_len}
+use Rattle.std.specs.Prelude.{◌==◌, ◌&&◌, not, map, Option, None, Some, MatchOption, replicate, slice_index}
 use Rattle.memchr.specs.Find.{IsFirstByte, is_byte}
 use Rattle.ipc_words.specs.Lines.{Split, is_line, complete_lines, last_lines, lines_of, onto, onto_first, split, whole_line, within_limit, without_return}
 
@@ -176,3 +177,16 @@ complete_more a b =
       map whole_line grew.0 ++ last,
       ap (λ (t : List (List ℕ)). map whole_line t ++ last) grew.1 ∙ ap (λ (t : List (Option (List ℕ))). t ++ last) (map-append whole_line (split a).whole grew.0) ∙ append_assoc (complete_lines a) (map whole_line grew.0) last,
     )
+
+-- line feeds that come first
+
+abbrev pub feeds : List ℕ → ℕ
+feeds text = prefix_len (λ b. b == 10) text
+
+feeds_first_if : (feed : Bool) (b : ℕ) (bs : List ℕ) → (b == 10) ≡ feed → take (feeds bs) bs ≡ replicate (feeds bs) 10 → take (cond feed (1 + feeds bs) 0) (b ∷ bs) ≡ replicate (cond feed (1 + feeds bs) 0) 10
+feeds_first_if true b bs e h = let ten : b ≡ 10 = grind (arith, nat_tests) in rw (one-add, h, ten) refl
+feeds_first_if false b bs e h = refl
+
+pub feeds_first : (text : List ℕ) → take (feeds text) text ≡ replicate (feeds text) 10
+feeds_first [] = refl
+feeds_first (b ∷ bs) = feeds_first_if (b == 10) b bs refl (feeds_first bs)

@@ -1,6 +1,7 @@
 // Lines of a script, whose bytes come one after the other.
 
-ghost use Rattle.std.specs.Prelude.{◌≡◌, ◌↔◌, ◌<◌, [], ◌∷◌, ◌++◌, true, length, slice_index, take, IfSome, IsTrue, MatchOption, OnErr, OnOk};
+ghost use Rattle.std.specs.Prelude.{◌≡◌, ◌↔◌, ◌<◌, ◌≤◌, ◌==◌, [], ◌∷◌, ◌++◌, true, length, replicate, slice_index, take, IfSome, IsTrue, MatchOption, OnErr, OnOk};
+ghost use Rattle.std.specs.List.{prefix_len};
 ghost use Rattle.ipc_words.specs.LineText.{content_of};
 ghost use Rattle.ipc_words.specs.Lines.{is_line, whole_line as line_whole, within_limit as line_within_limit};
 
@@ -100,6 +101,22 @@ pub fn split_line(text: &[u8]) -> Option<(&[u8], &[u8])>
 {
     let place = line_end(text)?;
     Some((&text[..place], &text[place + 1..]))
+}
+
+/// The line feeds that come first, and what follows them.
+pub fn split_feeds(text: &[u8]) -> (&[u8], &[u8])
+    ensures feeds { result.0.now ≡ replicate (length result.0.now) 10 }
+    ensures parts { text.now ≡ result.0.now ++ result.1.now }
+{
+    text.split_at(feeds_before(text))
+}
+
+// How many line feeds come first.
+fn feeds_before(text: &[u8]) -> usize
+    ensures value { result ≡ prefix_len (λ b. b == 10) text.now }
+    ensures within { result ≤ length text.now }
+{
+    text.iter().take_while(|byte| **byte == b'\n').count()
 }
 
 // Where the first line feed stands.

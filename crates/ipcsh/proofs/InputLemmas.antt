@@ -1,12 +1,13 @@
 -- What more bytes and one more line do to what was read.
-use Rattle.std.proofs.Common.{arith, ◌≡◌, true, ℕ, List, [], ◌∷◌, ◌++◌, length, take, map, refl, sym, ap, subst, ◌∙◌, append_assoc, append-nil}
-use Rattle.std.specs.Prelude.{Option, fold, string_bytes}
+use Rattle.std.proofs.Common.{arith, ◌≡◌, true, ℕ, zero, suc, ◌+◌, List, [], ◌∷◌, ◌++◌, length, take, map, refl, sym, ap, subst, ◌∙◌, append_assoc, append-nil}
+use Rattle.std.specs.Prelude.{Option, fold, replicate, string_bytes}
 use Rattle.std.proofs.lemmas.List.{map_push, map-append, nil_from_length, length-take}
 use Rattle.std.proofs.lemmas.List.Sums.{fold_push, fold-append}
 use Rattle.ipc_words.specs.Lines.{Split, is_line, split, whole_line, within_limit, last_lines, complete_lines, lines_of}
-use Rattle.ipcsh.specs.Output.{Answers, Input, Printed, after_line, answered, lines_in}
+use Rattle.ipcsh.specs.Output.{Answers, Input, Printed, after_line, answered, counted, lines_in}
+use Rattle.ipcsh.specs.Readings.{reading_of}
 use Rattle.ipcsh.specs.declared.input.ScriptInput.{ScriptInput}
-use Rattle.ipcsh.specs.Inputs.{HasRead, Takes}
+use Rattle.ipcsh.specs.Inputs.{HasRead, Takes, TakesFront}
 use Rattle.ipcsh.specs.Runs.{LeadTo}
 use Rattle.ipcsh.specs.Session.{Session, fresh_session}
 use Rattle.ipc_words.proofs.LineLemmas.{kept_whole, kept_last, kept_more, split_feed, split_line_more, complete_more}
@@ -136,3 +137,30 @@ Takes-line old new bytes line plain is none a = λ text written h.
 -- one that has come in one piece
 pub whole_alone : (pending bytes : List ℕ) → pending ≡ [] → whole_line bytes ≡ whole_line (take 65538 (pending ++ bytes))
 whole_alone pending bytes none = sym (kept_whole bytes) ∙ ap (λ (bs : List ℕ). whole_line (take 65538 (bs ++ bytes))) (sym none)
+
+-- a front, and then a front of what follows it
+pub TakesFront-more : (old mid new : ScriptInput) (bytes more rest : List ℕ) → TakesFront old bytes mid more → TakesFront mid more new rest → TakesFront old bytes new rest
+TakesFront-more old mid new bytes more rest a b =
+    (a.0 ++ b.0, append_assoc a.0 b.0 rest ∙ ap (λ (bs : List ℕ). a.0 ++ bs) b.1 ∙ a.1, Takes-more old mid new a.0 b.0 a.2 b.2)
+
+-- a line that is empty is counted, and prints nothing
+Answers-empty : (s : Session) (rows : List ℕ) → Answers s (whole_line []) (counted s) rows rows
+unfolding answered reading_of
+Answers-empty s rows = ([], record { session = refl; rows = sym (append-nil rows) })
+
+abbrev pub with_lines : ScriptInput → ℕ → ScriptInput
+with_lines i n = record { session = record i.session { lines = i.session.lines + n }; pending = i.pending; rows = i.rows }
+
+lines_none : (i : ScriptInput) → i ≡ with_lines i 0
+lines_none i = let e : i.session.lines ≡ i.session.lines + 0 = omega arith in λ k. record { session = record i.session { lines = e k }; pending = i.pending; rows = i.rows }
+
+lines_more : (i : ScriptInput) (n : ℕ) → with_lines (with_lines i 1) n ≡ with_lines i (suc n)
+lines_more i n = let e : i.session.lines + 1 + n ≡ i.session.lines + suc n = omega arith in λ k. record { session = record i.session { lines = e k }; pending = i.pending; rows = i.rows }
+
+-- line feeds alone
+pub Takes-feeds : (n : ℕ) (i : ScriptInput) → i.pending ≡ [] → Takes i (replicate n 10) (with_lines i n)
+Takes-feeds zero i none = subst (λ (j : ScriptInput). Takes i [] j) (lines_none i) (Takes-none i)
+Takes-feeds (suc n) i none =
+    let one : Takes i (10 ∷ []) (with_lines i 1) = Takes-line i (with_lines i 1) [] (whole_line []) refl (whole_alone i.pending [] none) none (Answers-empty i.session (string_bytes i.rows)) in
+    subst (λ (j : ScriptInput). Takes i (replicate (suc n) 10) j) (lines_more i n)
+    (Takes-more i (with_lines i 1) (with_lines (with_lines i 1) n) (10 ∷ []) (replicate n 10) one (Takes-feeds n (with_lines i 1) none))

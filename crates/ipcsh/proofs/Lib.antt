@@ -1,5 +1,6 @@
 pub mod CommandLemmas
+pub mod GetLemmas
 pub mod InputLemmas
 pub mod PieceLemmas
-pub mod ScriptLemmas
 pub mod RunLemmas
+pub mod ScriptLemmas

@@ -12,3 +12,7 @@ pub record HasRead (text written : List ℕ) (i : ScriptInput) : Type 0 where
 -- the bytes are read and their lines answered
 abbrev pub Takes : ScriptInput → List ℕ → ScriptInput → Type 0
 Takes old bytes new = (text written : List ℕ) → HasRead text written old → HasRead (text ++ bytes) written new
+
+-- so are those before the rest
+abbrev pub TakesFront : ScriptInput → List ℕ → ScriptInput → List ℕ → Type 0
+TakesFront old bytes new rest = (front : List ℕ) × (front ++ rest ≡ bytes) × Takes old front new

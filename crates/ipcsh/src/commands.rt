@@ -11,7 +11,7 @@ use crate::session::Session;
 use ipc_call::{Call, Memory, Reply};
 use ipc_commands::{answered_id, get_of};
 use ipc_space::Effects;
-use ipc_text::{Command, Part, print_reply};
+use ipc_text::{Command, Part, Parts, print_reply};
 use std::alloc::Global;
 
 impl Session {
@@ -28,7 +28,27 @@ impl Session {
         ensures does { OnOk result (CarriesOut self.old (Reading.Command client command) self.new (string_bytes rows.old) (string_bytes rows.new)) }
         ensures lines { OnOk result (self.new.lines ≡ self.old.lines) }
     {
-        let parts = command.into_vec();
+        match command.into_parts() {
+            Parts::One(part) => self.make(alloc, client, part, rows, listener),
+            Parts::Many(parts) => self.make_each(alloc, client, parts, rows, listener),
+        }
+    }
+
+    /// Makes the calls of the parts in turn, and prints their rows.
+    #[cold]
+    #[inline(never)]
+    fn make_each<L: Listener>(
+        &mut self,
+        alloc: Global,
+        client: u32,
+        parts: Vec<Part>,
+        rows: &mut String,
+        listener: &mut L,
+    ) -> Result<(), Memory>
+        requires { client < length self.old.names }
+        ensures does { OnOk result (CarriesOut self.old (Reading.Command client parts.items) self.new (string_bytes rows.old) (string_bytes rows.new)) }
+        ensures lines { OnOk result (self.new.lines ≡ self.old.lines) }
+    {
         for part in parts {
             self.make(alloc, client, part, rows, listener)?;
         }
@@ -64,7 +84,7 @@ impl Session {
 
     /// Makes a call, unless the client waits, and prints the rows of its event, or the row of a refusal of
     /// memory. Gives the identifier that it is answered.
-    fn call<L: Listener>(
+    pub(crate) fn call<L: Listener>(
         &mut self,
         alloc: Global,
         client: u32,

@@ -5,14 +5,14 @@ ghost use Rattle.std.specs.Io.KnownBytes.{Appends};
 ghost use Rattle.ipcsh.specs.Session.{fresh_session};
 ghost use Rattle.ipc_words.specs.Lines.{is_line, lines_of};
 ghost use Rattle.ipcsh.specs.Runs.{LeadTo};
-ghost use Rattle.ipcsh.specs.Inputs.{HasRead, Takes};
+ghost use Rattle.ipcsh.specs.Inputs.{HasRead, Takes, TakesFront};
 
 use crate::listeners::Listener;
 use crate::output::write_bytes;
 use crate::runs::Fault;
 use crate::session::Session;
 use ipc_call::Memory;
-use ipc_words::{Pending, split_line, whole_line};
+use ipc_words::{Pending, split_feeds, split_line, whole_line};
 use std::alloc::Global;
 use std::io::Write;
 
@@ -52,10 +52,22 @@ impl ScriptInput {
         let mut rest = bytes;
         while let Some((line, others)) = split_line(rest) {
             self.take_line(alloc, line, listener)?;
-            rest = others;
+            rest = self.pass_feeds(others);
         }
         self.pending.extend(rest)?;
         Ok(())
+    }
+
+    /// Passes the line feeds that come first, and gives what follows them: each ends a line that says nothing.
+    fn pass_feeds<'a>(&mut self, bytes: &'a [u8]) -> &'a [u8]
+        requires none { self.old.pending ≡ [] }
+        requires lines { self.old.session.lines + length bytes.now < 2 ^ 64 }
+        ensures takes { TakesFront self.old bytes.now self.new result.now }
+        ensures lines { self.new.session.lines + length result.now ≡ self.old.session.lines + length bytes.now }
+    {
+        let (feeds, others) = split_feeds(bytes);
+        self.session.count_lines(feeds.len() as u64);
+        others
     }
 
     /// Answers the line that these bytes end, whose line feed has come. One that has come in one piece isn't copied.
@@ -68,6 +80,7 @@ impl ScriptInput {
         requires lines { self.old.session.lines + 1 < 2 ^ 64 }
         requires line { is_line bytes.now ≡ true }
         ensures takes { OnOk result (Takes self.old (bytes.now ++ 10 ∷ []) self.new) }
+        ensures none { OnOk result (self.new.pending ≡ []) }
         ensures lines { OnOk result (self.new.session.lines ≡ self.old.session.lines + 1) }
     {
         if self.pending.is_empty() {

@@ -12,10 +12,10 @@ use crate::pieces::read_text;
 use crate::readings::Reading;
 use crate::runs::Fault;
 use crate::session::Session;
-use ipc_call::{Limits, Memory};
+use ipc_call::{Items, Limits, Memory};
 use ipc_commands::Job;
 use ipc_creds::Creds;
-use ipc_text::{Command, Line, Name};
+use ipc_text::{Command, Line, Name, Part, Parts};
 use ipc_words::{last_line, split_line, whole_line};
 use std::alloc::Global;
 use std::io::Read;
@@ -103,6 +103,20 @@ fn take_lines<L: Listener>(
     Ok(())
 }
 
+/// The calls of a line in a list.
+fn listed(alloc: Global, command: Command) -> Result<Items<Part>, Memory>
+    ensures { IfOk result (λ parts. parts ≡ command) }
+{
+    match command.into_parts() {
+        Parts::One(part) => {
+            let mut parts = Vec::new(alloc);
+            parts.push(part)?;
+            Ok(Items::new(parts))
+        }
+        Parts::Many(parts) => Ok(Items::new(parts)),
+    }
+}
+
 /// A script between two lines.
 #[derive(Drop)]
 pub(crate) struct Planning {
@@ -167,6 +181,7 @@ impl Planning {
     {
         self.session.start(alloc)?;
         let now = self.session.time();
+        let command = listed(alloc, command)?;
         self.jobs[client as usize].push(Job { now, command })?;
         Ok(())
     }

@@ -1,4 +1,4 @@
-use Rattle.std.proofs.Common.{◌≡◌, ◌+◌, ◌-◌, ◌++◌, List, ℕ, length, min, take, arith, ap, ◌∙◌}
+use Rattle.std.proofs.Common.{◌≡◌, ◌+◌, ◌-◌, ◌++◌, ℕ, length, take, arith, ap, ◌∙◌}
 use Rattle.ipc_words.proofs.LineLemmas.{extend_kept}
 use Rattle.ipc_words.proofs.lines.Pending.extend.Goals as goal
 

@@ -1,17 +1,18 @@
-use Rattle.std.proofs.Common.{◌≡◌, arith, ◌∷◌, [], ◌++◌, List, ℕ, sym, ap, subst, ◌∙◌, append_assoc}
+use Rattle.std.proofs.Common.{◌≡◌, arith, ◌∷◌, [], ◌++◌, List, ℕ, sym, subst, ◌∙◌, append_assoc}
 use Rattle.ipcsh.specs.declared.input.ScriptInput.{ScriptInput}
 use Rattle.ipcsh.specs.Inputs.{Takes}
-use Rattle.ipcsh.proofs.InputLemmas.{HasRead-line, Takes-more}
+use Rattle.ipcsh.proofs.InputLemmas.{HasRead-line, Takes-more, TakesFront-more}
 use Rattle.ipcsh.proofs.input.ScriptInput.take.Goals as goal
 
 pub loop-line-preserved : goal.loop-line-preserved
 loop-line-preserved g c =
-    let line = c.in-Some.line.now in let others = c.in-Some.others.now in let before = c.loop-line.invariant.takes in
-    let joined : (before.0 ++ (line ++ 10 ∷ [])) ++ others ≡ c.args.bytes.now =
-    append_assoc before.0 (line ++ 10 ∷ []) others ∙ ap (λ (bs : List ℕ). before.0 ++ bs) (append_assoc line (10 ∷ []) others ∙ sym c.in-Some.ensures.parts) ∙ before.1 in
+    let line = c.in-Some.line.now in
+    let others = c.in-Some.others.now in
+    let joined : (line ++ 10 ∷ []) ++ others ≡ c.loop-line.rest.now = append_assoc line (10 ∷ []) others ∙ sym c.in-Some.ensures.parts in
+    let answered = TakesFront-more c.args.self.now c.loop-line.self c.take_line.new.self c.args.bytes.now c.loop-line.rest.now others c.loop-line.invariant.takes (line ++ 10 ∷ [], joined, c.in_ok-take_line.ensures.takes) in
     record {
-      takes = (before.0 ++ (line ++ 10 ∷ []), joined, Takes-more c.args.self.now c.loop-line.self c.take_line.new.self before.0 (line ++ 10 ∷ []) before.2 c.in_ok-take_line.ensures.takes);
-      lines = omega (arith, c.in_ok-take_line.ensures.lines, c.in-Some.ensures.shorter, c.loop-line.invariant.lines);
+      takes = TakesFront-more c.args.self.now c.take_line.new.self c.pass_feeds-rest.new.self c.args.bytes.now others c.pass_feeds-rest.result.now answered c.pass_feeds-rest.ensures.takes;
+      lines = omega (arith, c.in_ok-take_line.ensures.lines, c.in-Some.ensures.shorter, c.pass_feeds-rest.ensures.lines, c.loop-line.invariant.lines);
     }
 
 pub returns-clause-takes : goal.returns-clause-takes

@@ -4,7 +4,7 @@ use Rattle.std.proofs.lemmas.Bool.Decides.{nat_tests}
 use Rattle.std.proofs.lemmas.Str.{IsUtf8-from_ascii}
 use Rattle.std.specs.List.{list_all}
 use Rattle.std.specs.Str.{IsAscii, IsUtf8}
-use Rattle.ipc_text.specs.Names.{is_letter, is_name, is_name_byte}
+use Rattle.ipc_words.specs.Names.{is_letter, is_name, is_name_byte}
 
 ascii_byte : (b : ℕ) → is_name_byte b ≡ true → b < 128
 ascii_byte b h = grind (arith, nat_tests)

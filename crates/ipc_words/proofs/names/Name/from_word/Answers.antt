@@ -1,7 +1,7 @@
 use Rattle.std.proofs.Common.{refl, sym}
 use Rattle.std.specs.Prelude.{Result, Ok, Err, MatchResult, IsOk}
-use Rattle.ipc_text.proofs.NameLemmas.{IsUtf8-is_name}
-use Rattle.ipc_text.proofs.names.Name.from_word.Goals as goal
+use Rattle.ipc_words.proofs.NameLemmas.{IsUtf8-is_name}
+use Rattle.ipc_words.proofs.names.Name.from_word.Goals as goal
 
 is_ok_if : {T E : Type 0} (r : Result T E) (P : T → Type 0) (Q : E → Type 0) (U : Type 0) → U → MatchResult r P (λ e. (U → ⊥) × Q e) → IsOk r
 is_ok_if (Ok x) P Q U u h = refl

@@ -1,10 +1,9 @@
-// The arguments of a call or a directive, where there are exactly so many, and pairs of them.
+// The words of a text, where there are exactly so many.
 
-ghost use Rattle.std.specs.Prelude.{◌≡◌, ◌≢◌, ◌<◌, [], ◌∷◌, length, MatchOption};
-ghost use Rattle.ipc_text.specs.Grammar.{two_numbers as number_words};
-ghost use Rattle.ipc_words.specs.Words.{words_of};
+ghost use Rattle.std.specs.Prelude.{◌≡◌, ◌≢◌, ◌<◌, [], ◌∷◌, true, length, IfSome, MatchOption};
+ghost use Rattle.ipc_words.specs.Words.{is_plain as plain_text, words_of};
 
-use ipc_words::{number_32, split_word};
+use crate::words::{split_plain, split_word};
 
 /// The word, where it is one.
 pub fn one_word(words: &[u8]) -> Option<&[u8]>
@@ -18,7 +17,7 @@ pub fn one_word(words: &[u8]) -> Option<&[u8]>
 }
 
 /// The words, where they are two.
-pub(crate) fn two_words(words: &[u8]) -> Option<(&[u8], &[u8])>
+pub fn two_words(words: &[u8]) -> Option<(&[u8], &[u8])>
     ensures { MatchOption result (length (words_of words.now) ≢ 2) (λ x. words_of words.now ≡ x.0.now ∷ x.1.now ∷ []) }
 {
     let (first, words) = split_word(words)?;
@@ -35,17 +34,8 @@ pub fn first_two(words: &[u8]) -> Option<(&[u8], &[u8], &[u8])>
     Some((first, second, others))
 }
 
-/// The numbers that two words write; None where one of them writes none that 32 bits hold.
-pub fn two_numbers(first: &[u8], second: &[u8]) -> Option<(u32, u32)>
-    ensures { result ≡ number_words first.now second.now }
-{
-    let first = number_32(first)?;
-    let second = number_32(second)?;
-    Some((first, second))
-}
-
 /// The words, where they are three.
-pub(crate) fn three_words(words: &[u8]) -> Option<(&[u8], &[u8], &[u8])>
+pub fn three_words(words: &[u8]) -> Option<(&[u8], &[u8], &[u8])>
     ensures { MatchOption result (length (words_of words.now) ≢ 3) (λ x. words_of words.now ≡ x.0.now ∷ x.1.now ∷ x.2.now ∷ []) }
 {
     let (first, words) = split_word(words)?;
@@ -59,5 +49,20 @@ pub fn four_words(words: &[u8]) -> Option<(&[u8], &[u8], &[u8], &[u8])>
 {
     let (first, words) = split_word(words)?;
     let (second, third, fourth) = three_words(words)?;
+    Some((first, second, third, fourth))
+}
+
+/// The words, where they are four of printing characters, and nothing follows them. Those of most lines are.
+pub fn four_plain(text: &[u8]) -> Option<(&[u8], &[u8], &[u8], &[u8])>
+    ensures words { IfSome result (λ x. words_of text.now ≡ x.0.now ∷ x.1.now ∷ x.2.now ∷ x.3.now ∷ []) }
+    ensures plain { IfSome result (λ _. plain_text text.now ≡ true) }
+{
+    let (first, rest) = split_plain(text)?;
+    let (second, rest) = split_plain(rest)?;
+    let (third, rest) = split_plain(rest)?;
+    let (fourth, rest) = split_plain(rest)?;
+    if !rest.is_empty() {
+        return None;
+    }
     Some((first, second, third, fourth))
 }

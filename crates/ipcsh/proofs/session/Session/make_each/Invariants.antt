@@ -3,7 +3,7 @@ use Rattle.std.specs.Prelude.{string_bytes}
 use Rattle.std.specs.Vec.Iter.{into_iter_items, into_iter_len}
 use Rattle.ipcsh.specs.Commands.{parts_made}
 use Rattle.ipcsh.specs.Leading.{Leads}
-use Rattle.ipcsh.proofs.session.Session.make_all.Given as goal
+use Rattle.ipcsh.proofs.session.Session.make_each.Given as goal
 
 -- the parts so far are made
 abbrev pub invariant-loop-part : goal.invariant-loop-part

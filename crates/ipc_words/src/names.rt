@@ -1,8 +1,8 @@
 // Names of clients.
 
-ghost use Rattle.std.specs.Prelude.{◌≡◌, IfOk, IsTrue};
+ghost use Rattle.std.specs.Prelude.{◌≡◌, IfOk, IsTrue, bytes_eq};
 ghost use Rattle.std.specs.List.{list_all};
-ghost use Rattle.ipc_text.specs.Names.{is_directive as names_directive, is_name as names_client, is_name_byte, name_of};
+ghost use Rattle.ipc_words.specs.Names.{is_directive as names_directive, is_name as names_client, is_name_byte, name_of};
 
 use std::alloc::{AllocError, Global};
 use std::marker::Model;
@@ -18,7 +18,7 @@ pub struct Name {
 
 impl Model for Name {
     ghost use Rattle.std.specs.Prelude.{ℕ, List, IsTrue, string_bytes};
-    ghost use Rattle.ipc_text.specs.Names.{is_name as names_client};
+    ghost use Rattle.ipc_words.specs.Names.{is_name as names_client};
 
     ghost Value = { List ℕ };
 
@@ -29,7 +29,7 @@ impl Model for Name {
 
 impl Name {
     /// The name that the word is, where it is one. Memory comes only where a growth was refused.
-    pub(crate) fn from_word(alloc: Global, word: &[u8]) -> Result<Option<Name>, AllocError>
+    pub fn from_word(alloc: Global, word: &[u8]) -> Result<Option<Name>, AllocError>
         ensures { IfOk result (λ name. name ≡ name_of word.now) }
     {
         if !is_name(word) {
@@ -39,6 +39,14 @@ impl Name {
         Ok(Some(Name {
             text: String::from_str(alloc, text)?,
         }))
+    }
+
+    /// Whether the word is this name.
+    pub fn is(&self, word: &[u8]) -> bool
+        ensures value { result ≡ bytes_eq self.now word.now }
+        ensures name { IsTrue result → IsTrue (names_client word.now) }
+    {
+        is_same(self.text.as_bytes(), word)
     }
 
     /// The name as text.
@@ -61,6 +69,17 @@ fn is_name(word: &[u8]) -> bool
         && first.is_ascii_lowercase()
         && are_name_bytes(rest)
         && !is_directive(word)
+}
+
+// Whether the bytes are the same, in few instructions where there are few.
+fn is_same(a: &[u8], b: &[u8]) -> bool
+    ensures { result ≡ bytes_eq a.now b.now }
+{
+    match (a, b) {
+        ([], []) => true,
+        ([first, a @ ..], [byte, b @ ..]) => first == byte && is_same(a, b),
+        _ => false,
+    }
 }
 
 fn are_name_bytes(bytes: &[u8]) -> bool
