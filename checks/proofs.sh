@@ -1,11 +1,12 @@
 # Proofs and times.
 
-programs='ipcsh_cli ipcwho ipcsh_explain ipcsh_journal ipc_bench thread_bench ipcsh_c'
+programs='ipcsh_cli ipcwho ipcsh_explain ipcsh_journal ipc_bench thread_bench member_bench ipcsh_c'
 
 check_bench() {
     attempt bench measures
     attempt 'bench threads' measures_threads
     ! command -v valgrind >/dev/null || attempt 'bench instructions' counts_instructions
+    ! command -v valgrind >/dev/null || ! command -v cc >/dev/null || attempt 'bench c' counts_calls_from_c
 }
 
 # The instructions of docs/SPEED.md are those that valgrind counts, within a fifth, since they differ between environments.
@@ -15,6 +16,16 @@ counts_instructions() {
     ./bench instructions 64 >"$scratch/out" || return 1
     why='docs/SPEED.md has other figures, or less than ten of them:'
     awk -f lib/instructions.awk "$scratch/out" docs/SPEED.md >"$scratch/shown"
+    [ ! -s "$scratch/shown" ]
+}
+
+# So are those of docs/C.md.
+counts_calls_from_c() {
+    built member_bench || return 1
+    built ipcsh_c || return 1
+    ./bench c >"$scratch/out" || return 1
+    why='docs/C.md has other figures, or less than five rows of them:'
+    awk -f lib/c_instructions.awk "$scratch/out" docs/C.md >"$scratch/shown"
     [ ! -s "$scratch/shown" ]
 }
 

@@ -266,12 +266,18 @@ static inline int ipcsh_number(ipcsh *handle, const struct ipcsh_request *reques
     return code;
 }
 
+/* A request of this operation and time, whose other numbers are 0. */
+static inline void ipcsh_request_set(struct ipcsh_request *request, enum ipcsh_op op, uint64_t clock)
+{
+    memset(request, 0, sizeof *request);
+    request->op = (uint32_t)op;
+    request->clock = clock;
+}
+
 static inline struct ipcsh_request ipcsh_request_of(enum ipcsh_op op, uint64_t clock)
 {
     struct ipcsh_request request;
-    memset(&request, 0, sizeof request);
-    request.op = (uint32_t)op;
-    request.clock = clock;
+    ipcsh_request_set(&request, op, clock);
     return request;
 }
 
@@ -287,8 +293,9 @@ static inline int ipcsh_msgget(ipcsh *handle, uint64_t clock, uint32_t key, uint
 /* msgsnd of msgop(2): a message of this type with these bytes. It waits while the queue is full, without IPCSH_NOWAIT. */
 static inline int ipcsh_msgsnd(ipcsh *handle, uint64_t clock, uint32_t id, int64_t mtype, const void *text, size_t len, uint32_t flags, struct ipcsh_reply *reply)
 {
-    struct ipcsh_request request = ipcsh_request_of(IPCSH_MSGSND, clock);
+    struct ipcsh_request request;
     struct ipcsh_lists lists = { 0, 0, 0, 0, 0, 0, 0, 0 };
+    ipcsh_request_set(&request, IPCSH_MSGSND, clock);
     lists.text = text;
     lists.text_len = len;
     request.id = id;
@@ -300,8 +307,9 @@ static inline int ipcsh_msgsnd(ipcsh *handle, uint64_t clock, uint32_t id, int64
 /* msgrcv of msgop(2): `reply->mtype` is the type and `reply->len` the length of the text. */
 static inline int ipcsh_msgrcv(ipcsh *handle, uint64_t clock, uint32_t id, void *text, size_t size, int64_t msgtyp, uint32_t flags, struct ipcsh_reply *reply)
 {
-    struct ipcsh_request request = ipcsh_request_of(IPCSH_MSGRCV, clock);
+    struct ipcsh_request request;
     struct ipcsh_room room = { 0, 0, 0, 0, 0, 0 };
+    ipcsh_request_set(&request, IPCSH_MSGRCV, clock);
     room.bytes = text;
     room.bytes_len = size;
     request.id = id;
@@ -324,8 +332,9 @@ static inline int ipcsh_semget(ipcsh *handle, uint64_t clock, uint32_t key, uint
 /* semop(2) */
 static inline int ipcsh_semop(ipcsh *handle, uint64_t clock, uint32_t id, const struct ipcsh_semop *ops, size_t n, struct ipcsh_reply *reply)
 {
-    struct ipcsh_request request = ipcsh_request_of(IPCSH_SEMOP, clock);
+    struct ipcsh_request request;
     struct ipcsh_lists lists = { 0, 0, 0, 0, 0, 0, 0, 0 };
+    ipcsh_request_set(&request, IPCSH_SEMOP, clock);
     lists.ops = ops;
     lists.ops_len = n;
     request.id = id;
@@ -335,8 +344,9 @@ static inline int ipcsh_semop(ipcsh *handle, uint64_t clock, uint32_t id, const 
 /* semtimedop of semop(2): it waits for at most so many seconds of the service's clock, which goes on by other calls alone. */
 static inline int ipcsh_semtimedop(ipcsh *handle, uint64_t clock, uint32_t id, const struct ipcsh_semop *ops, size_t n, uint64_t timeout, struct ipcsh_reply *reply)
 {
-    struct ipcsh_request request = ipcsh_request_of(IPCSH_SEMTIMEDOP, clock);
+    struct ipcsh_request request;
     struct ipcsh_lists lists = { 0, 0, 0, 0, 0, 0, 0, 0 };
+    ipcsh_request_set(&request, IPCSH_SEMTIMEDOP, clock);
     lists.ops = ops;
     lists.ops_len = n;
     request.id = id;
@@ -380,8 +390,9 @@ static inline int ipcsh_getzcnt(ipcsh *handle, uint64_t clock, uint32_t id, uint
 /* semctl(2): `reply->len` is how many values there are. */
 static inline int ipcsh_getall(ipcsh *handle, uint64_t clock, uint32_t id, uint16_t *values, size_t n, struct ipcsh_reply *reply)
 {
-    struct ipcsh_request request = ipcsh_request_of(IPCSH_GETALL, clock);
+    struct ipcsh_request request;
     struct ipcsh_room room = { 0, 0, 0, 0, 0, 0 };
+    ipcsh_request_set(&request, IPCSH_GETALL, clock);
     room.values = values;
     room.values_len = n;
     request.id = id;
@@ -390,7 +401,8 @@ static inline int ipcsh_getall(ipcsh *handle, uint64_t clock, uint32_t id, uint1
 
 static inline int ipcsh_setval(ipcsh *handle, uint64_t clock, uint32_t id, uint32_t num, int32_t value, struct ipcsh_reply *reply)
 {
-    struct ipcsh_request request = ipcsh_request_of(IPCSH_SETVAL, clock);
+    struct ipcsh_request request;
+    ipcsh_request_set(&request, IPCSH_SETVAL, clock);
     request.id = id;
     request.num = num;
     request.value = value;
@@ -399,8 +411,9 @@ static inline int ipcsh_setval(ipcsh *handle, uint64_t clock, uint32_t id, uint3
 
 static inline int ipcsh_setall(ipcsh *handle, uint64_t clock, uint32_t id, const uint16_t *values, size_t n, struct ipcsh_reply *reply)
 {
-    struct ipcsh_request request = ipcsh_request_of(IPCSH_SETALL, clock);
+    struct ipcsh_request request;
     struct ipcsh_lists lists = { 0, 0, 0, 0, 0, 0, 0, 0 };
+    ipcsh_request_set(&request, IPCSH_SETALL, clock);
     lists.values = values;
     lists.values_len = n;
     request.id = id;
@@ -428,7 +441,8 @@ static inline int ipcsh_shmat(ipcsh *handle, uint64_t clock, uint32_t id, uint32
 
 static inline int ipcsh_shmdt(ipcsh *handle, uint64_t clock, uint32_t attachment, struct ipcsh_reply *reply)
 {
-    struct ipcsh_request request = ipcsh_request_of(IPCSH_SHMDT, clock);
+    struct ipcsh_request request;
+    ipcsh_request_set(&request, IPCSH_SHMDT, clock);
     request.id = attachment;
     return ipcsh_named(handle, &request, 0, reply, 0);
 }
@@ -436,8 +450,9 @@ static inline int ipcsh_shmdt(ipcsh *handle, uint64_t clock, uint32_t attachment
 /* They stand for mapped memory. */
 static inline int ipcsh_shmread(ipcsh *handle, uint64_t clock, uint32_t attachment, uint64_t offset, void *bytes, size_t len, struct ipcsh_reply *reply)
 {
-    struct ipcsh_request request = ipcsh_request_of(IPCSH_SHMREAD, clock);
+    struct ipcsh_request request;
     struct ipcsh_room room = { 0, 0, 0, 0, 0, 0 };
+    ipcsh_request_set(&request, IPCSH_SHMREAD, clock);
     room.bytes = bytes;
     room.bytes_len = len;
     request.id = attachment;
@@ -448,8 +463,9 @@ static inline int ipcsh_shmread(ipcsh *handle, uint64_t clock, uint32_t attachme
 
 static inline int ipcsh_shmwrite(ipcsh *handle, uint64_t clock, uint32_t attachment, uint64_t offset, const void *bytes, size_t len, struct ipcsh_reply *reply)
 {
-    struct ipcsh_request request = ipcsh_request_of(IPCSH_SHMWRITE, clock);
+    struct ipcsh_request request;
     struct ipcsh_lists lists = { 0, 0, 0, 0, 0, 0, 0, 0 };
+    ipcsh_request_set(&request, IPCSH_SHMWRITE, clock);
     lists.text = bytes;
     lists.text_len = len;
     request.id = attachment;
@@ -460,8 +476,9 @@ static inline int ipcsh_shmwrite(ipcsh *handle, uint64_t clock, uint32_t attachm
 /* IPC_STAT of msgctl(2), semctl(2) and shmctl(2). It doesn't repeat the identifier. */
 static inline int ipcsh_stat(ipcsh *handle, uint64_t clock, enum ipcsh_kind kind, uint32_t id, struct ipcsh_object *object, struct ipcsh_reply *reply)
 {
-    struct ipcsh_request request = ipcsh_request_of(IPCSH_STAT, clock);
+    struct ipcsh_request request;
     struct ipcsh_room room = { 0, 0, 0, 0, 0, 0 };
+    ipcsh_request_set(&request, IPCSH_STAT, clock);
     room.objects = object;
     room.objects_len = 1;
     request.kind = (uint32_t)kind;
@@ -472,7 +489,8 @@ static inline int ipcsh_stat(ipcsh *handle, uint64_t clock, enum ipcsh_kind kind
 /* IPC_SET: `qbytes` may be NULL, and is of queues alone. */
 static inline int ipcsh_set(ipcsh *handle, uint64_t clock, enum ipcsh_kind kind, uint32_t id, uint32_t uid, uint32_t gid, uint32_t mode, const uint64_t *qbytes, struct ipcsh_reply *reply)
 {
-    struct ipcsh_request request = ipcsh_request_of(IPCSH_SET, clock);
+    struct ipcsh_request request;
+    ipcsh_request_set(&request, IPCSH_SET, clock);
     request.kind = (uint32_t)kind;
     request.id = id;
     request.uid = uid;
@@ -486,7 +504,8 @@ static inline int ipcsh_set(ipcsh *handle, uint64_t clock, enum ipcsh_kind kind,
 /* IPC_RMID */
 static inline int ipcsh_rmid(ipcsh *handle, uint64_t clock, enum ipcsh_kind kind, uint32_t id, struct ipcsh_reply *reply)
 {
-    struct ipcsh_request request = ipcsh_request_of(IPCSH_RMID, clock);
+    struct ipcsh_request request;
+    ipcsh_request_set(&request, IPCSH_RMID, clock);
     request.kind = (uint32_t)kind;
     request.id = id;
     return ipcsh_named(handle, &request, 0, reply, 0);
@@ -495,8 +514,9 @@ static inline int ipcsh_rmid(ipcsh *handle, uint64_t clock, enum ipcsh_kind kind
 /* ipcs(1): `reply->len` is how many objects there are. */
 static inline int ipcsh_listing(ipcsh *handle, uint64_t clock, enum ipcsh_kind kind, struct ipcsh_object *objects, size_t n, struct ipcsh_reply *reply)
 {
-    struct ipcsh_request request = ipcsh_request_of(IPCSH_LISTING, clock);
+    struct ipcsh_request request;
     struct ipcsh_room room = { 0, 0, 0, 0, 0, 0 };
+    ipcsh_request_set(&request, IPCSH_LISTING, clock);
     room.objects = objects;
     room.objects_len = n;
     request.kind = (uint32_t)kind;
@@ -506,7 +526,8 @@ static inline int ipcsh_listing(ipcsh *handle, uint64_t clock, enum ipcsh_kind k
 /* Ends the waiting call of a client, whose process is its number plus 1, as a signal would (EINTR). */
 static inline int ipcsh_interrupt(ipcsh *handle, uint64_t clock, uint32_t pid, struct ipcsh_reply *reply)
 {
-    struct ipcsh_request request = ipcsh_request_of(IPCSH_INTERRUPT, clock);
+    struct ipcsh_request request;
+    ipcsh_request_set(&request, IPCSH_INTERRUPT, clock);
     request.id = pid;
     return ipcsh_named(handle, &request, 0, reply, 0);
 }
@@ -514,8 +535,9 @@ static inline int ipcsh_interrupt(ipcsh *handle, uint64_t clock, uint32_t pid, s
 /* seteuid(2), setegid(2) and setgroups(2) in one; the groups stay where `groups` is NULL. */
 static inline int ipcsh_setcreds(ipcsh *handle, uint64_t clock, uint32_t uid, uint32_t gid, const uint32_t *groups, size_t n, struct ipcsh_reply *reply)
 {
-    struct ipcsh_request request = ipcsh_request_of(IPCSH_SETCREDS, clock);
+    struct ipcsh_request request;
     struct ipcsh_lists lists = { 0, 0, 0, 0, 0, 0, 0, 0 };
+    ipcsh_request_set(&request, IPCSH_SETCREDS, clock);
     lists.groups = groups;
     lists.groups_len = groups ? n : 0;
     request.uid = uid;
@@ -527,7 +549,8 @@ static inline int ipcsh_setcreds(ipcsh *handle, uint64_t clock, uint32_t uid, ui
 /* _exit(2): what the client's operations with IPCSH_SEM_UNDO left is undone, and its attachments go. */
 static inline int ipcsh_exit(ipcsh *handle, uint64_t clock, struct ipcsh_reply *reply)
 {
-    struct ipcsh_request request = ipcsh_request_of(IPCSH_EXIT, clock);
+    struct ipcsh_request request;
+    ipcsh_request_set(&request, IPCSH_EXIT, clock);
     return ipcsh_named(handle, &request, 0, reply, 0);
 }
 

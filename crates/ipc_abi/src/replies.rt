@@ -120,24 +120,36 @@ impl RawReply {
 }
 
 /// Whether the lists of a reply fit in slices of these lengths.
+#[inline(always)]
 pub fn fits(reply: &Reply, bytes: usize, values: usize, objects: usize) -> bool
     ensures { IsTrue result ↔ FitsIn reply.now bytes values objects }
 {
-    text_of(reply).len() <= bytes
-        && values_of(reply).len() <= values
-        && objects_len(reply) <= objects
+    match answer_of(reply) {
+        Some(Answer::Message { text, .. }) => text.len() <= bytes,
+        Some(Answer::Bytes(list)) => list.len() <= bytes,
+        Some(Answer::Values(list)) => list.len() <= values,
+        Some(Answer::Status(_)) => 1 <= objects,
+        Some(Answer::Rows(rows)) => rows.len() <= objects,
+        _ => true,
+    }
 }
 
 /// Copies the lists of a reply to the fronts of the slices.
+#[inline(always)]
 pub fn copy_lists(reply: &Reply, bytes: &mut [u8], values: &mut [u16], objects: &mut [RawObject])
     requires { FitsIn reply.now (length bytes.old) (length values.old) (length objects.old) }
     ensures bytes { bytes.new ≡ put_in (text_in reply.now) bytes.old }
     ensures values { values.new ≡ put_in (values_in reply.now) values.old }
     ensures objects { objects.new ≡ put_in (objects_in reply.now) objects.old }
 {
-    put(bytes, text_of(reply));
-    put(values, values_of(reply));
-    put_objects(objects, reply);
+    match answer_of(reply) {
+        Some(Answer::Message { text, .. }) => put(bytes, text.as_slice()),
+        Some(Answer::Bytes(list)) => put(bytes, list.as_slice()),
+        Some(Answer::Values(list)) => put(values, list.as_slice()),
+        Some(Answer::Status(status)) => objects[0] = RawObject::of_status(status.get()),
+        Some(Answer::Rows(rows)) => put_rows(objects, rows.as_slice()),
+        _ => {}
+    }
 }
 
 // What a reply answers, where its call was granted.
@@ -150,46 +162,6 @@ fn answer_of(reply: &Reply) -> Option<&Answer>
             ..
         } => Some(answer),
         _ => None,
-    }
-}
-
-fn text_of(reply: &Reply) -> &[u8]
-    ensures { result.now ≡ text_in reply.now }
-{
-    match answer_of(reply) {
-        Some(Answer::Message { text, .. }) => text.as_slice(),
-        Some(Answer::Bytes(bytes)) => bytes.as_slice(),
-        _ => &[],
-    }
-}
-
-fn values_of(reply: &Reply) -> &[u16]
-    ensures { result.now ≡ values_in reply.now }
-{
-    match answer_of(reply) {
-        Some(Answer::Values(values)) => values.as_slice(),
-        _ => &[],
-    }
-}
-
-fn objects_len(reply: &Reply) -> usize
-    ensures { result ≡ length (objects_in reply.now) }
-{
-    match answer_of(reply) {
-        Some(Answer::Status(_)) => 1,
-        Some(Answer::Rows(rows)) => rows.len(),
-        _ => 0,
-    }
-}
-
-fn put_objects(objects: &mut [RawObject], reply: &Reply)
-    requires { length (objects_in reply.now) ≤ length objects.old }
-    ensures { objects.new ≡ put_in (objects_in reply.now) objects.old }
-{
-    match answer_of(reply) {
-        Some(Answer::Status(status)) => objects[0] = RawObject::of_status(status.get()),
-        Some(Answer::Rows(rows)) => put_rows(objects, rows.as_slice()),
-        _ => {}
     }
 }
 

@@ -104,95 +104,109 @@ impl RawRequest {
         ensures ok { IfOk result (λ call. call_of operation self.now (lists_in lists.entry) ≡ Some call) }
         ensures err { IfErr result (λ bad. bad ≡ Unknown → call_of operation self.now (lists_in lists.entry) ≡ None) }
     {
-        let RawRequest {
-            size,
-            offset,
-            timeout,
-            mtype,
-            id,
-            key,
-            flags,
-            num,
-            value,
-            uid,
-            gid,
-            mode,
-            more,
-            ..
-        } = *self;
         Ok(match operation {
-            Operation::MsgGet => Call::MsgGet { key, flags },
+            Operation::MsgGet => Call::MsgGet {
+                key: self.key,
+                flags: self.flags,
+            },
             Operation::MsgSnd => Call::MsgSnd {
-                id,
-                mtype,
+                id: self.id,
+                mtype: self.mtype,
                 text: items(alloc, lists.text)?,
-                flags,
+                flags: self.flags,
             },
             Operation::MsgRcv => Call::MsgRcv {
-                id,
-                size,
-                msgtyp: mtype,
-                flags,
+                id: self.id,
+                size: self.size,
+                msgtyp: self.mtype,
+                flags: self.flags,
             },
             Operation::SemGet => Call::SemGet {
-                key,
-                nsems: num,
-                flags,
+                key: self.key,
+                nsems: self.num,
+                flags: self.flags,
             },
             Operation::SemOp => Call::SemOp {
-                id,
+                id: self.id,
                 ops: sem_opers(alloc, lists.ops)?,
             },
             Operation::SemTimedOp => Call::SemTimedOp {
-                id,
+                id: self.id,
                 ops: sem_opers(alloc, lists.ops)?,
-                timeout,
+                timeout: self.timeout,
             },
-            Operation::GetVal => Call::GetVal { id, num },
-            Operation::GetPid => Call::GetPid { id, num },
-            Operation::GetNcnt => Call::GetNcnt { id, num },
-            Operation::GetZcnt => Call::GetZcnt { id, num },
-            Operation::GetAll => Call::GetAll { id },
-            Operation::SetVal => Call::SetVal { id, num, value },
+            Operation::GetVal => Call::GetVal {
+                id: self.id,
+                num: self.num,
+            },
+            Operation::GetPid => Call::GetPid {
+                id: self.id,
+                num: self.num,
+            },
+            Operation::GetNcnt => Call::GetNcnt {
+                id: self.id,
+                num: self.num,
+            },
+            Operation::GetZcnt => Call::GetZcnt {
+                id: self.id,
+                num: self.num,
+            },
+            Operation::GetAll => Call::GetAll { id: self.id },
+            Operation::SetVal => Call::SetVal {
+                id: self.id,
+                num: self.num,
+                value: self.value,
+            },
             Operation::SetAll => Call::SetAll {
-                id,
+                id: self.id,
                 values: values_of(alloc, lists.values)?,
             },
-            Operation::ShmGet => Call::ShmGet { key, size, flags },
-            Operation::ShmAt => Call::ShmAt { id, flags },
-            Operation::ShmDt => Call::ShmDt { att: id },
+            Operation::ShmGet => Call::ShmGet {
+                key: self.key,
+                size: self.size,
+                flags: self.flags,
+            },
+            Operation::ShmAt => Call::ShmAt {
+                id: self.id,
+                flags: self.flags,
+            },
+            Operation::ShmDt => Call::ShmDt { att: self.id },
             Operation::ShmRead => Call::ShmRead {
-                att: id,
-                offset,
-                len: size,
+                att: self.id,
+                offset: self.offset,
+                len: self.size,
             },
             Operation::ShmWrite => Call::ShmWrite {
-                att: id,
-                offset,
+                att: self.id,
+                offset: self.offset,
                 bytes: items(alloc, lists.text)?,
             },
             Operation::IpcStat => Call::IpcStat {
                 kind: self.kind()?,
-                id,
+                id: self.id,
             },
             Operation::IpcSet => Call::IpcSet {
                 kind: self.kind()?,
-                id,
-                uid,
-                gid,
-                mode,
-                qbytes: if more == 0 { None } else { Some(size) },
+                id: self.id,
+                uid: self.uid,
+                gid: self.gid,
+                mode: self.mode,
+                qbytes: if self.more == 0 {
+                    None
+                } else {
+                    Some(self.size)
+                },
             },
             Operation::IpcRmid => Call::IpcRmid {
                 kind: self.kind()?,
-                id,
+                id: self.id,
             },
             Operation::Listing => Call::Listing { kind: self.kind()? },
-            Operation::Interrupt => Call::Interrupt { pid: id },
+            Operation::Interrupt => Call::Interrupt { pid: self.id },
             Operation::SetCreds => Call::SetCreds {
-                euid: uid,
-                egid: gid,
-                groups: groups_of(alloc, more, lists.groups)?,
+                euid: self.uid,
+                egid: self.gid,
+                groups: groups_of(alloc, self.more, lists.groups)?,
             },
             Operation::Exit => Call::Exit,
         })
@@ -227,11 +241,11 @@ fn sem_opers(alloc: Global, ops: &[RawSemOper]) -> Result<Items<SemOper>, Memory
 {
     let mut opers = Vec::with_capacity(alloc, ops.len())?;
     for op in ops {
-        opers.push(SemOper {
+        opers.push_reserved(SemOper {
             num: op.num,
             op: op.op,
             flags: op.flags,
-        })?;
+        });
     }
     Ok(Items::new(opers))
 }

@@ -8,8 +8,7 @@ use Rattle.ipc_abi.specs.declared.opening.RawClient.{RawClient}
 use Rattle.ipc_member.specs.Members.{AreOf, number_of}
 use Rattle.ipc_member.specs.declared.states.Member.{Member}
 use Rattle.ipc_seat.specs.declared.seat.Seat.{Seat}
-use Rattle.ipc_seat.specs.declared.seat.State.{State}
-use Rattle.ipc_seat.specs.declared.seat.State.TheVariants.{Idle}
+use Rattle.ipc_seat.specs.Seats.{State, Idle, state_of}
 
 -- 1 to 64 clients, each with credentials that there can be
 abbrev pub AreClients : List RawClient → Type 0
@@ -17,7 +16,7 @@ AreClients clients = (1 ≤ length clients) × (length clients ≤ 64) × All Is
 
 module _ {Z : Type 0} where
   abbrev pub state_in : Box Seat Z → State
-  state_in seat = (box_value seat).state
+  state_in seat = state_of (box_value seat)
 
   -- each of these clients has a value of its own, in their order, and asks nothing
   abbrev pub AreSeated : List Member → List (Box Seat Z) → Type 0

@@ -10,14 +10,12 @@ use Rattle.ipc_abi.specs.declared.requests.BadRequest.{BadRequest}
 use Rattle.ipc_abi.specs.declared.requests.BadRequest.TheVariants.{Unknown}
 use Rattle.ipc_abi.specs.declared.requests.RawRequest.{RawRequest}
 use Rattle.ipc_seat.specs.Codes.{code_of_advance, code_of_post, error_of_request}
-use Rattle.ipc_seat.specs.Seats.{Advances, Posts}
+use Rattle.ipc_seat.specs.Seats.{Advances, Posts, State, Idle, InFlight, Answered, Left, state_of}
 use Rattle.ipc_seat.specs.declared.calls.Progress.{Progress}
 use Rattle.ipc_seat.specs.declared.calls.Progress.TheVariants as progress
 use Rattle.ipc_seat.specs.declared.seat.Seat.{Seat}
 use Rattle.ipc_seat.specs.declared.seat.SeatError.{SeatError}
 use Rattle.ipc_seat.specs.declared.seat.SeatError.TheVariants as errors
-use Rattle.ipc_seat.specs.declared.seat.State.{State}
-use Rattle.ipc_seat.specs.declared.seat.State.TheVariants.{Idle, InFlight, Answered, Left}
 
 -- a request is made a call; it isn't where it has the code of nothing, or where memory is short
 abbrev pub IsMade : RawRequest → Given → Result Call BadRequest → Type 0
@@ -56,12 +54,6 @@ with_lists reply r = record r {
 abbrev pub FitsInRoom : Reply → Room → Type 0
 FitsInRoom reply r = FitsIn reply (length r.bytes) (length r.values) (length r.objects)
 
-abbrev pub IsAnswered : State → Type 0
-IsAnswered (Answered m reply) = Unit {0}
-IsAnswered (Idle m) = ⊥
-IsAnswered (InFlight p) = ⊥
-IsAnswered Left = ⊥
-
 -- a reply that fits is written and taken; of one that doesn't the numbers are written, and it stays
 abbrev pub HandsOutReply : State → State → Reply → State → Room → Room → Result Progress SeatError → Type 0
 HandsOutReply kept taken reply new before after (Ok p) = (p ≡ progress.Answered) × FitsInRoom reply before × (new ≡ taken)
@@ -89,8 +81,8 @@ GoesOnRaw old new before after result =
 -- The same as C has it: a seat is its state, and what came of it is a number
 abbrev pub PostsInNumbers : Seat → RawRequest → Given → Seat → ℤ → Type 0
 PostsInNumbers before r g after code =
-    (result : Result (Unit {0}) SeatError) × PostsRaw before.state r g after.state result × (code ≡ code_of_post result)
+    (result : Result (Unit {0}) SeatError) × PostsRaw (state_of before) r g (state_of after) result × (code ≡ code_of_post result)
 
 abbrev pub AdvancesInNumbers : Seat → Seat → Room → Room → ℤ → Type 0
 AdvancesInNumbers old new before after code =
-    (result : Result Progress SeatError) × GoesOnRaw old.state new.state before after result × (code ≡ code_of_advance result)
+    (result : Result Progress SeatError) × GoesOnRaw (state_of old) (state_of new) before after result × (code ≡ code_of_advance result)

@@ -16,8 +16,26 @@ use Rattle.ipc_seat.specs.declared.calls.Progress.{Progress}
 use Rattle.ipc_seat.specs.declared.calls.Progress.TheVariants as progress
 use Rattle.ipc_seat.specs.declared.seat.SeatError.{SeatError}
 use Rattle.ipc_seat.specs.declared.seat.SeatError.TheVariants as errors
-use Rattle.ipc_seat.specs.declared.seat.State.{State}
-use Rattle.ipc_seat.specs.declared.seat.State.TheVariants.{Idle, InFlight, Answered, Left}
+use Rattle.ipc_seat.specs.declared.seat.Phase.{Phase}
+use Rattle.ipc_seat.specs.declared.seat.Phase.TheVariants as phases
+use Rattle.ipc_seat.specs.declared.seat.Seat.{Seat}
+
+-- How far a client is: it asks nothing, has a call in flight, has a reply to take, or has left
+pub data State : Type 0 where
+  Idle : (member : Member) → State
+  InFlight : (posted : Posted) → State
+  Answered : (member : Member) (reply : Reply) → State
+  Left : State
+
+-- the reply counts where the call is answered alone
+abbrev pub state_with : Reply → Phase → State
+state_with reply (phases.Idle m) = Idle m
+state_with reply (phases.InFlight p) = InFlight p
+state_with reply (phases.Answered m) = Answered m reply
+state_with reply phases.Left = Left
+
+abbrev pub state_of : Seat → State
+state_of seat = state_with seat.reply seat.phase
 
 -- the client asks this at this time, as the same client of the same service
 abbrev pub IsPostOf : Member → ℕ → Call → Posted → Type 0

@@ -1,14 +1,12 @@
 //! A client posts a call, goes on with it, and takes its reply.
 
 ghost use Rattle.std.specs.Prelude.{◌≡◌, option_copied, pos};
-ghost use Rattle.ipc_member.specs.Members.{HasAdvanced};
-ghost use Rattle.ipc_member.specs.declared.calls.Looked.{Looked as IsLooked};
 ghost use Rattle.ipc_seat.specs.Codes.{code_of_progress};
-ghost use Rattle.ipc_seat.specs.Seats.{Advances, Posts, looked_at, progress_of_seen, reply_of, taken_of};
+ghost use Rattle.ipc_seat.specs.Seats.{Advances, Answered, Posts, progress_of_seen, reply_of, state_of, taken_of};
 
-use crate::seat::{Seat, SeatError, State};
+use crate::seat::{Phase, Seat, SeatError};
 use ipc_call::{Call, Reply};
-use ipc_member::{Looked, Posted, Seen};
+use ipc_member::{Looked, Member, Seen};
 use std::mem;
 
 /// How far a call is.
@@ -23,7 +21,7 @@ pub enum Progress {
 }
 
 impl Progress {
-    fn of_seen(seen: Seen) -> Progress
+    pub(crate) fn of_seen(seen: Seen) -> Progress
         ensures { result ≡ progress_of_seen seen }
     {
         match seen {
@@ -47,86 +45,92 @@ impl Progress {
 impl Seat {
     /// Posts a call at a time in seconds: whichever client combines may serve it from now on.
     pub fn post(&mut self, now: u64, call: Call) -> Result<(), SeatError>
-        ensures { Posts self.old.state now call self.new.state result }
+        ensures { Posts (state_of self.old) now call (state_of self.new) result }
     {
-        let error = match mem::replace(&mut self.state, State::Left) {
-            State::Idle(member) => {
-                self.state = State::InFlight(member.post(now, call));
+        let error = match mem::replace(&mut self.phase, Phase::Left) {
+            Phase::Idle(member) => {
+                self.phase = Phase::InFlight(member.post(now, call));
                 return Ok(());
             }
-            State::InFlight(posted) => {
-                self.state = State::InFlight(posted);
+            Phase::InFlight(posted) => {
+                self.phase = Phase::InFlight(posted);
                 SeatError::InFlight
             }
-            State::Answered(member, reply) => {
-                self.state = State::Answered(member, reply);
+            Phase::Answered(member) => {
+                self.phase = Phase::Answered(member);
                 SeatError::Untaken
             }
-            State::Left => SeatError::Left,
+            Phase::Left => SeatError::Left,
         };
         Err(error)
     }
 
     /// Tries once to combine, and looks whether the call has ended.
     pub fn advance(&mut self) -> Result<Progress, SeatError>
-        ensures { Advances self.old.state self.new.state result }
+        ensures { Advances (state_of self.old) (state_of self.new) result }
     {
-        match mem::replace(&mut self.state, State::Left) {
-            State::Idle(member) => {
-                self.state = State::Idle(member);
+        match mem::replace(&mut self.phase, Phase::Left) {
+            Phase::Idle(member) => {
+                self.phase = Phase::Idle(member);
                 Err(SeatError::NoCall)
             }
-            State::InFlight(posted) => {
-                let (state, progress) = advanced(posted);
-                self.state = state;
-                Ok(progress)
-            }
-            State::Answered(member, reply) => {
-                self.state = State::Answered(member, reply);
+            Phase::InFlight(posted) => match posted.advance() {
+                Looked::Done(member, reply) => {
+                    self.keep(member, reply);
+                    Ok(Progress::Answered)
+                }
+                Looked::Still(posted, seen) => {
+                    self.phase = Phase::InFlight(posted);
+                    Ok(Progress::of_seen(seen))
+                }
+            },
+            Phase::Answered(member) => {
+                self.phase = Phase::Answered(member);
                 Ok(Progress::Answered)
             }
-            State::Left => Err(SeatError::Left),
+            Phase::Left => Err(SeatError::Left),
         }
+    }
+
+    // Keeps a reply until it is taken.
+    #[cold]
+    #[inline(never)]
+    pub(crate) fn keep(&mut self, member: Member, reply: Reply)
+        ensures { state_of self.new ≡ Answered member reply }
+    {
+        self.reply = reply;
+        self.phase = Phase::Answered(member);
     }
 
     /// The reply to take, if there is one.
     pub fn reply(&self) -> Option<&Reply>
-        ensures { option_copied result ≡ reply_of self.now.state }
+        ensures { option_copied result ≡ reply_of (state_of self.now) }
     {
-        match &self.state {
-            State::Answered(_, reply) => Some(reply),
+        match &self.phase {
+            Phase::Answered(_) => Some(&self.reply),
             _ => None,
         }
     }
 
     /// Takes the reply. The client asks nothing then.
     pub fn take(&mut self) -> Option<Reply>
-        ensures reply { result ≡ reply_of self.old.state }
-        ensures state { self.new.state ≡ taken_of self.old.state }
+        ensures reply { result ≡ reply_of (state_of self.old) }
+        ensures state { state_of self.new ≡ taken_of (state_of self.old) }
     {
-        match mem::replace(&mut self.state, State::Left) {
-            State::Answered(member, reply) => {
-                self.state = State::Idle(member);
-                Some(reply)
+        match mem::replace(&mut self.phase, Phase::Left) {
+            Phase::Answered(member) => {
+                self.phase = Phase::Idle(member);
+                Some(mem::replace(&mut self.reply, Reply::Memory))
             }
-            State::Idle(member) => {
-                self.state = State::Idle(member);
+            Phase::Idle(member) => {
+                self.phase = Phase::Idle(member);
                 None
             }
-            State::InFlight(posted) => {
-                self.state = State::InFlight(posted);
+            Phase::InFlight(posted) => {
+                self.phase = Phase::InFlight(posted);
                 None
             }
-            State::Left => None,
+            Phase::Left => None,
         }
-    }
-}
-
-fn advanced(posted: Posted) -> (State, Progress)
-    ensures { (looked : IsLooked) × HasAdvanced posted looked × (result ≡ looked_at looked) }
-{
-    match posted.advance() {
-        Looked::Done(member, reply) => (State::Answered(member, reply), Progress::Answered),
-        Looked::Still(posted, seen) => (State::InFlight(posted), Progress::of_seen(seen)),
     }
 }

@@ -1,15 +1,15 @@
 //! A service is opened for clients, each of which gets a value of its own.
 
-ghost use Rattle.std.specs.Prelude.{◌≡◌, Err, false, map, IfOk};
+ghost use Rattle.std.specs.Prelude.{◌≡◌, ◌≢◌, Err, false, map, IfOk};
 ghost use Rattle.ipc_call.specs.Limits.{are_in_range};
 ghost use Rattle.ipc_abi.specs.Openings.{creds_in, limits_in};
 ghost use Rattle.ipc_seat.specs.Codes.{code_of_opening};
 ghost use Rattle.ipc_seat.specs.Openings.{AreClients, AreOpened, AreSeated};
-ghost use Rattle.ipc_seat.specs.declared.opening.NotOpened.TheVariants.{BadLimits, BadClients};
+ghost use Rattle.ipc_seat.specs.declared.opening.NotOpened.TheVariants.{BadLimits, BadClients, NoRoom};
 
-use crate::seat::{Seat, State};
+use crate::seat::{Phase, Seat};
 use ipc_abi::{RawClient, RawLimits, creds_of};
-use ipc_call::Memory;
+use ipc_call::{Memory, Reply};
 use ipc_member::Member;
 use std::alloc::Global;
 
@@ -60,6 +60,7 @@ pub fn open(
     ensures opened { IfOk result (λ seats. AreOpened (limits_in limits.now) (map creds_in clients.now) seats.items) }
     ensures limits { result ≡ Err BadLimits → are_in_range (limits_in limits.now) ≡ false }
     ensures clients { result ≡ Err BadClients → ¬ AreClients clients.now }
+    ensures room { result ≢ Err NoRoom }
 {
     let limits = limits.limits();
     if !limits.in_range() {
@@ -79,8 +80,12 @@ fn seated(alloc: Global, members: Vec<Member>) -> Result<Vec<Box<Seat>>, Memory>
 {
     let mut seats = Vec::with_capacity(alloc, members.len())?;
     for member in members {
-        let state = State::Idle(member);
-        seats.push(Box::new(alloc, Seat { alloc, state })?)?;
+        let seat = Seat {
+            alloc,
+            phase: Phase::Idle(member),
+            reply: Reply::Memory,
+        };
+        seats.push(Box::new(alloc, seat)?)?;
     }
     Ok(seats)
 }

@@ -3,16 +3,20 @@
 ghost use Rattle.std.specs.Prelude.{◌≡◌};
 ghost use Rattle.ipc_abi.specs.Requests.{lists_in};
 ghost use Rattle.ipc_seat.specs.Codes.{code_of_advance, code_of_post};
-ghost use Rattle.ipc_seat.specs.Raw.{GoesOnRaw, HandsOut, IsAnswered, PostsRaw, room};
+ghost use Rattle.ipc_seat.specs.Raw.{GoesOnRaw, HandsOut, PostsRaw, room};
+ghost use Rattle.ipc_seat.specs.Seats.{Answered, state_of};
 
 use crate::calls::Progress;
-use crate::seat::{Seat, SeatError};
+use crate::seat::{Phase, Seat, SeatError};
 use ipc_abi::{Lists, RawObject, RawReply, RawRequest, copy_lists, fits};
+use ipc_call::Reply;
+use ipc_member::{Looked, Member};
+use std::mem;
 
 impl Seat {
     /// Posts the call of a request, at its clock. The error `Unknown` is for a request that is no call.
     pub fn post_raw(&mut self, request: &RawRequest, lists: Lists) -> Result<(), SeatError>
-        ensures { PostsRaw self.old.state request.now (lists_in lists.entry) self.new.state result }
+        ensures { PostsRaw (state_of self.old) request.now (lists_in lists.entry) (state_of self.new) result }
     {
         let call = request.call(self.alloc, lists)?;
         self.post(request.clock, call)
@@ -26,38 +30,68 @@ impl Seat {
         values: &mut [u16],
         objects: &mut [RawObject],
     ) -> Result<Progress, SeatError>
-        ensures { GoesOnRaw self.old.state self.new.state
+        ensures { GoesOnRaw (state_of self.old) (state_of self.new)
             (room reply.old bytes.old values.old objects.old) (room reply.new bytes.new values.new objects.new) result }
     {
-        match self.advance()? {
-            Progress::Answered => self.hand_out(reply, bytes, values, objects),
-            Progress::InFlight => Ok(Progress::InFlight),
-            Progress::Waiting => Ok(Progress::Waiting),
+        match mem::replace(&mut self.phase, Phase::Left) {
+            Phase::Idle(idle) => {
+                self.phase = Phase::Idle(idle);
+                Err(SeatError::NoCall)
+            }
+            Phase::InFlight(posted) => match posted.advance() {
+                Looked::Done(member, answer) => {
+                    self.hand_out(member, answer, reply, bytes, values, objects)
+                }
+                Looked::Still(posted, seen) => {
+                    self.phase = Phase::InFlight(posted);
+                    Ok(Progress::of_seen(seen))
+                }
+            },
+            Phase::Answered(member) => self.hand_out_kept(member, reply, bytes, values, objects),
+            Phase::Left => Err(SeatError::Left),
         }
     }
 
-    // Gives the reply that is there, and takes it where its lists fit.
+    // Gives a reply, and keeps it where its lists don't fit.
+    #[inline(always)]
     fn hand_out(
         &mut self,
+        member: Member,
+        reply: Reply,
         out: &mut RawReply,
         bytes: &mut [u8],
         values: &mut [u16],
         objects: &mut [RawObject],
     ) -> Result<Progress, SeatError>
-        requires { IsAnswered self.old.state }
-        ensures { HandsOut self.old.state self.new.state
+        ensures { HandsOut (Answered member reply) (state_of self.new)
             (room out.old bytes.old values.old objects.old) (room out.new bytes.new values.new objects.new) result }
     {
-        let Some(reply) = self.reply() else {
-            unreachable!();
-        };
-        *out = RawReply::new(reply);
-        if !fits(reply, bytes.len(), values.len(), objects.len()) {
+        *out = RawReply::new(&reply);
+        if !fits(&reply, bytes.len(), values.len(), objects.len()) {
+            self.keep(member, reply);
             return Err(SeatError::NoRoom);
         }
-        copy_lists(reply, bytes, values, objects);
-        self.take();
+        copy_lists(&reply, bytes, values, objects);
+        self.phase = Phase::Idle(member);
         Ok(Progress::Answered)
+    }
+
+    // The same of the reply that was kept.
+    #[cold]
+    #[inline(never)]
+    fn hand_out_kept(
+        &mut self,
+        member: Member,
+        out: &mut RawReply,
+        bytes: &mut [u8],
+        values: &mut [u16],
+        objects: &mut [RawObject],
+    ) -> Result<Progress, SeatError>
+        ensures { HandsOut (Answered member self.old.reply) (state_of self.new)
+            (room out.old bytes.old values.old objects.old) (room out.new bytes.new values.new objects.new) result }
+    {
+        let reply = mem::replace(&mut self.reply, Reply::Memory);
+        self.hand_out(member, reply, out, bytes, values, objects)
     }
 }
 

@@ -8,22 +8,24 @@ use ipc_call::Reply;
 use ipc_member::{Member, Posted};
 use std::alloc::Global;
 
-/// A client of a service.
+/// A client of a service. The reply counts where its call is answered alone, and stands beside the phase, so that this is
+/// small enough to be moved.
 #[derive(Drop)]
 pub struct Seat {
     pub(crate) alloc: Global,
-    pub(crate) state: State,
+    pub(crate) phase: Phase,
+    pub(crate) reply: Reply,
 }
 
 /// How far it is.
 #[derive(Drop)]
-pub enum State {
+pub enum Phase {
     /// It asks nothing.
     Idle(Member),
     /// Its call is in flight.
     InFlight(Posted),
     /// Its call has ended, and its reply isn't taken.
-    Answered(Member, Reply),
+    Answered(Member),
     /// It has left.
     Left,
 }

@@ -1,11 +1,16 @@
 //! The C library: a service whose clients are handles that C keeps. docs/C.md says how to call it, and what a caller owes.
 #![tactic(auto)]
 
-ghost use Rattle.std.specs.Prelude.{◌≡◌};
+ghost use Rattle.std.specs.Prelude.{◌≡◌, ◌≢◌, ◌<◌, pos, false, length};
 ghost use types.Logic.{sem};
 ghost use Rattle.std.specs.Box.Ownership.{box_owns};
 ghost use Rattle.std.specs.contracts.impls.GlobalAllocator.TheImpl.{ghosts as heap};
+ghost use Rattle.ipc_call.specs.Limits.{are_in_range};
+ghost use Rattle.ipc_abi.specs.Openings.{limits_in};
 ghost use Rattle.ipc_abi.specs.Requests.{given};
+ghost use Rattle.ipc_seat.specs.Codes.{code_of_opening};
+ghost use Rattle.ipc_seat.specs.Openings.{AreClients};
+ghost use Rattle.ipc_seat.specs.declared.opening.NotOpened.TheVariants.{BadLimits, BadClients, NoRoom};
 ghost use Rattle.ipc_seat.specs.Raw.{AdvancesInNumbers, PostsInNumbers, room};
 ghost use Rattle.ipc_seat.specs.declared.seat.Seat.{Seat as SeatValue};
 ghost use Rattle.ipc_seat.specs.contracts.seat.Seat.{the_row as seat_row};
@@ -21,7 +26,12 @@ pub extern "C" fn ipcsh_raw_open(
     limits: &RawLimits,
     clients: &[RawClient],
     handles: &mut [*mut u8],
-) -> i32 {
+) -> i32
+    ensures limits { result ≡ code_of_opening BadLimits → are_in_range (limits_in limits.now) ≡ false }
+    ensures clients { result ≡ code_of_opening BadClients → ¬ AreClients clients.now }
+    ensures room { result ≡ code_of_opening NoRoom → length handles.old < length clients.now }
+    ensures unopened { result ≢ pos 0 → handles.new ≡ handles.old }
+{
     if handles.len() < clients.len() {
         return NotOpened::NoRoom.code();
     }

@@ -1,6 +1,6 @@
 use Rattle.std.proofs.Common.{◌≡◌, ◌++◌, map}
 use Rattle.ipc_seat.specs.Openings.{state_in}
-use Rattle.ipc_seat.specs.declared.seat.State.TheVariants.{Idle}
+use Rattle.ipc_seat.specs.Seats.{Idle}
 use Rattle.ipc_seat.proofs.opening.seated.Given as goal
 
 abbrev pub invariant-loop-member : goal.invariant-loop-member
