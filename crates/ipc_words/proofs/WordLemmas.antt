@@ -4,8 +4,7 @@ use Rattle.std.proofs.lemmas.List.Sums.{prefix_len-le-length}
 use Rattle.std.proofs.lemmas.Bool.{ltb-true, ltb-false}
 use Rattle.std.specs.List.{position_or_len, prefix_len}
 use Rattle.std.specs.Prelude.{◌==◌, Option, Some, None, nat_lt, position}
-use Rattle.std.proofs.lemmas.Bool.Decides.{nat_tests}
-use Rattle.ipc_words.specs.Words.{begins_blank, fields_of, is_blank, is_plain, is_plain_byte, is_printing, onto_word, words_of}
+use Rattle.ipc_words.specs.Words.{fields_of, is_blank, onto_word, words_of}
 
 -- how many blanks come first, how many bytes come before a blank, and the place of the first separator
 abbrev pub blanks : List ℕ → ℕ
@@ -118,48 +117,3 @@ some_field_if false b (w ∷ ws) = omega arith
 pub some_field : (s : ℕ) (text : List ℕ) → 0 < length (fields_of s text)
 some_field s [] = omega arith
 some_field s (b ∷ bs) = some_field_if (b == s) b (fields_of s bs)
-
--- how many printing characters other than a blank come first
-abbrev pub printing : List ℕ → ℕ
-printing text = prefix_len is_printing text
-
-no_blank : (b : ℕ) → is_printing b ≡ true → is_blank b ≡ false
-no_blank b h = grind (arith, nat_tests)
-
-plain_printing : (b : ℕ) → is_printing b ≡ true → is_plain_byte b ≡ true
-plain_printing b h = grind (arith, nat_tests)
-
-plain_blank : (b : ℕ) → is_blank b ≡ true → is_plain_byte b ≡ true
-plain_blank b h = grind (arith, nat_tests)
-
--- where a blank or the end follows them, they are the first word
-printing_if : (printed : Bool) (b : ℕ) (bs : List ℕ) → is_printing b ≡ printed → begins_blank (drop (cond printed (1 + printing bs) 0) (b ∷ bs)) ≡ true
-    → (begins_blank (drop (printing bs) bs) ≡ true → first_word_len bs ≡ printing bs) → first_word_len (b ∷ bs) ≡ cond printed (1 + printing bs) 0
-printing_if true b bs e h k = rw (no_blank b e, k (rw one-add at h)) refl
-printing_if false b bs e h k = rw h refl
-
-pub printing_is_word : (text : List ℕ) → begins_blank (drop (printing text) text) ≡ true → first_word_len text ≡ printing text
-printing_is_word [] h = refl
-printing_is_word (b ∷ bs) h = printing_if (is_printing b) b bs refl h (printing_is_word bs)
-
--- what follows plain bytes is plain, and so are all
-plain_behind_printing_if : (printed : Bool) (b : ℕ) (bs : List ℕ) → is_printing b ≡ printed → is_plain (drop (cond printed (1 + printing bs) 0) (b ∷ bs)) ≡ true
-    → (is_plain (drop (printing bs) bs) ≡ true → is_plain bs ≡ true) → is_plain (b ∷ bs) ≡ true
-plain_behind_printing_if true b bs e h k = rw (plain_printing b e, k (rw one-add at h)) refl
-plain_behind_printing_if false b bs e h k = h
-
-plain_behind_printing : (text : List ℕ) → is_plain (drop (printing text) text) ≡ true → is_plain text ≡ true
-plain_behind_printing [] h = refl
-plain_behind_printing (b ∷ bs) h = plain_behind_printing_if (is_printing b) b bs refl h (plain_behind_printing bs)
-
-plain_behind_blanks_if : (blank : Bool) (b : ℕ) (bs : List ℕ) → is_blank b ≡ blank → is_plain (drop (cond blank (1 + blanks bs) 0) (b ∷ bs)) ≡ true
-    → (is_plain (drop (blanks bs) bs) ≡ true → is_plain bs ≡ true) → is_plain (b ∷ bs) ≡ true
-plain_behind_blanks_if true b bs e h k = rw (plain_blank b e, k (rw one-add at h)) refl
-plain_behind_blanks_if false b bs e h k = h
-
-plain_behind_blanks : (text : List ℕ) → is_plain (drop (blanks text) text) ≡ true → is_plain text ≡ true
-plain_behind_blanks [] h = refl
-plain_behind_blanks (b ∷ bs) h = plain_behind_blanks_if (is_blank b) b bs refl h (plain_behind_blanks bs)
-
-pub plain_behind : (text rest : List ℕ) → rest ≡ drop (blanks text) text → is_plain (drop (printing rest) rest) ≡ true → is_plain text ≡ true
-plain_behind text rest e h = plain_behind_blanks text (rw (← e) (plain_behind_printing rest h))

@@ -13,10 +13,6 @@ is_plain_byte b = b == 9 || (nat_le 32 b && nat_le b 126)
 abbrev pub is_plain : List ℕ → Bool
 is_plain text = list_all is_plain_byte text
 
--- a printing character of ASCII other than the space
-abbrev pub is_printing : ℕ → Bool
-is_printing b = nat_le 33 b && nat_le b 126
-
 abbrev pub begins_blank : List ℕ → Bool
 begins_blank [] = true
 begins_blank (b ∷ bs) = is_blank b

@@ -1,9 +1,9 @@
 // The words of a text, where there are exactly so many.
 
-ghost use Rattle.std.specs.Prelude.{◌≡◌, ◌≢◌, ◌<◌, [], ◌∷◌, true, length, IfSome, MatchOption};
-ghost use Rattle.ipc_words.specs.Words.{is_plain as plain_text, words_of};
+ghost use Rattle.std.specs.Prelude.{◌≡◌, ◌≢◌, ◌<◌, [], ◌∷◌, length, MatchOption};
+ghost use Rattle.ipc_words.specs.Words.{words_of};
 
-use crate::words::{split_plain, split_word};
+use crate::words::split_word;
 
 /// The word, where it is one.
 pub fn one_word(words: &[u8]) -> Option<&[u8]>
@@ -49,20 +49,5 @@ pub fn four_words(words: &[u8]) -> Option<(&[u8], &[u8], &[u8], &[u8])>
 {
     let (first, words) = split_word(words)?;
     let (second, third, fourth) = three_words(words)?;
-    Some((first, second, third, fourth))
-}
-
-/// The words, where they are four of printing characters, and nothing follows them. Those of most lines are.
-pub fn four_plain(text: &[u8]) -> Option<(&[u8], &[u8], &[u8], &[u8])>
-    ensures words { IfSome result (λ x. words_of text.now ≡ x.0.now ∷ x.1.now ∷ x.2.now ∷ x.3.now ∷ []) }
-    ensures plain { IfSome result (λ _. plain_text text.now ≡ true) }
-{
-    let (first, rest) = split_plain(text)?;
-    let (second, rest) = split_plain(rest)?;
-    let (third, rest) = split_plain(rest)?;
-    let (fourth, rest) = split_plain(rest)?;
-    if !rest.is_empty() {
-        return None;
-    }
     Some((first, second, third, fourth))
 }

@@ -9,7 +9,7 @@ mod names;
 mod numbers;
 mod words;
 
-pub use arguments::{first_two, four_plain, four_words, one_word, three_words, two_words};
+pub use arguments::{first_two, four_words, one_word, three_words, two_words};
 pub use lines::{Line, Pending, last_line, split_feeds, split_line, whole_line};
 pub use names::Name;
 pub use numbers::{number, number_16, number_32, numeral, signed_16, signed_32, signed_64};

@@ -43,8 +43,7 @@ impl Name {
 
     /// Whether the word is this name.
     pub fn is(&self, word: &[u8]) -> bool
-        ensures value { result ≡ bytes_eq self.now word.now }
-        ensures name { IsTrue result → IsTrue (names_client word.now) }
+        ensures { result ≡ bytes_eq self.now word.now }
     {
         is_same(self.text.as_bytes(), word)
     }

@@ -1,8 +1,8 @@
 // The words of a line, and the fields of a word.
 
-ghost use Rattle.std.specs.Prelude.{◌≡◌, ◌≢◌, [], ◌∷◌, ◌==◌, ◌≤◌, ◌<◌, true, not, MatchOption, IfSome, length, position};
+ghost use Rattle.std.specs.Prelude.{◌≡◌, ◌≢◌, [], ◌∷◌, ◌==◌, ◌≤◌, ◌<◌, not, MatchOption, IfSome, length, position};
 ghost use Rattle.std.specs.List.{prefix_len};
-ghost use Rattle.ipc_words.specs.Words.{begins_blank as blank_first, fields_of, is_blank as blank_byte, is_plain as plain_text, is_printing, words_of};
+ghost use Rattle.ipc_words.specs.Words.{fields_of, is_blank as blank_byte, is_plain as plain_text, words_of};
 
 fn is_blank(byte: u8) -> bool
     ensures { result ≡ blank_byte byte }
@@ -27,39 +27,6 @@ pub fn split_word(text: &[u8]) -> Option<(&[u8], &[u8])>
         return None;
     }
     Some(words.split_at(word_len(words)))
-}
-
-/// The first word, where it is of printing characters, and what follows it.
-pub(crate) fn split_plain(text: &[u8]) -> Option<(&[u8], &[u8])>
-    ensures words { IfSome result (λ x. words_of text.now ≡ x.0.now ∷ words_of x.1.now) }
-    ensures plain { IfSome result (λ x. plain_text x.1.now ≡ true → plain_text text.now ≡ true) }
-{
-    let (_, words) = text.split_at(blanks_before(text));
-    let (word, rest) = words.split_at(printing_before(words));
-    if word.is_empty() || !begins_blank(rest) {
-        return None;
-    }
-    Some((word, rest))
-}
-
-// Whether a blank or the end comes first.
-fn begins_blank(text: &[u8]) -> bool
-    ensures { result ≡ blank_first text.now }
-{
-    match text.first() {
-        Some(byte) => is_blank(*byte),
-        None => true,
-    }
-}
-
-// How many printing characters other than a blank come first.
-fn printing_before(text: &[u8]) -> usize
-    ensures value { result ≡ prefix_len is_printing text.now }
-    ensures within { result ≤ length text.now }
-{
-    text.iter()
-        .take_while(|byte| (b'!'..=b'~').contains(*byte))
-        .count()
 }
 
 // How many blanks come first.

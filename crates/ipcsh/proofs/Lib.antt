@@ -1,5 +1,4 @@
 pub mod CommandLemmas
-pub mod GetLemmas
 pub mod InputLemmas
 pub mod PieceLemmas
 pub mod RunLemmas

@@ -1,12 +1,9 @@
 -- What a line says at its place in a script.
 use Rattle.std.specs.Prelude.{◌≡◌, ◌<◌, ℕ, Bool, true, false, ◌==◌, List, [], ◌∷◌, length, codes, bytes_eq, nat_le, Option, Some, None, Result, Ok, Err, if◌then◌else◌, is_some}
 use Rattle.ipc_creds.specs.Credentials.{Credentials}
-use Rattle.ipcsh.specs.declared.readings.Get.{Get}
 use Rattle.ipcsh.specs.declared.readings.Reading.{Reading}
 use Rattle.ipcsh.specs.declared.readings.Reading.TheVariants as readings
-use Rattle.ipc_call.specs.declared.calls.Call.TheVariants.{MsgGet}
 use Rattle.ipc_commands.specs.declared.parts.Part.{Part}
-use Rattle.ipc_commands.specs.declared.parts.Part.TheVariants.{Plain}
 use Rattle.ipc_text.specs.declared.reasons.Reason.{Reason}
 use Rattle.ipc_text.specs.declared.reasons.Reason.TheVariants as reasons
 use Rattle.ipc_call.specs.declared.limits.Limit.{Limit}
@@ -70,10 +67,6 @@ text_line s text (word ∷ words) =
 unfoldable pub reading_of : Session → Option (List ℕ) → Reading
 reading_of s None = readings.Bad reasons.TooLong
 reading_of s (Some text) = text_line s text (words_of text)
-
--- a msgget, as a reading
-abbrev pub get_reading : Get → Reading
-get_reading get = readings.Command get.client (Plain (MsgGet get.key get.flags) ∷ [])
 
 -- a client may still be added
 abbrev pub CanJoin : Session → Type 0

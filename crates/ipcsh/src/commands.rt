@@ -84,7 +84,7 @@ impl Session {
 
     /// Makes a call, unless the client waits, and prints the rows of its event, or the row of a refusal of
     /// memory. Gives the identifier that it is answered.
-    pub(crate) fn call<L: Listener>(
+    fn call<L: Listener>(
         &mut self,
         alloc: Global,
         client: u32,

@@ -1,6 +1,6 @@
 // What a line says at its place in a script.
 
-ghost use Rattle.std.specs.Prelude.{◌≡◌, ◌<◌, IfOk, IfNone, IfSome, bytes_eq, codes, length};
+ghost use Rattle.std.specs.Prelude.{◌≡◌, IfOk, IfNone};
 ghost use Rattle.ipc_words.specs.LineText.{content_of};
 ghost use Rattle.ipc_words.specs.Words.{words_of};
 ghost use Rattle.ipcsh.specs.Readings.{
@@ -14,20 +14,17 @@ ghost use Rattle.ipcsh.specs.Readings.{
   limit_line,
   clock_line,
   command_line,
-  get_reading,
   IsSound,
 };
 ghost use Rattle.ipcsh.specs.Session.{client_named as client_with};
 ghost use Rattle.ipc_text.specs.Grammar.{client_of as client_in, limit_of as limit_in, clock_of as clock_in};
 
 use crate::session::{CLIENTS_MAX, Session};
-use ipc_call::{Call, Limit, Memory};
+use ipc_call::{Limit, Memory};
 use ipc_creds::Creds;
 use ipc_text::{
     Command, Line, Name, Reason, client_of, clock_of, command_of, is_plain, limit_of, split_word,
-    two_numbers,
 };
-use ipc_words::four_plain;
 use std::alloc::Global;
 
 /// What a line says.
@@ -47,51 +44,8 @@ pub(crate) enum Reading {
     Command(u32, Command),
 }
 
-/// A msgget of the client of this number.
-#[derive(Clone, Copy, Debug)]
-pub(crate) struct Get {
-    pub(crate) client: u32,
-    key: u32,
-    flags: u32,
-}
-
-impl Get {
-    /// The call.
-    pub(crate) fn call(self) -> Call
-        ensures { result ≡ Call.MsgGet self.key self.flags }
-    {
-        Call::MsgGet {
-            key: self.key,
-            flags: self.flags,
-        }
-    }
-}
-
 impl Session {
-    /// What a line says now, where that is a msgget: the lines of long scripts, in few instructions. Other lines are read
-    /// by `read`, and so are these where they are bad, or have a blank at the end.
-    #[tactic(auto, unfolding(crate::specs::Readings::reading_of))]
-    pub(crate) fn read_get(&self, line: &Line<'_>) -> Option<Get>
-        ensures value { IfSome result (λ get. reading_of self.now (content_of line.now) ≡ get_reading get) }
-        ensures known { IfSome result (λ get. get.client < length self.now.names) }
-    {
-        let Line::Text(text) = line else {
-            return None;
-        };
-        let (name, word, key, flags) = four_plain(text)?;
-        if !is_msgget(word) {
-            return None;
-        }
-        let (key, flags) = two_numbers(key, flags)?;
-        let client = self.client_named(name)?;
-        if self.is_waiting(client) {
-            return None;
-        }
-        Some(Get { client, key, flags })
-    }
-
     /// What a line says now.
-    #[inline(never)]
     #[tactic(auto, unfolding(crate::specs::Readings::reading_of))]
     pub(crate) fn read(&self, alloc: Global, line: &Line<'_>) -> Result<Reading, Memory>
         ensures value { IfOk result (λ r. r ≡ reading_of self.now (content_of line.now)) }
@@ -177,7 +131,6 @@ impl Session {
         Reading::Limit(limit, value)
     }
 
-    #[inline(never)]
     fn read_command(&self, alloc: Global, word: &[u8], words: &[u8]) -> Result<Reading, Memory>
         ensures value { IfOk result (λ r. r ≡ command_line self.now (client_with self.now word.now) (words_of words.now)) }
         ensures sound { IfOk result (IsSound self.now) }
@@ -203,13 +156,6 @@ fn read_clock(words: &[u8]) -> Reading
         Some(now) => Reading::Clock(now),
         None => Reading::Bad(Reason::BadLine),
     }
-}
-
-#[inline(always)]
-fn is_msgget(word: &[u8]) -> bool
-    ensures { result ≡ bytes_eq word.now (codes "msgget") }
-{
-    matches!(word, b"msgget")
 }
 
 fn begins_comment(word: &[u8]) -> bool

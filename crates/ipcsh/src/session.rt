@@ -7,20 +7,19 @@ ghost use Rattle.ipc_space.specs.Spaces.{own_reply, other_replies};
 ghost use Rattle.ipc_history.specs.History.{next_step, with_event};
 ghost use Rattle.ipcsh.specs.Commands.{call_event};
 ghost use Rattle.ipcsh.specs.Output.{Answers, CarriesOut, counted};
-ghost use Rattle.ipcsh.specs.Readings.{CanJoin, IsSound, get_reading, reading_of};
-ghost use Rattle.ipc_words.specs.Names.{is_name};
+ghost use Rattle.ipcsh.specs.Readings.{CanJoin, IsSound};
 ghost use Rattle.ipc_text.specs.Rows.{bad_row, effect_rows, other_row, name_at as name_in};
 ghost use Rattle.ipc_call.specs.Limits.{are_in_range, is_in_range, with_limit as limits_with};
 ghost use Rattle.ipc_words.specs.LineText.{content_of};
 ghost use Rattle.ipcsh.specs.Runs.{summary_of};
 
 use crate::listeners::Listener;
-use crate::readings::{Get, Reading};
+use crate::readings::Reading;
 use crate::runs::Summary;
 use ipc_call::{Call, Limit, Limits, Memory, Reply};
 use ipc_creds::{Creds, copies};
 use ipc_space::{Effects, Space};
-use ipc_text::{Command, Line, Name, Reason, print_bad, print_reply, print_waits};
+use ipc_text::{Line, Name, Reason, print_bad, print_reply, print_waits};
 use std::alloc::Global;
 use std::marker::Model;
 
@@ -99,7 +98,6 @@ impl Session {
     pub(crate) fn client_named(&self, word: &[u8]) -> Option<u32>
         ensures value { result ≡ client_with self.now word.now }
         ensures within { IfSome result (λ client. client < length self.now.names) }
-        ensures name { IfSome result (λ _. IsTrue (is_name word.now)) }
     {
         position_of(self.names.as_slice(), word)
     }
@@ -179,71 +177,20 @@ impl Session {
         ensures lines { OnOk result (self.new.lines ≡ self.old.lines + 1) }
     {
         self.count_line();
-        match self.read_get(line) {
-            Some(get) => self.answer_get(alloc, line, get, rows, listener),
-            None => self.answer_any(alloc, line, rows, listener),
-        }
-    }
-
-    /// Makes the call of the line just counted, and prints its rows.
-    fn answer_get<L: Listener>(
-        &mut self,
-        alloc: Global,
-        line: &Line<'_>,
-        get: Get,
-        rows: &mut String,
-        listener: &mut L,
-    ) -> Result<(), Memory>
-        requires { get.client < length self.old.names }
-        ensures does { OnOk result (CarriesOut self.old (get_reading get) self.new (string_bytes rows.old) (string_bytes rows.new)) }
-        ensures lines { OnOk result (self.new.lines ≡ self.old.lines) }
-    {
-        self.tell_calls(line, get.client, &Command::of(get.call()), listener);
-        self.call(alloc, get.client, get.call(), rows, listener)?;
-        Ok(())
-    }
-
-    /// Reads the line just counted, does what it says, and prints its rows.
-    #[inline(never)]
-    fn answer_any<L: Listener>(
-        &mut self,
-        alloc: Global,
-        line: &Line<'_>,
-        rows: &mut String,
-        listener: &mut L,
-    ) -> Result<(), Memory>
-        requires { self.old.bad < self.old.lines }
-        ensures does { OnOk result (CarriesOut self.old (reading_of self.old (content_of line.now)) self.new (string_bytes rows.old) (string_bytes rows.new)) }
-        ensures lines { OnOk result (self.new.lines ≡ self.old.lines) }
-    {
         let reading = self.read(alloc, line)?;
         self.tell(line, &reading, listener);
         self.carry_out(alloc, reading, rows, listener)
     }
 
     /// Lets a listener hear what the line just counted says.
-    #[inline(never)]
     pub(crate) fn tell<L: Listener>(&self, line: &Line<'_>, reading: &Reading, listener: &mut L) {
         match (reading, line) {
             (Reading::Bad(reason), _) => listener.bad(self.lines, line, *reason),
             (Reading::Client(..), Line::Text(text)) => listener.client(self.lines, text),
-            (Reading::Command(client, command), _) => {
-                self.tell_calls(line, *client, command, listener)
+            (Reading::Command(client, command), Line::Text(text)) => {
+                listener.calls(self.lines, *client, text, command)
             }
             _ => {}
-        }
-    }
-
-    /// Lets a listener hear of the calls of the line just counted.
-    fn tell_calls<L: Listener>(
-        &self,
-        line: &Line<'_>,
-        client: u32,
-        command: &Command,
-        listener: &mut L,
-    ) {
-        if let Line::Text(text) = line {
-            listener.calls(self.lines, client, text, command);
         }
     }
 
@@ -271,7 +218,6 @@ impl Session {
     }
 
     /// Does what a line says, and prints its rows.
-    #[inline(never)]
     pub(crate) fn carry_out<L: Listener>(
         &mut self,
         alloc: Global,
@@ -420,7 +366,6 @@ fn position_of(names: &[Name], word: &[u8]) -> Option<u32>
     requires { length names.now ≤ 64 }
     ensures value { result ≡ position_from (λ name. bytes_eq name word.now) 0 names.now }
     ensures within { IfSome result (λ client. client < length names.now) }
-    ensures name { IfSome result (λ _. IsTrue (is_name word.now)) }
 {
     let mut client = 0;
     for name in names {
