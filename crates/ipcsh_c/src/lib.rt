@@ -1,7 +1,7 @@
 //! The C library: a service whose clients are handles that C keeps. docs/C.md says how to call it, and what a caller owes.
 #![tactic(auto)]
 
-ghost use Rattle.std.specs.Prelude.{◌≡◌, ◌≢◌, ◌<◌, pos, false, length};
+ghost use Rattle.std.specs.Prelude.{◌≡◌, ◌≢◌, ◌<◌, ◌≤◌, pos, false, length};
 ghost use types.Logic.{sem};
 ghost use Rattle.std.specs.Box.Ownership.{box_owns};
 ghost use Rattle.std.specs.contracts.impls.GlobalAllocator.TheImpl.{ghosts as heap};
@@ -10,6 +10,7 @@ ghost use Rattle.ipc_abi.specs.Openings.{limits_in};
 ghost use Rattle.ipc_abi.specs.Requests.{given};
 ghost use Rattle.ipc_seat.specs.Codes.{code_of_opening};
 ghost use Rattle.ipc_seat.specs.Openings.{AreClients};
+ghost use Rattle.ipc_seat.specs.declared.opening.NotOpened.{NotOpened as WhyUnopened};
 ghost use Rattle.ipc_seat.specs.declared.opening.NotOpened.TheVariants.{BadLimits, BadClients, NoRoom};
 ghost use Rattle.ipc_seat.specs.Raw.{AdvancesInNumbers, PostsInNumbers, room};
 ghost use Rattle.ipc_seat.specs.declared.seat.Seat.{Seat as SeatValue};
@@ -30,7 +31,9 @@ pub extern "C" fn ipcsh_raw_open(
     ensures limits { result ≡ code_of_opening BadLimits → are_in_range (limits_in limits.now) ≡ false }
     ensures clients { result ≡ code_of_opening BadClients → ¬ AreClients clients.now }
     ensures room { result ≡ code_of_opening NoRoom → length handles.old < length clients.now }
+    ensures opened { result ≡ pos 0 → length clients.now ≤ length handles.old }
     ensures unopened { result ≢ pos 0 → handles.new ≡ handles.old }
+    ensures codes { result ≢ pos 0 → ((error : WhyUnopened) × (result ≡ code_of_opening error)) }
 {
     if handles.len() < clients.len() {
         return NotOpened::NoRoom.code();
