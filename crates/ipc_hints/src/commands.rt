@@ -161,13 +161,15 @@ fn fault_of<'a>(tool: Tool, words: &[Word<'a>]) -> Option<(Word<'a>, Fault<'a>)>
             b"--" => has_ended = true,
             [b'-', b'-', ..] => return Some((*word, Fault::NoOption)),
             [b'-', _, ..] => match read_letters(tool, word.bytes, &mut seen) {
-                Ok(next) => wanting = next.map(|(letter, value)| (*word, letter, value)),
+                Ok(Some((letter, value))) => wanting = Some((*word, letter, value)),
+                Ok(None) => {}
                 Err(fault) => return Some((*word, fault)),
             },
             _ => return Some((*word, Fault::Stray)),
         }
     }
-    wanting.map(|(option, letter, _)| (option, Fault::NoValue(letter)))
+    let (option, letter, _) = wanting?;
+    Some((option, Fault::NoValue(letter)))
 }
 
 fn value_fault(letter: u8, value: Value, word: &[u8]) -> Option<Fault<'_>> {
