@@ -10,6 +10,7 @@ journal_checks() {
     attempt "$journals/hand-over.journal" journal_ends 0 same --replay "$journals/hand-over.journal"
     attempt "$journals/altered.journal" journal_ends 1 'line 16, row 6: the journal differs' --replay "$journals/altered.journal"
     attempt 'each script of examples' replays_examples
+    attempt 'a journal that is handed out in parts' replays_parts
     attempt 'a script without a call' says_no_call
     attempt 'a bad line' tells_a_bad_line
     attempt 'no file' journal_fails 2 'ipcsh_journal: no-such-file: read failed' no-such-file
@@ -47,6 +48,16 @@ replays_examples() {
         [ "$status" -le 1 ] && [ -s "$scratch/journal" ] || return 1
         journal_ends 0 same --replay "$scratch/journal" || return 1
     done
+}
+
+# Four clients call in threads of their own, and one of them takes the rows after every 1,000 calls: the parts are the journal.
+replays_parts() {
+    has_program journal_parts || return 1
+    why='journal_parts fails'
+    "$(program_to_run journal_parts)" 20 >"$scratch/journal" 2>"$scratch/shown" || return 1
+    why='it has not just its 20000 calls'
+    [ "$(grep -c '^at ' "$scratch/journal")" = 20000 ] || return 1
+    journal_ends 0 same --replay "$scratch/journal"
 }
 
 # journal_fails STATUS LINE ARGUMENT..: it prints nothing, and this on standard error.

@@ -1,6 +1,6 @@
 # Proofs and times.
 
-programs='ipcsh_cli ipcwho ipcsh_explain ipcsh_journal ipc_bench thread_bench member_bench ipcsh_c'
+programs='ipcsh_cli ipcwho ipcsh_explain ipcsh_journal ipc_bench thread_bench member_bench journal_parts ipcsh_c'
 
 check_bench() {
     attempt bench measures

@@ -16,21 +16,21 @@ use Rattle.ipc_combiner.specs.declared.calls.Pass.TheVariants.{Busy}
 use Rattle.ipc_combiner.specs.declared.entries.Entry.{Entry}
 use Rattle.ipc_combiner.specs.declared.shared.Shared.{Shared}
 use Rattle.ipc_combiner.specs.Asking.{HasTried}
-use Rattle.ipc_combiner.specs.Entries.{entries_of, legal, own, replies}
-use Rattle.ipc_combiner.specs.States.{IsIdle, IsInFlight, IsOf, Records, is_asking, opened}
+use Rattle.ipc_combiner.specs.Entries.{legal, own, replies}
+use Rattle.ipc_combiner.specs.States.{IsIdle, IsInFlight, IsOf, Records, first_entries, is_asking}
 use Rattle.ipc_combiner.specs.Telling.{AreOf, HasLearnt, HasTold, LearnsFrom}
 
 module _ {g : Ghosts Shared Entry (ℕ × Call) Reply} (list : Records) where
   -- a client of the service stays one while its history goes on
   pub still_of : (old new : Joined Shared Entry (ℕ × Call) Reply g) → IsOf list old → IsSame old new → GoesOn (work old).seen (work new).seen → IsOf list new
-  still_of old new is same goes = (same.1 ∙ is.0, goes_further (entries_of (opened list)) (work old).seen (work new).seen is.1 goes)
+  still_of old new is same goes = (same.1 ∙ is.0, goes_further (first_entries list) (work old).seen (work new).seen is.1 goes)
 
   -- another client combined
   pub met_another : (old new : Joined Shared Entry (ℕ × Call) Reply g) (c : ℕ) → IsOf list old → IsSame old new → GoesOn (work old).seen (work new).seen → HasMet list.clients old.client c (view old) (view new) → told new ≡ told old → HasTried list old new (Busy c)
   met_another old new c is same goes met known = (still_of old new is same goes, same.0, (met.0, met.1, ap (λ z. z.work) met.2, known))
 
   has_told : (old new : Joined Shared Entry (ℕ × Call) Reply g) → IsOf list old → IsSame old new → view new ≡ view old → HasTold list old new
-  has_told old new is same still = ((same.1 ∙ is.0, subst (λ z. GoesOn (entries_of (opened list)) z.work.seen) (sym still) is.1), same.0, still)
+  has_told old new is same still = ((same.1 ∙ is.0, subst (λ z. GoesOn (first_entries list) z.work.seen) (sym still) is.1), same.0, still)
 
   module _ (v o w : Joined Shared Entry (ℕ × Call) Reply g) (did : Learns legal own replies v o w) where
     has_learnt : HasLearnt v o w

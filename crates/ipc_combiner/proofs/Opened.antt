@@ -5,9 +5,9 @@ use Rattle.std.proofs.lemmas.List.Elements.{All-nil, All-cons, All-head, All-tai
 use Rattle.ipc_model.specs.State.{opening}
 use Rattle.ipc_model.specs.Step.{Event}
 use Rattle.ipc_history.specs.History.{AreLegalFrom}
-use Rattle.ipc_combiner.specs.Entries.{entries_of, legal}
+use Rattle.ipc_combiner.specs.Entries.{legal}
 use Rattle.ipc_combiner.specs.Laws.{is_legal}
-use Rattle.ipc_combiner.specs.States.{IsOpened, Records, opened}
+use Rattle.ipc_combiner.specs.States.{IsOpened, Records, first_entries, keeps, opened}
 
 module _ {X Y : Type 0} (f : X → Y) where
   -- one more is mapped
@@ -25,6 +25,6 @@ module _ {X Y : Type 0} (f : X → Y) where
   all_of P (x ∷ xs) h = All-cons (λ x. P (f x)) x xs (All-head P (f x) (map f xs) h) (all_of P xs (All-tail P (f x) (map f xs) h))
 
 -- a history to which nobody has called is legal
-pub opening_is_legal : (list : Records) → IsOpened list → legal (entries_of (opened list))
+pub opening_is_legal : (list : Records) → IsOpened list → legal (first_entries list)
 opening_is_legal list is = let h = opened list in
-    is_legal h (subst (λ (es : List Event). AreLegalFrom (opening h.limits h.clients) es) (sym is.1) tt)
+    is_legal (keeps list) h (subst (λ (es : List Event). AreLegalFrom (opening h.limits h.clients) es) (sym is.1) tt)

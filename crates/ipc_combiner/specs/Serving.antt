@@ -1,5 +1,5 @@
 -- How a client serves the namespace: what one more call tells, and what of it is still to be handed out.
-use Rattle.std.specs.Prelude.{◌≡◌, ◌⊎◌, ℕ, ◌<◌, List, [], ◌∷◌, ◌++◌, Option, Some, None, All, box_value}
+use Rattle.std.specs.Prelude.{◌≡◌, ◌⊎◌, ℕ, Bool, ◌<◌, List, [], ◌∷◌, ◌++◌, Option, Some, None, All, box_value}
 use Rattle.ipc_call.specs.declared.calls.Call.{Call}
 use Rattle.ipc_call.specs.declared.replies.Reply.{Reply}
 use Rattle.ipc_model.specs.Step.{Event}
@@ -18,9 +18,13 @@ use Rattle.ipc_combiner.specs.Entries.{entries_of, legal, replies}
 abbrev pub Knowledge : Type 0
 Knowledge = View (Work Entry (ℕ × Call) Reply)
 
+-- the history of the shared namespace
+abbrev pub history_of : Shared → History
+history_of state = (box_value state.ledger).history
+
 -- the entries that the shared namespace means
 abbrev pub entries_in : Shared → List Entry
-entries_in state = entries_of (box_value state.space)
+entries_in state = entries_of state.keeps (history_of state)
 
 -- who is told what by an event: its own client first, where its call doesn't wait
 abbrev pub told_list : ℕ → Option Reply → List (ℕ × Reply) → List (ℕ × Reply)
@@ -40,8 +44,9 @@ pub record IsHanding (n : ℕ) (v : Knowledge) (state : Shared) (rest : List (�
   pub seen : entries_in state ≡ v.work.seen
   pub before : History
   pub event : Event
-  pub was : v.work.before ≡ entries_of before
-  pub is : v.work.seen ≡ entries_of (with_event before event)
+  pub keeps : Bool
+  pub was : v.work.before ≡ entries_of keeps before
+  pub is : v.work.seen ≡ entries_of keeps (with_event before event)
   pub is_legal : IsLegal (with_event before event)
   pub known : All (λ t. t.0 < n) rest
   pub each : (r : ℕ) → r < n → (IsOn r v.work.paid × (replies_in rest r ≡ []))

@@ -1,5 +1,5 @@
 -- What the service and its clients are.
-use Rattle.std.specs.Prelude.{◌≡◌, ℕ, Bool, true, false, [], length, box_value}
+use Rattle.std.specs.Prelude.{◌≡◌, ℕ, Bool, true, false, List, [], length, box_value}
 use Rattle.ipc_call.specs.declared.calls.Call.{Call}
 use Rattle.ipc_call.specs.declared.replies.Reply.{Reply}
 use Rattle.pub_rule.specs.declared.served.Served.{Ghosts}
@@ -22,7 +22,15 @@ Records = Listing Shared Entry (ℕ × Call) Reply
 
 -- what the service was opened with: a history without events
 abbrev pub opened : Records → History
-opened list = box_value (opening_of list).space
+opened list = (box_value (opening_of list).ledger).history
+
+-- whether it keeps its journal
+abbrev pub keeps : Records → Bool
+keeps list = (opening_of list).keeps
+
+-- what it was opened as
+abbrev pub first_entries : Records → List Entry
+first_entries list = entries_of (keeps list) (opened list)
 
 -- it was opened for as many clients as the list has, and nobody had called
 abbrev pub IsOpened : Records → Type 0
@@ -47,7 +55,7 @@ module _ {g : Ghosts Shared Entry (ℕ × Call) Reply} where
 
   -- it is a client of this service, and sees a history that goes on from its opening
   abbrev pub IsOf : Records → Joined Shared Entry (ℕ × Call) Reply g → Type 0
-  IsOf list j = BelongsTo list j × GoesOn (entries_of (opened list)) (work j).seen
+  IsOf list j = BelongsTo list j × GoesOn (first_entries list) (work j).seen
 
   abbrev pub IsUnjoinedOf : Records → Fresh Shared Entry (ℕ × Call) Reply g → Type 0
-  IsUnjoinedOf list f = IsFreshOf list f × (first_seen f ≡ entries_of (opened list))
+  IsUnjoinedOf list f = IsFreshOf list f × (first_seen f ≡ first_entries list)

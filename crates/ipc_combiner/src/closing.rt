@@ -1,14 +1,14 @@
 //! The service is closed: its clients are handed in, and the namespace comes back.
-ghost use Rattle.std.specs.Prelude.{◌≡◌, false, length, All};
+ghost use Rattle.std.specs.Prelude.{◌≡◌, true, false, length, All};
 ghost use Rattle.ipc_history.specs.History.{IsLegal};
 ghost use Rattle.ipc_combiner.specs.Entries.{entries_of};
 ghost use Rattle.pub_list.specs.Closing.{list_of, work_of as end_work};
 ghost use Rattle.ipc_combiner.specs.Closing.{work_of, IsClientOf, IsOpenedBy, IsTold};
-ghost use Rattle.ipc_combiner.specs.States.{opened, Records};
+ghost use Rattle.ipc_combiner.specs.States.{keeps, opened, Records};
 
 use crate::shared::Shared;
 use crate::states::{Idle, InFlight, Service, Unjoined};
-use ipc_space::Space;
+use ipc_space::{Ledger, Space};
 use pub_list::End;
 
 /// A client that is handed in as the service is closed.
@@ -23,21 +23,34 @@ pub enum Client {
 }
 
 impl Service {
-    /// Closes the service, with all its clients, and gives the namespace with its journal. A call in flight that
-    /// no combiner served is in no history; one that waits, waits in the namespace that comes back.
+    /// Closes a service that keeps its journal, with all its clients, and gives the namespace with its journal. A call in
+    /// flight that no combiner served is in no history; one that waits, waits in the namespace that comes back.
     pub fn close(self, clients: Vec<Client>) -> Space
+        requires keeps { keeps self.list ≡ true }
         requires all { length clients.items ≡ self.list.clients }
         requires service { All (λ c. IsClientOf self.list c) clients.items }
         ensures opening { IsOpenedBy (opened self.list) self.list.clients result }
         ensures legal { IsLegal result }
-        ensures told { All (λ c. IsTold (entries_of result) clients.items c) clients.items }
+        ensures told { All (λ c. IsTold (entries_of true result) clients.items c) clients.items }
+    {
+        self.close_ledger(clients).into_space()
+    }
+
+    /// Closes any service, and gives the namespace with those rows of its journal that weren't handed out.
+    pub fn close_ledger(self, clients: Vec<Client>) -> Ledger
+        requires all { length clients.items ≡ self.list.clients }
+        requires service { All (λ c. IsClientOf self.list c) clients.items }
+        ensures opening { IsOpenedBy (opened self.list) self.list.clients result.history }
+        ensures legal { IsLegal result.history }
+        ensures told { All (λ c. IsTold (entries_of (keeps self.list) result.history) clients.items c) clients.items }
+        ensures kept { keeps self.list ≡ true → result.given ≡ 0 }
     {
         let mut closing = self.list.closing();
         for client in clients {
             closing.add(client.end());
         }
-        let Shared { space } = closing.end();
-        Box::into_inner(space)
+        let Shared { ledger, .. } = closing.end();
+        Box::into_inner(ledger)
     }
 }
 

@@ -1,11 +1,11 @@
 //! How a combiner serves a posted call: the namespace decides on it, and its replies are handed out.
-ghost use Rattle.std.specs.Prelude.{◌≡◌, ◌<◌, length, IfOk, OnErr, box_value};
+ghost use Rattle.std.specs.Prelude.{◌≡◌, ◌<◌, length, IfOk, OnErr};
 ghost use Rattle.ipc_history.specs.History.{IsLegal};
 ghost use Rattle.pub_rule.specs.WorkSteps.{with_work, paying};
 ghost use Rattle.pub_list.specs.Clients.{view, work, BelongsTo, IsSame};
 ghost use Rattle.pub_list.specs.Passing.{IsAsFar};
 ghost use Rattle.ipc_combiner.specs.Entries.{own as calls, replies};
-ghost use Rattle.ipc_combiner.specs.Serving.{entries_in, HasEntered, HasKept, IsHanding, OwesReply, Serves as IsServing};
+ghost use Rattle.ipc_combiner.specs.Serving.{entries_in, history_of, HasEntered, HasKept, IsHanding, OwesReply, Serves as IsServing};
 
 use crate::shared::Shared;
 use ipc_call::{Call, Memory, Reply};
@@ -51,13 +51,14 @@ impl Serves for Shared {
 impl Shared {
     // Enters a call of a client none of whose calls waits.
     fn apply(&mut self, client: u32, now: u64, call: Call) -> Result<Effects, Memory>
-        requires known { client < length (box_value self.old.space).clients }
-        requires legal { IsLegal (box_value self.old.space) }
+        requires known { client < length (history_of self.old).clients }
+        requires legal { IsLegal (history_of self.old) }
         requires free { length (calls (entries_in self.old) client) ≡ length (replies (entries_in self.old) client) }
-        ensures ok { IfOk result (λ effects. HasEntered client now call (box_value self.old.space) (box_value self.new.space) effects.own effects.others.items) }
+        ensures ok { IfOk result (λ effects. HasEntered client now call (history_of self.old) (history_of self.new) effects.own effects.others.items) }
         ensures err { OnErr result (entries_in self.new ≡ entries_in self.old) }
+        ensures keeps { self.new.keeps ≡ self.old.keeps }
     {
-        self.space.apply(client, now, call)
+        self.ledger.apply(client, now, call)
     }
 }
 

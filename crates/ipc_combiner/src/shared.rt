@@ -1,13 +1,17 @@
 //! The namespace, as clients share it.
+ghost use Rattle.std.specs.Prelude.{◌≡◌, true, box_value};
+
 use crate::entries::Entry;
 use ipc_call::{Call, Reply};
-use ipc_space::Space;
+use ipc_space::Ledger;
 use pub_rule::Served;
 
 /// A namespace that clients share. It lies in a box, so that it is handed on by its address.
 #[derive(Drop)]
 pub struct Shared {
-    pub(crate) space: Box<Space>,
+    pub(crate) ledger: Box<Ledger>,
+    pub(crate) keeps: bool,
+    ghost whole: { keeps ≡ true → (box_value ledger).given ≡ 0 },
 }
 
 impl Served for Shared {
@@ -21,7 +25,7 @@ impl Served for Shared {
 
     type Reply = Reply;
 
-    ghost history = { λ s. entries_of (box_value s.space) };
+    ghost history = { λ s. entries_of s.keeps (box_value s.ledger).history };
 
     ghost legal = { legal };
 

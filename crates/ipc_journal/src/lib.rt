@@ -2,6 +2,7 @@
 //! event is made before the event changes anything.
 #![tactic(auto)]
 
+mod given;
 mod journal;
 
 pub use journal::Journal;

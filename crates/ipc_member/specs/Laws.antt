@@ -13,8 +13,7 @@ use Rattle.pub_list.specs.declared.joined.Joined.{Joined}
 use Rattle.pub_list.specs.Clients.{work}
 use Rattle.ipc_combiner.specs.declared.entries.Entry.{Entry}
 use Rattle.ipc_combiner.specs.declared.shared.Shared.{Shared}
-use Rattle.ipc_combiner.specs.Entries.{entries_of}
-use Rattle.ipc_combiner.specs.States.{IsOf, Records, opened}
+use Rattle.ipc_combiner.specs.States.{IsOf, Records, first_entries}
 
 GoesOn-prop : (h k : List Entry) → IsProp (GoesOn h k)
 GoesOn-prop h k a b = Σ_prop_path (λ more. hlevel props) (append_cancel_left h a.0 b.0 (sym a.1 ∙ b.1))
@@ -22,4 +21,4 @@ GoesOn-prop h k a b = Σ_prop_path (λ more. hlevel props) (append_cancel_left h
 module _ {g : Ghosts Shared Entry (ℕ × Call) Reply} where
   pub IsOf-prop : (list : Records) (j : Joined Shared Entry (ℕ × Call) Reply g) → IsProp (IsOf list j)
   IsOf-prop list j = ×_prop (Coded-set table_id_coded j.seat.table_id list.table.shared.table_id)
-      (GoesOn-prop (entries_of (opened list)) (work j).seen)
+      (GoesOn-prop (first_entries list) (work j).seen)

@@ -6,13 +6,14 @@ ghost use Rattle.pub_list.specs.Clients.{work};
 ghost use Rattle.ipc_combiner.specs.declared.closing.Client.TheVariants.{Idle as IdleClient, InFlight as ClientInFlight};
 ghost use Rattle.ipc_combiner.specs.Asking.{HasTried};
 ghost use Rattle.ipc_combiner.specs.Closing.{IsClientOf};
+ghost use Rattle.ipc_combiner.specs.Parts.{TriedToTake};
 ghost use Rattle.ipc_combiner.specs.States.{IsUnjoinedOf};
 ghost use Rattle.ipc_combiner.specs.Telling.{LearnsFrom};
 ghost use Rattle.ipc_member.specs.Members.{HasAdvanced, HasLooked};
 
 use crate::states::{Member, Posted};
 use ipc_call::{Call, Memory, Reply};
-use ipc_combiner::{Client, Pass, Polled, Seen, Service, Unjoined};
+use ipc_combiner::{Client, Part, Pass, Polled, Seen, Service, Unjoined};
 use std::alloc::Global;
 use std::sync::Arc;
 
@@ -74,6 +75,16 @@ impl Member {
     {
         let service = &*self.service;
         self.idle.learn(service, &mut other.idle);
+    }
+
+    /// Takes the rows of the journal that weren't handed out, oldest first, with the number of those that were. Where
+    /// another client combines, that one's number comes, and nothing was taken.
+    pub fn take_rows(&mut self) -> Result<Part, u32>
+        ensures service { arc_value self.new.service ≡ arc_value self.old.service }
+        ensures taken { TriedToTake (arc_value self.old.service).list self.old.idle.joined self.new.idle.joined result }
+    {
+        let service = &*self.service;
+        self.idle.take_rows(service)
     }
 
     /// The client without its service, to be handed in as the service is closed.

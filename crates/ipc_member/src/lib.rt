@@ -8,6 +8,6 @@ mod states;
 mod waiting;
 
 pub use calls::Looked;
-pub use ipc_combiner::{Pass, Seen};
+pub use ipc_combiner::{Part, Pass, Seen};
 pub use opening::open;
 pub use states::{Member, Posted};

@@ -14,7 +14,8 @@ use std::alloc::Global;
 use std::sync::Arc;
 
 /// Opens a service with these limits, each in its range, for 1 to 64 clients, numbered from 0 in the order of their
-/// credentials, and gives the clients, each of which has joined. Memory (ENOMEM) is for an allocation that fails.
+/// credentials, and gives the clients, each of which has joined. It hands out the rows of its journal to those that take
+/// them, and holds them until then. Memory (ENOMEM) is for an allocation that fails.
 pub fn open(alloc: Global, limits: Limits, clients: Vec<Creds>) -> Result<Vec<Member>, Memory>
     requires limits { IsTrue (are_in_range limits) }
     requires some { 1 ≤ vec_len clients }
@@ -23,7 +24,7 @@ pub fn open(alloc: Global, limits: Limits, clients: Vec<Creds>) -> Result<Vec<Me
     ensures count { IfOk result (λ members. length members.items ≡ vec_len clients) }
     ensures numbers { IfOk result (λ members. (k : ℕ) → IfSome (slice_get members.items k) (λ m. number_of m ≡ k)) }
 {
-    let (service, unjoined) = Service::start(alloc, limits, clients)?;
+    let (service, unjoined) = Service::start_in_parts(alloc, limits, clients)?;
     let service = Arc::new(alloc, service)?;
     joined(alloc, &service, unjoined)
 }

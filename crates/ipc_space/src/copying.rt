@@ -13,12 +13,11 @@ use ipc_creds::copies;
 impl Space {
     /// A namespace with the same history, to try calls on: they leave this one as it is. It is made by a replay of the
     /// journal, so it takes as long as all events took. Memory (ENOMEM) comes where a growth was refused.
-    #[tactic(auto, using(crate::proofs::Copies::one_history))]
     pub fn copy(&self) -> Result<Space, Memory>
         ensures { IfOk result (λ copy. copy ≡ self.now) }
     {
-        let clients = copies(*self.opening.allocator(), self.opening.as_slice())?;
-        match replay(self.namespace.limits(), clients, self.journal.entries())? {
+        let clients = copies(self.ledger.alloc(), self.ledger.opening())?;
+        match replay(self.ledger.limits(), clients, self.ledger.rows())? {
             Replayed::Same(copy) => Ok(copy),
             Replayed::Differs(_) => unreachable!(),
         }

@@ -6,6 +6,7 @@
 mod comparing;
 mod copying;
 pub mod laws;
+mod ledger;
 mod looking;
 mod replaying;
 mod space;
@@ -18,7 +19,9 @@ pub use ipc_call::{
     SEM_UNDO, SHM_RDONLY, SegmentStatus, SemOper, SetStatus, Status, errno,
 };
 pub use ipc_creds::{Caps, Creds, GROUPS_MAX};
+pub use ipc_namespace::Namespace;
 pub use ipc_parked::Arrival;
+pub use ledger::{Effects, Ledger};
 pub use replaying::{Replayed, replay};
 pub use shm_seg::Attachment;
-pub use space::{Effects, Space};
+pub use space::Space;

@@ -21,42 +21,42 @@ impl Space {
     pub fn limits(&self) -> Limits
         ensures { result ≡ (run self.now).limits }
     {
-        self.namespace.limits()
+        self.ledger.namespace().limits()
     }
 
     /// The present credentials of a client, as calls have left them. None where there is no such client.
     pub fn creds_of(&self, client: u32) -> Option<&Creds>
         ensures { option_copied result ≡ slice_get (run self.now).clients client }
     {
-        self.namespace.creds_of(client)
+        self.ledger.namespace().creds_of(client)
     }
 
     /// Whether the client has called exit.
     pub fn has_exited(&self, client: u32) -> bool
         ensures { result ≡ exited_before (run self.now) client }
     {
-        self.namespace.has_exited(client)
+        self.ledger.namespace().has_exited(client)
     }
 
     /// The permissions of the object of an identifier.
     pub fn perm_of(&self, kind: Kind, id: u32) -> Option<Perm>
         ensures { result ≡ perm_in (run self.now) kind id }
     {
-        self.namespace.perm_of(kind, id)
+        self.ledger.namespace().perm_of(kind, id)
     }
 
     /// The permissions of the object of an identifier, and its state as IPC_STAT reports it.
     pub fn status_of(&self, kind: Kind, id: u32) -> Option<(Perm, Status)>
         ensures { result ≡ status_in (run self.now) kind id }
     {
-        self.namespace.status_of(kind, id)
+        self.ledger.namespace().status_of(kind, id)
     }
 
     /// The identifier and the permissions of the object of a key. None for key 0, IPC_PRIVATE.
     pub fn with_key(&self, kind: Kind, key: u32) -> Option<(u32, Perm)>
         ensures { result ≡ object_with_key (run self.now) kind key }
     {
-        self.namespace.with_key(kind, key)
+        self.ledger.namespace().with_key(kind, key)
     }
 
     /// The values of all semaphores of the set of an identifier; none where there is no such set. Memory (ENOMEM) comes
@@ -64,7 +64,7 @@ impl Space {
     pub fn values_of(&self, id: u32) -> Result<Vec<u16>, Memory>
         ensures { IfOk result (λ values. values.items ≡ values_at (run self.now).sems id) }
     {
-        self.namespace.values_of(id)
+        self.ledger.namespace().values_of(id)
     }
 
     /// What the exit of a client would add to a semaphore, its semadj there (semop(2)): above 0 where the client has taken
@@ -72,14 +72,14 @@ impl Space {
     pub fn semadj_of(&self, client: u32, id: u32, num: u16) -> i32
         ensures { result ≡ adj_of (run self.now).sems.undo client id num }
     {
-        self.namespace.semadj_of(client, id, num)
+        self.ledger.namespace().semadj_of(client, id, num)
     }
 
     /// What a client has attached under a number.
     pub fn attachment_of(&self, client: u32, att: u32) -> Option<Attachment>
         ensures { result ≡ attachment_at (run self.now).shared.attached client att }
     {
-        self.namespace.attachment_of(client, att)
+        self.ledger.namespace().attachment_of(client, att)
     }
 
     /// The client's call that waits, as what it waits (a semtimedop as the semop that it is), with its deadline and the
@@ -87,7 +87,7 @@ impl Space {
     pub fn waiting_of(&self, client: u32) -> Option<&Arrival>
         ensures { option_map {U = WaitingCall} (λ a. record { client = client; call = a.call; deadline = a.deadline }) (option_copied result) ≡ waiting_in (run self.now) client }
     {
-        self.namespace.waiting_of(client)
+        self.ledger.namespace().waiting_of(client)
     }
 
     /// The operation at which the client's waiting semop stops (semop(2)). None where no semop of the client waits. It is
@@ -96,6 +96,6 @@ impl Space {
         ensures stop { result ≡ stopping_at (run self.old) client }
         ensures same { self.new ≡ self.old }
     {
-        self.namespace.stopped_at(client)
+        self.ledger.stopped_at(client)
     }
 }

@@ -1,58 +1,37 @@
-// A namespace with its journal.
+// A namespace that keeps its journal whole.
 
-ghost use Rattle.std.specs.Prelude.{◌≡◌, ◌+◌, ◌<◌, ◌≤◌, ◌^◌, true, false, [], ◌∷◌, ◌++◌, length, map, vec_len, vec_capacity, IsTrue, IfOk, OnOk, OnErr};
+ghost use Rattle.std.specs.Prelude.{◌≡◌, ◌+◌, ◌<◌, ◌≤◌, false, [], length, map, vec_len, IsTrue, IfOk, OnOk, OnErr};
 ghost use Rattle.ipc_call.specs.Limits.{are_in_range};
 ghost use Rattle.ipc_model.specs.State.{is_waiting as waits};
 ghost use Rattle.ipc_model.specs.Step.{Stepped};
-ghost use Rattle.ipc_history.specs.History.{run, rows_of, rows_by, IsLegal, with_event, next_step, reply_to_own, replies_to_ended, answered_row, rule_in};
+ghost use Rattle.ipc_history.specs.History.{run, rows_of, IsLegal, with_event, next_step};
 ghost use Rattle.ipc_model.specs.Segments.{AreAttached};
 ghost use Rattle.ipc_model.specs.Listings.{lines_of};
 ghost use Rattle.ipc_history.specs.Waits.{AreInTime, AreNotReady, ArePermitted, WaitOnce};
 ghost use Rattle.ipc_space.specs.Spaces.{own_reply, other_replies};
 ghost use Rattle.ipc_space.specs.Telling.{replies_in};
 
-use ipc_call::{Call, Completion, JournalRow, Limits, Memory, Outcome, Reply, Row, Rule};
-use ipc_creds::{Creds, copies};
-use ipc_journal::Journal;
-use ipc_namespace::Namespace;
+use crate::ledger::{Effects, Ledger};
+use ipc_call::{Call, JournalRow, Limits, Memory, Row};
+use ipc_creds::Creds;
 use std::marker::Model;
-use std::mem;
-
-/// What an event tells the clients.
-#[derive(Debug, Drop)]
-pub struct Effects {
-    /// The number of the event among those of the namespace, from 1.
-    pub place: u64,
-    /// The reply to the event's own call, with turn 0. None where the call waits.
-    pub own: Option<Reply>,
-    /// The replies to the waiting calls that the event ended, each with its client, by turn from 1.
-    pub others: Vec<(u32, Reply)>,
-}
 
 /// A namespace with its clients and the journal of its events. It is its history: the events that it
 /// has served since it was opened, from which all else follows.
 #[derive(Debug, Drop)]
 pub struct Space {
-    /// The credentials of the clients at the start. Those that they have now are the namespace's.
-    pub(super) opening: Vec<Creds>,
-    pub(super) namespace: Namespace,
-    pub(super) journal: Journal,
-    events: u64,
-    /// The waiting calls that an event ends, and the replies to them. Between events both are empty, and keep their room.
-    ended: Vec<Completion>,
-    others: Vec<(u32, Reply)>,
+    pub(super) ledger: Ledger,
 }
 
 impl Model for Space {
-    ghost use Rattle.std.specs.Prelude.{◌≡◌, []};
+    ghost use Rattle.std.specs.Prelude.{◌≡◌};
     ghost use Rattle.ipc_history.specs.History.{History};
-    ghost use Rattle.ipc_space.specs.Spaces.{history_in, CanOpen, IsOfHistory};
 
     ghost Value = { History };
 
-    ghost view = { λ s. history_in s.namespace.limits s.opening.items s.journal.rows };
+    ghost view = { λ s. s.ledger.history };
 
-    ghost invariant = { λ s. IsOfHistory s.namespace s.opening.items s.journal.rows s.events × (s.ended.items ≡ []) × (s.others.items ≡ []) × CanOpen s.namespace.limits s.opening.items };
+    ghost invariant = { λ s. s.ledger.given ≡ 0 };
 }
 
 impl Space {
@@ -66,16 +45,8 @@ impl Space {
         requires few { vec_len clients ≤ 64 }
         ensures { IfOk result (λ space. space ≡ record { limits = limits; clients = clients.items; events = [] }) }
     {
-        let alloc = *clients.allocator();
-        let opening = copies(alloc, clients.as_slice())?;
-        Ok(Space {
-            opening,
-            namespace: Namespace::new(limits, clients),
-            journal: Journal::new(alloc),
-            events: 0,
-            ended: Vec::new(alloc),
-            others: Vec::new(alloc),
-        })
+        let ledger = Ledger::start(limits, clients)?;
+        Ok(Space { ledger })
     }
 
     /// Serves a call of a client at a time in seconds, as the next event. The client is one of the
@@ -102,30 +73,7 @@ impl Space {
         ensures attached { AreAttached (run self.new).shared }
         ensures err { OnErr result (self.new ≡ self.old) }
     {
-        let most = self.namespace.most_ended();
-        match reserve(&mut self.journal, &mut self.ended, &mut self.others, most) {
-            Ok(()) => {}
-            Err(memory) => {
-                drop(call);
-                return Err(memory);
-            }
-        }
-        let place = self.events + 1;
-        let served = self
-            .namespace
-            .serve(client, place, now, &call, &mut self.ended);
-        let outcome = match served {
-            Ok(outcome) => outcome,
-            Err(memory) => {
-                drop(call);
-                return Err(memory);
-            }
-        };
-        self.events = place;
-        self.journal.enter(JournalRow::Called { client, now, call });
-        let own = tell_own(&mut self.journal, client, place, outcome);
-        let others = tell_others(&mut self.journal, &mut self.others, place, &mut self.ended);
-        Ok(Effects { place, own, others })
+        self.ledger.apply(client, now, call)
     }
 
     /// How many clients there are, at most 64. They are numbered from 0.
@@ -133,7 +81,7 @@ impl Space {
         ensures count { result ≡ length self.now.clients }
         ensures few { result ≤ 64 }
     {
-        self.namespace.clients()
+        self.ledger.clients()
     }
 
     /// The credentials of the clients at the start, by which the journal is replayed. Calls that change credentials leave
@@ -141,28 +89,28 @@ impl Space {
     pub fn opening(&self) -> &[Creds]
         ensures { result.now ≡ self.now.clients }
     {
-        self.opening.as_slice()
+        self.ledger.opening()
     }
 
     /// The number of events.
     pub fn events(&self) -> u64
         ensures { result ≡ length self.now.events }
     {
-        self.events
+        self.ledger.events()
     }
 
     /// Whether a call of the client waits.
     pub fn is_waiting(&self, client: u32) -> bool
         ensures { result ≡ waits (run self.now) client }
     {
-        self.namespace.is_waiting(client)
+        self.ledger.namespace().is_waiting(client)
     }
 
     /// The clock in seconds: the latest time of an event, 0 before the first.
     pub fn clock(&self) -> u64
         ensures { result ≡ (run self.now).clock }
     {
-        self.namespace.clock()
+        self.ledger.namespace().clock()
     }
 
     /// Each object, whoever may read it: the queues, the semaphore sets with their values, and the segments, each kind by
@@ -170,7 +118,7 @@ impl Space {
     pub fn lines(&self) -> Result<Vec<(Row, Vec<u16>)>, Memory>
         ensures { IfOk result (λ lines. map (λ line. (line.0, line.1.items)) lines.items ≡ lines_of (run self.now)) }
     {
-        self.namespace.lines()
+        self.ledger.namespace().lines()
     }
 
     /// The journal, oldest row first.
@@ -178,129 +126,24 @@ impl Space {
         ensures rows { result.now ≡ rows_of self.now }
         ensures legal { IsLegal self.now }
     {
-        self.journal.entries()
+        self.ledger.rows()
+    }
+
+    /// The same namespace, of whose journal nothing was handed out yet, and can be from now on.
+    pub fn into_ledger(self) -> Ledger
+        ensures { result ≡ record { history = self; given = 0 } }
+    {
+        let Space { ledger } = self;
+        ledger
     }
 }
 
-/// Makes room for an event that ends so many waiting calls at most, and its own: for its rows, for those that it ends,
-/// and for their replies. Memory comes where a growth was refused.
-#[inline(always)]
-fn reserve(
-    journal: &mut Journal,
-    ended: &mut Vec<Completion>,
-    others: &mut Vec<(u32, Reply)>,
-    most: usize,
-) -> Result<(), Memory>
-    requires few { most ≤ 64 }
-    requires none_ended { ended.old.items ≡ [] }
-    requires none_told { others.old.items ≡ [] }
-    ensures rows { journal.new.rows ≡ journal.old.rows }
-    ensures journal_room { OnOk result (most + 2 ≤ journal.new.room) }
-    ensures ended { ended.new.items ≡ [] }
-    ensures ended_room { OnOk result (most < vec_capacity ended.new) }
-    ensures others { others.new.items ≡ [] }
-    ensures others_room { OnOk result (most ≤ vec_capacity others.new) }
-    ensures fits { OnOk result (length journal.new.rows + most + 2 < 2 ^ 64) }
-{
-    journal.reserve(most + 2)?;
-    ended.reserve(most + 1)?;
-    others.reserve(most)
-}
-
-/// Enters how an event's own call ended, and gives the reply. A call that waits has none.
-#[inline(always)]
-fn tell_own(journal: &mut Journal, client: u32, place: u64, own: Option<Outcome>) -> Option<Reply>
-    requires { 0 < journal.old.room }
-    ensures rows { journal.new.rows ≡ journal.old.rows ++ map answered_row (reply_to_own client place own) }
-    ensures room { journal.old.room ≤ journal.new.room + 1 }
-    ensures reply { result ≡ own_reply place own }
-{
-    let outcome = own?;
-    journal.enter(answered(client, place, 0, &outcome));
-    Some(Reply::Entered {
-        place,
-        turn: 0,
-        outcome,
-    })
-}
-
-/// Enters how the waiting calls ended that an event ended, and hands out the replies to them. The list for these is
-/// empty, and has room.
-#[inline(always)]
-fn tell_others(
-    journal: &mut Journal,
-    others: &mut Vec<(u32, Reply)>,
-    place: u64,
-    ended: &mut Vec<Completion>,
-) -> Vec<(u32, Reply)>
-    requires few { vec_len ended.old ≤ 65 }
-    requires journal_room { vec_len ended.old ≤ journal.old.room }
-    requires empty { others.old.items ≡ [] }
-    requires room { vec_len ended.old ≤ vec_capacity others.old }
-    ensures rows { journal.new.rows ≡ journal.old.rows ++ map answered_row (replies_to_ended place 1 ended.old.items) }
-    ensures others { result.items ≡ other_replies place ended.old.items }
-    ensures left { others.new.items ≡ [] }
-    ensures told { ended.new.items ≡ [] }
-{
-    let none = Vec::new(*others.allocator());
-    if ended.is_empty() {
-        return none;
-    }
-    tell_each(journal, others, place, ended);
-    mem::replace(others, none)
-}
-
-/// Enters how the waiting calls ended that an event ended, and moves the replies to them to an empty list
-/// that has room.
-#[inline(never)]
-fn tell_each(
-    journal: &mut Journal,
-    others: &mut Vec<(u32, Reply)>,
-    place: u64,
-    ended: &mut Vec<Completion>,
-)
-    requires few { vec_len ended.old ≤ 65 }
-    requires journal_room { vec_len ended.old ≤ journal.old.room }
-    requires empty { others.old.items ≡ [] }
-    requires room { vec_len ended.old ≤ vec_capacity others.old }
-    ensures rows { journal.new.rows ≡ journal.old.rows ++ map answered_row (replies_to_ended place 1 ended.old.items) }
-    ensures others { others.new.items ≡ other_replies place ended.old.items }
-    ensures told { ended.new.items ≡ [] }
-{
-    let mut turn = 1;
-    for completion in ended.drain(..) {
-        let Completion { client, outcome } = completion;
-        journal.enter(answered(client, place, turn, &outcome));
-        let reply = Reply::Entered {
-            place,
-            turn,
-            outcome,
-        };
-        others.push((client, reply)).unwrap();
-        turn += 1;
-    }
-}
-
-/// The row of an answer.
-#[inline(always)]
-fn answered(client: u32, place: u64, turn: u32, outcome: &Outcome) -> JournalRow
-    ensures { result ≡ answered_row (record { client = client; place = place; turn = turn; outcome = outcome.now }) }
-{
-    JournalRow::Answered {
-        client,
-        place,
-        turn,
-        rule: refusal(outcome),
-    }
-}
-
-/// The rule that refused the call, None where it was served.
-#[inline(always)]
-fn refusal(outcome: &Outcome) -> Option<Rule>
-    ensures { result ≡ rule_in outcome.now }
-{
-    match outcome {
-        Ok(_) => None,
-        Err(rule) => Some(*rule),
+impl Ledger {
+    /// The same namespace, which keeps its journal. Nothing of it was handed out.
+    pub fn into_space(self) -> Space
+        requires { self.given ≡ 0 }
+        ensures { result ≡ self.history }
+    {
+        Space { ledger: self }
     }
 }

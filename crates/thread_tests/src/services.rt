@@ -1,7 +1,7 @@
 // Clients of one service, alone and in threads.
-ghost use Rattle.std.specs.Prelude.{◌≡◌, ◌≤◌, ⊤, vec_len, All, IfOk};
+ghost use Rattle.std.specs.Prelude.{◌≡◌, ◌≤◌, ⊤, true, vec_len, All, IfOk};
 ghost use Rattle.ipc_combiner.specs.Closing.{IsClientOf};
-ghost use Rattle.ipc_combiner.specs.States.{IsOf, IsUnjoinedOf};
+ghost use Rattle.ipc_combiner.specs.States.{IsOf, IsUnjoinedOf, keeps};
 
 use ipc_call::{Answer, Call, IPC_NOWAIT, JournalRow, Kind, Limits, Outcome, Reply, Rule};
 use ipc_combiner::{Client, Idle, InFlight, Pass, PassGate, Polled, Seen, Service, Unjoined};
@@ -26,6 +26,7 @@ pub(crate) fn service_for(
 ) -> Result<(Service, Vec<Unjoined>), Fail>
     requires { (1 ≤ count) × (count ≤ 64) }
     ensures service { IfOk result (λ m. All (λ u. IsUnjoinedOf m.0.list u.fresh) m.1.items) }
+    ensures keeps { IfOk result (λ m. keeps m.0.list ≡ true) }
     ensures count { IfOk result (λ m. (vec_len m.1 ≡ count) × (m.0.list.clients ≡ count)) }
 {
     let alloc = rt.alloc();
@@ -388,6 +389,7 @@ fn closed(
     service: Service,
     asked: Vec<Asked>,
 ) -> Result<Space, Fail>
+    requires keeps { keeps service.list ≡ true }
     requires count { vec_len asked ≡ service.list.clients }
     requires service { All (λ a. IsOf service.list a.idle.joined) asked.items }
 {

@@ -2,14 +2,14 @@ use Rattle.std.proofs.Common.{◌≡◌, ℕ, All, map, ap, ◌∙◌}
 use Rattle.std.specs.Prelude.{IfSome}
 use Rattle.std.specs.List.{slice_get}
 use Rattle.std.specs.Arc.{arc_value}
-use Rattle.ipc_combiner.specs.States.{opened}
+use Rattle.ipc_combiner.specs.States.{keeps, opened}
 use Rattle.ipc_member.specs.Members.{AreOf, number_of, service_of}
 use Rattle.ipc_member.proofs.Numbers.{fresh_number, if_ok, numbers}
 use Rattle.ipc_member.proofs.opening.open.Goals as goal
 
 pub returns-clause-opening : goal.returns-clause-opening
 returns-clause-opening c = let service = arc_value c.in_ok-service-2.service in
-    if_ok _ _ c.joined.result (λ ms all. (service, ap (λ s. opened s.list) c.in_ok-service-2.ensures.ok ∙ c.in_ok-service.ensures.opening, all)) c.joined.ensures.service
+    if_ok _ _ c.joined.result (λ ms all. (service, ap (λ s. opened s.list) c.in_ok-service-2.ensures.ok ∙ c.in_ok-service.ensures.opening, all, ap (λ s. keeps s.list) c.in_ok-service-2.ensures.ok ∙ c.in_ok-service.ensures.keeps)) c.joined.ensures.service
 
 pub returns-clause-numbers : goal.returns-clause-numbers
 returns-clause-numbers c =

@@ -14,7 +14,7 @@ returns-clause-opened c =
     let of_limits : Limits → History = λ l. record { limits = l; clients = c.in_ok-creds.creds.items; events = [] } in
     let of_clients : List Credentials → History = λ cs. record { limits = limits_in c.args.limits.now; clients = cs; events = [] } in (
       c.in_ok-members.members.items,
-      (o.opening.0, o.opening.1 ∙ ap of_limits c.limits-limits.ensures ∙ ap of_clients c.in_ok-creds.ensures, o.opening.2),
+      (o.opening.0, o.opening.1 ∙ ap of_limits c.limits-limits.ensures ∙ ap of_clients c.in_ok-creds.ensures, o.opening.2, o.opening.3),
       count,
       o.numbers,
       c.in_ok-seated.ensures,

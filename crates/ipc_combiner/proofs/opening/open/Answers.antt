@@ -3,7 +3,7 @@ use Rattle.std.specs.List.{slice_get}
 use Rattle.ipc_combiner.specs.Serving.{entries_in}
 use Rattle.ipc_combiner.specs.States.{IsUnjoinedOf}
 use Rattle.ipc_combiner.proofs.Opened.{placed, all_of}
-use Rattle.ipc_combiner.proofs.states.Service.start.Goals as goal
+use Rattle.ipc_combiner.proofs.opening.open.Goals as goal
 
 pub returns-clause-numbers : goal.returns-clause-numbers
 returns-clause-numbers c = placed (λ u. u.fresh) (λ k f. f.client ≡ k) c.in_ok-unjoined.unjoined.items

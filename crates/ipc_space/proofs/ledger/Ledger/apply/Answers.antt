@@ -5,12 +5,11 @@ use Rattle.ipc_model.specs.Step.{Event, Stepped, step}
 use Rattle.ipc_history.specs.History.{History, IsLegalAt, answered_row, next_step, rows_by, run, replies_to_ended, reply_to_own, with_event, IsLegal}
 use Rattle.ipc_history.specs.Waits.{AreNotReady}
 use Rattle.ipc_call.specs.declared.limits.Limits.{Limits}
-use Rattle.ipc_space.specs.Spaces.{CanOpen, IsOfHistory, history_in, other_replies}
+use Rattle.ipc_space.specs.Spaces.{CanOpen, IsOfHistory, Parts, history_in, other_replies}
 use Rattle.ipc_space.proofs.Histories.{IsOfHistory-push, clients-reached, length-events_in, rows_by-entered}
-use Rattle.ipc_space.proofs.Once.{waits_once}
-use Rattle.ipc_space.proofs.Permitted.{run_attached, run_not_ready, run_permitted, run_in_time}
-use Rattle.ipc_space.proofs.space.Space.apply.Goals as goal
-use Rattle.ipc_space.proofs.space.Space.apply.Goals.{After-tell_others-others}
+use Rattle.ipc_space.proofs.Permitted.{run_not_ready}
+use Rattle.ipc_space.proofs.ledger.Ledger.apply.Goals as goal
+use Rattle.ipc_space.proofs.ledger.Ledger.apply.Goals.{After-tell_others-others}
 use Rattle.ipc_space.proofs.Balance.{caller-apart}
 use Rattle.ipc_space.specs.Telling.{replies_in}
 
@@ -20,6 +19,10 @@ event c = record { client = c.args.client; now = c.args.now; call = c.args.call 
 stepped : (c : After-tell_others-others) → Stepped
 stepped c = record { state = c.serve-served.new.self; own = c.in-Ok-served.outcome; ended = c.serve-served.new.ended.items }
 
+-- the history that it was
+was : (c : After-tell_others-others) → history_in c.self.inside.namespace.limits c.self.inside.opening.items c.self.inside.journal.rows ≡ c.args.self.now.history
+was c = ap (λ (p : Parts). p.history) c.self.view_is
+
 -- the client is known, by the credentials at the start as by those now
 among : (clients now count : ℕ) → now ≡ clients → count < clients → count < now
 among clients now count same less = omega (arith, same, less)
@@ -28,13 +31,13 @@ known : (c : After-tell_others-others) → c.args.client < length c.self.inside.
 known c =
     let s = c.self.inside in
     among (length s.opening.items) (length s.namespace.clients) c.args.client (clients-reached s.namespace s.opening.items s.journal.rows s.events c.self.invariant.0)
-    (subst (λ (h : History). c.args.client < length h.clients) (sym c.self.view_is) c.requires.known)
+    (subst (λ (h : History). c.args.client < length h.clients) (sym (was c)) c.requires.known)
 
 legal : (c : After-tell_others-others) → IsLegalAt c.self.inside.namespace (event c)
 unfolding event
 legal c = record {
   known = known c;
-  free = ap (λ (s : State). is_waiting s c.args.client) (c.self.invariant.0.state ∙ ap run c.self.view_is) ∙ c.requires.free;
+  free = ap (λ (s : State). is_waiting s c.args.client) (c.self.invariant.0.state ∙ ap run (was c)) ∙ c.requires.free;
 }
 
 rows : (c : After-tell_others-others) → c.tell_others-others.new.journal.rows ≡ c.self.inside.journal.rows ++ rows_by (c.self.inside.events + 1) (event c) (stepped c)
@@ -76,22 +79,7 @@ pub returns-clause-event : goal.returns-clause-event
 unfolding event
 returns-clause-event c =
     let b = (goal.at.returns-clause-event c).After-tell_others-others in
-    (longer b).1 ∙ ap (λ (h : History). with_event h (event b)) c.self.view_is
-
-pub returns-clause-not_ready : goal.returns-clause-not_ready
-returns-clause-not_ready c = run_not_ready (history_in c.serve-served.new.self.limits c.self.inside.opening.items c.tell_others-others.new.journal.rows)
-
-pub returns-clause-permitted : goal.returns-clause-permitted
-returns-clause-permitted c = run_permitted (history_in c.serve-served.new.self.limits c.self.inside.opening.items c.tell_others-others.new.journal.rows)
-
-pub returns-clause-in_time : goal.returns-clause-in_time
-returns-clause-in_time c = run_in_time (history_in c.serve-served.new.self.limits c.self.inside.opening.items c.tell_others-others.new.journal.rows)
-
-pub returns-clause-attached : goal.returns-clause-attached
-returns-clause-attached c = run_attached (history_in c.serve-served.new.self.limits c.self.inside.opening.items c.tell_others-others.new.journal.rows)
-
-pub returns-clause-once : goal.returns-clause-once
-returns-clause-once c = waits_once (history_in c.serve-served.new.self.limits c.self.inside.opening.items c.tell_others-others.new.journal.rows) (longer (goal.at.returns-clause-once c).After-tell_others-others).0.legal
+    (longer b).1 ∙ ap (λ (h : History). with_event h (event b)) (was b)
 
 pub returns-clause-legal : goal.returns-clause-legal
 returns-clause-legal c = (longer (goal.at.returns-clause-legal c).After-tell_others-others).0.legal
@@ -100,7 +88,7 @@ pub serve-served-requires-clause-known : goal.serve-served-requires-clause-known
 serve-served-requires-clause-known c =
     let s = c.self.inside in
     among (length s.opening.items) (length s.namespace.clients) c.args.client (clients-reached s.namespace s.opening.items s.journal.rows s.events c.self.invariant.0)
-    (subst (λ (h : History). c.args.client < length h.clients) (sym c.self.view_is) c.requires.known)
+    (subst (λ (h : History). c.args.client < length h.clients) (sym (ap (λ (p : Parts). p.history) c.self.view_is)) c.requires.known)
 
 pub returns-clause-apart : goal.returns-clause-apart
 unfolding event stepped

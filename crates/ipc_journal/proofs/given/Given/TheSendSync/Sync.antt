@@ -1,0 +1,7 @@
+-- And any thread may share it.
+use denote.Param.Send.{IsSync, part_keyless}
+use Rattle.ipc_journal.specs.contracts.given.Given.{the_row}
+use Rattle.ipc_journal.proofs.given.Given.TheSendSync.Send.{send}
+
+pub sync : IsSync the_row
+sync = record { shared = λ d b o κ q. part_keyless the_row send q d b o }
