@@ -51,6 +51,11 @@ static void calling(ipcsh *alice, ipcsh *bob)
     tell("advance without a handle", ipcsh_advance(NULL, &reply, NULL));
     tell("advance without a reply", ipcsh_advance(alice, NULL, NULL));
     tell("advance to bytes at NULL", ipcsh_advance(alice, &reply, &room));
+    tell("call without a handle", ipcsh_call(NULL, &request, NULL, &reply, NULL));
+    tell("call without a request", ipcsh_call(alice, NULL, NULL, &reply, NULL));
+    tell("call without a reply", ipcsh_call(alice, &request, NULL, NULL, NULL));
+    tell("call with bytes at NULL", ipcsh_call(alice, &request, &lists, &reply, NULL));
+    tell("call to bytes at NULL", ipcsh_call(alice, &request, NULL, &reply, &room));
     tell("advance without a call", ipcsh_advance(alice, &reply, NULL));
     printf("the reply is %s\n", reply.place == 77 ? "as it was" : "changed");
     request.op = 25;
@@ -60,6 +65,7 @@ static void calling(ipcsh *alice, ipcsh *bob)
     request.op = IPCSH_STAT;
     request.kind = 3;
     tell("a kind that there isn't", ipcsh_post(alice, &request, NULL));
+    tell("a call of it", ipcsh_call(alice, &request, NULL, &reply, NULL));
     tell("msgget without a place for the identifier", ipcsh_msgget(alice, 0, 1, IPCSH_CREAT | 0600, &reply, NULL));
     tell("msgget", ipcsh_msgget(alice, 0, 1, IPCSH_CREAT | 0600, &reply, &queue));
     printf("its place is %u: none of those above was called\n", (unsigned)reply.place);
@@ -87,6 +93,7 @@ static void keeping(ipcsh *alice, ipcsh *bob)
     tell("post once more", ipcsh_post(alice, &receive, NULL));
     tell("advance", ipcsh_advance(alice, &reply, &room));
     tell("post while it waits", ipcsh_post(alice, &receive, NULL));
+    tell("call while it waits", ipcsh_call(alice, &receive, NULL, &reply, &room));
     tell("bob may not send", ipcsh_msgsnd(bob, 0, 0, 1, "hello", 5, 0, &reply));
     tell("bob interrupts alice", ipcsh_interrupt(bob, 0, 1, &reply));
     printf("    %s\n", ipcsh_rule_name(reply.rule));
@@ -99,6 +106,13 @@ static void keeping(ipcsh *alice, ipcsh *bob)
     tell("advance with room for 8 bytes", ipcsh_advance(alice, &reply, &room));
     printf("    %u bytes, and in the room %.8s\n", (unsigned)reply.len, text);
     tell("advance once more", ipcsh_advance(alice, &reply, &room));
+    tell("bob sends again", ipcsh_msgsnd(bob, 0, 0, 1, "again", 5, 0, &reply));
+    room.bytes_len = 4;
+    tell("call with room for 4 bytes", ipcsh_call(alice, &receive, NULL, &reply, &room));
+    tell("call before its reply is taken", ipcsh_call(alice, &receive, NULL, &reply, &room));
+    room.bytes_len = 8;
+    tell("wait with room for 8 bytes", ipcsh_wait(alice, &reply, &room));
+    printf("    %u bytes, and in the room %.8s\n", (unsigned)reply.len, text);
     tell("post, and leave it in flight", ipcsh_post(alice, &receive, NULL));
 }
 

@@ -7,6 +7,7 @@
 
 #include <pthread.h>
 #include <stdarg.h>
+#include <stdatomic.h>
 #include <stdio.h>
 #include <stdlib.h>
 
@@ -32,6 +33,9 @@ struct client {
 
 static struct client clients[CLIENTS];
 static struct called *all[CALLS];
+
+/* The latest place of a call that has ended: one that begins then has a later place. */
+static _Atomic uint64_t latest;
 
 static void put(struct text *text, const char *format, ...)
 {
@@ -258,6 +262,20 @@ static void put_reply(struct client *it, struct text *row, const struct ipcsh_re
     }
 }
 
+/* Half of them are called, and half posted and waited for. Half have no room at first, and then enough: nothing is lost. */
+static int asked(struct client *it, const struct ipcsh_request *request, const struct ipcsh_lists *lists, struct ipcsh_reply *reply, const struct ipcsh_room *room)
+{
+    const struct ipcsh_room *first = any(it, 2) ? room : NULL;
+    int code;
+    if (any(it, 2)) {
+        code = ipcsh_call(it->handle, request, lists, reply, first);
+    } else {
+        code = ipcsh_post(it->handle, request, lists);
+        code = code ? code : ipcsh_wait(it->handle, reply, first);
+    }
+    return code == IPCSH_NO_ROOM ? ipcsh_wait(it->handle, reply, room) : code;
+}
+
 static void call(struct client *it, struct called *called)
 {
     struct ipcsh_request request = ipcsh_request_of(any_op(it), any(it, 1000));
@@ -270,15 +288,17 @@ static void call(struct client *it, struct called *called)
     const struct ipcsh_room room = {bytes, sizeof bytes, values, SEMS, objects, OBJECTS};
     put(&called->line, "clock %llu\nc%d %s", (unsigned long long)request.clock, it->number, op_names[request.op]);
     any_call(it, &request, &own, &lists, &called->line);
-    /* Half of them have no room at first, and then enough: nothing is lost. */
-    int code = ipcsh_call(it->handle, &request, &lists, &reply, any(it, 2) ? &room : NULL);
-    if (code == IPCSH_NO_ROOM)
-        code = ipcsh_wait(it->handle, &reply, &room);
+    uint64_t before = latest;
+    int code = asked(it, &request, &lists, &reply, &room);
     if (code)
         put(&called->row, "code %d", code);
     else
         put_reply(it, &called->row, &reply, &room);
+    if (reply.place <= before)
+        put(&called->row, " after %llu", (unsigned long long)before);
     called->place = reply.place;
+    while (before < reply.place && !atomic_compare_exchange_weak(&latest, &before, reply.place)) {
+    }
 }
 
 static void *run(void *given)
