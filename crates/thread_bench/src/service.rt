@@ -3,18 +3,14 @@ ghost use Rattle.std.specs.Prelude.{All, IfOk, IfSome};
 ghost use Rattle.thread_bench.specs.Service.{IsClientOf, IsNewOf};
 
 use crate::asking::{Asker, Made, Patience, Task, Took, calls_each};
-use crossbeam_utils::Backoff;
-use ipc_call::{Call, Reply};
-use ipc_combiner::{Idle, Polled, Service, Unjoined};
+use ipc_combiner::{Idle, Service, Unjoined};
 use std::alloc::{AllocError, Global};
+use std::sync::Wait;
 use std::thread::Threads;
 use std::time::Instant;
 use std::{io, thread};
 use test_support::clients::few_users;
 use test_support::measuring::{Run, unanswered, widest_limits};
-
-/// How often a client looks for the reply to a call before it gives up.
-const TURNS: u64 = 10_000_000;
 
 /// A client of the service, and its calls.
 #[derive(Drop)]
@@ -23,31 +19,18 @@ struct Worker {
     asker: Asker,
 }
 
-/// One call of a client of the service: it posts, and serves what there is, and looks, until the reply is there.
-/// `None` where its turns have run out.
-fn call(service: &Service, idle: Idle, asked: Call) -> Option<(Idle, Reply)>
-    requires { IsClientOf service.now idle }
-    ensures { IfSome result (λ m. IsClientOf service.now m.0) }
-{
-    let mut flight = idle.post(service, 0, asked);
-    let backoff = Backoff::new();
-    for _ in 0..TURNS {
-        flight.combine(service);
-        match flight.poll(service) {
-            Polled::Done(idle, reply) => return Some((idle, reply)),
-            Polled::Still(still, _) => flight = still,
-        }
-        backoff.snooze();
-    }
-    None
-}
-
 /// A client makes a queue, a set or a segment.
-fn make(service: &Service, idle: Idle, asker: &mut Asker, made: Made) -> Option<Idle>
+fn make<R: Wait>(
+    rt: &R,
+    service: &Service,
+    idle: Idle,
+    asker: &mut Asker,
+    made: Made,
+) -> Option<Idle>
     requires { IsClientOf service.now idle }
     ensures { IfSome result (λ idle. IsClientOf service.now idle) }
 {
-    let (idle, reply) = call(service, idle, asker.making(made))?;
+    let (idle, reply) = idle.call(rt, service, 0, asker.making(made));
     if asker.take_made(made, reply) {
         Some(idle)
     } else {
@@ -56,7 +39,8 @@ fn make(service: &Service, idle: Idle, asker: &mut Asker, made: Made) -> Option<
 }
 
 /// A client of so many joins, and makes what it needs.
-fn begin(
+fn begin<R: Wait>(
+    rt: &R,
     service: &Service,
     unjoined: Unjoined,
     alloc: Global,
@@ -68,14 +52,14 @@ fn begin(
 {
     let idle = unjoined.join(service);
     let mut asker = Asker::new(alloc, task, Patience::Waits, idle.client(), clients).ok()?;
-    let idle = make(service, idle, &mut asker, Made::Queue)?;
-    let idle = make(service, idle, &mut asker, Made::Set)?;
-    let idle = make(service, idle, &mut asker, Made::Segment)?;
+    let idle = make(rt, service, idle, &mut asker, Made::Queue)?;
+    let idle = make(rt, service, idle, &mut asker, Made::Set)?;
+    let idle = make(rt, service, idle, &mut asker, Made::Segment)?;
     Some(Worker { idle, asker })
 }
 
 /// So many calls of a client that joined: how many were answered as they should be.
-fn ask_often(worker: Option<Worker>, service: &Service, calls: u32) -> u32
+fn ask_often<R: Wait>(rt: &R, worker: Option<Worker>, service: &Service, calls: u32) -> u32
     requires { IfSome worker (λ x. IsClientOf service.now x.idle) }
 {
     let Some(
@@ -92,9 +76,7 @@ fn ask_often(worker: Option<Worker>, service: &Service, calls: u32) -> u32
         let Ok(asked) = asker.next() else {
             return answered;
         };
-        let Some((next, reply)) = call(service, idle, asked) else {
-            return answered;
-        };
+        let (next, reply) = idle.call(rt, service, 0, asked);
         idle = next;
         answered = answered.wrapping_add(u32::from(asker.take(reply) == Took::Wanted));
     }
@@ -102,7 +84,7 @@ fn ask_often(worker: Option<Worker>, service: &Service, calls: u32) -> u32
 }
 
 /// Each client joins, in a thread of its own.
-fn begun<R: Threads + Sync>(
+fn begun<R: Threads + Wait + Sync>(
     rt: &R,
     service: &Service,
     clients: Vec<Unjoined>,
@@ -119,12 +101,12 @@ fn begun<R: Threads + Sync>(
         &|unjoined: Unjoined| -> Option<Worker>
             requires { IsNewOf service.now unjoined }
             ensures { IfSome result (λ x. IsClientOf service.entry.now x.idle) }
-        { begin(service, unjoined, alloc, task, count) },
+        { begin(rt, service, unjoined, alloc, task, count) },
     )
 }
 
 /// Each client makes so many calls, in a thread of its own: how many of each were answered as they should.
-fn asked<R: Threads + Sync>(
+fn asked<R: Threads + Wait + Sync>(
     rt: &R,
     service: &Service,
     workers: Vec<Option<Worker>>,
@@ -137,7 +119,7 @@ fn asked<R: Threads + Sync>(
         workers,
         &|worker: Option<Worker>| -> u32
             requires { IfSome worker (λ x. IsClientOf service.now x.idle) }
-        { ask_often(worker, service, calls) },
+        { ask_often(rt, worker, service, calls) },
     )
 }
 
@@ -150,7 +132,7 @@ fn started(rt: &HostRuntime, clients: u32) -> io::Result<(Service, Vec<Unjoined>
 }
 
 /// So many clients of the service make as many calls together, each in a thread of its own.
-pub fn of_service<W: Threads + Sync>(
+pub fn of_service<W: Threads + Wait + Sync>(
     rt: &HostRuntime,
     threads: &W,
     task: Task,
@@ -166,7 +148,7 @@ pub fn of_service<W: Threads + Sync>(
 }
 
 /// One client of so many that joined makes all calls; the others ask nothing.
-pub fn among_idle<W: Threads + Sync>(
+pub fn among_idle<W: Threads + Wait + Sync>(
     rt: &HostRuntime,
     threads: &W,
     task: Task,
@@ -179,6 +161,6 @@ pub fn among_idle<W: Threads + Sync>(
         return Err(unanswered());
     };
     let start = Instant::now(rt)?;
-    let answered = ask_often(worker, &service, calls);
+    let answered = ask_often(threads, worker, &service, calls);
     Run::of_each(rt, start, calls, &[answered])
 }

@@ -2,4 +2,4 @@ use Rattle.thread_bench.specs.Service.{IsClientOf}
 use Rattle.thread_bench.proofs.service.ask_often.Given as goal
 
 abbrev pub invariant-loop : goal.invariant-loop
-invariant-loop l = IsClientOf l.service l.idle
+invariant-loop g l = IsClientOf l.service l.idle
