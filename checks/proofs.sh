@@ -20,6 +20,16 @@ counts_instructions() {
     waiting_costs_little "$scratch/out"
 }
 
+# So are those of docs/C.md.
+counts_calls_from_c() {
+    built member_bench || return 1
+    built ipcsh_c || return 1
+    ./bench c >"$scratch/out" || return 1
+    why='docs/C.md has other figures, or less than five rows of them:'
+    awk -f lib/c_instructions.awk "$scratch/out" docs/C.md >"$scratch/shown"
+    [ ! -s "$scratch/shown" ]
+}
+
 # Calls of others that wait elsewhere cost a call at most a tenth more: none of them is tried.
 waiting_costs_little() {
     why='beside 62 calls that wait elsewhere a call takes more than 1.1 times its instructions, or none was counted:'
@@ -29,16 +39,6 @@ waiting_costs_little() {
             for (name in names) if (of[name, 62] > 0 && of[name, 62] <= 1.1 * of[name, 0]) fine++; else print name, of[name, 0], of[name, 62]
             if (fine != 2) print fine + 0 " kinds of calls"
         }' "$1" >"$scratch/shown"
-    [ ! -s "$scratch/shown" ]
-}
-
-# So are those of docs/C.md.
-counts_calls_from_c() {
-    built member_bench || return 1
-    built ipcsh_c || return 1
-    ./bench c >"$scratch/out" || return 1
-    why='docs/C.md has other figures, or less than five rows of them:'
-    awk -f lib/c_instructions.awk "$scratch/out" docs/C.md >"$scratch/shown"
     [ ! -s "$scratch/shown" ]
 }
 

@@ -159,38 +159,18 @@ static inline uint64_t *ipcsh_nowhere(void)
 }
 #define IPCSH_SOME(pointer, type) ((pointer) ? (pointer) : (type *)ipcsh_nowhere())
 
-/* No lists, and no room, where there is a null pointer. */
-static inline const struct ipcsh_lists *ipcsh_lists_of(const struct ipcsh_lists *lists)
-{
-    static const struct ipcsh_lists none = { 0, 0, 0, 0, 0, 0, 0, 0 };
-    return lists ? lists : &none;
-}
-
+/* No room where there is a null pointer. */
 static inline const struct ipcsh_room *ipcsh_room_of(const struct ipcsh_room *room)
 {
     static const struct ipcsh_room none = { 0, 0, 0, 0, 0, 0 };
     return room ? room : &none;
 }
 
-/* Whether each list, or place for one, that isn't empty has an address. */
-static inline int ipcsh_has_lists(const struct ipcsh_lists *lists)
-{
-    return (lists->text || !lists->text_len) && (lists->ops || !lists->ops_len) && (lists->values || !lists->values_len) &&
-           (lists->groups || !lists->groups_len);
-}
-
+/* Whether each place for a list that isn't empty has an address. */
 static inline int ipcsh_has_room(const struct ipcsh_room *room)
 {
     return (room->bytes || !room->bytes_len) && (room->values || !room->values_len) && (room->objects || !room->objects_len);
 }
-
-/* The lists as the exports take them, and where those of a reply go. */
-#define IPCSH_LISTS(lists) \
-    IPCSH_SOME((lists)->text, const void), (lists)->text_len, IPCSH_SOME((lists)->ops, const struct ipcsh_semop), (lists)->ops_len, \
-        IPCSH_SOME((lists)->values, const uint16_t), (lists)->values_len, IPCSH_SOME((lists)->groups, const uint32_t), (lists)->groups_len
-#define IPCSH_ROOM(room) \
-    IPCSH_SOME((room)->bytes, void), (room)->bytes_len, IPCSH_SOME((room)->values, uint16_t), (room)->values_len, \
-        IPCSH_SOME((room)->objects, struct ipcsh_object), (room)->objects_len
 
 /*
  * Opens a service for n clients, 1 to 64, and writes a handle for each to `handles`, in their order. Each is to be closed.
@@ -217,10 +197,15 @@ static inline void ipcsh_close(ipcsh *handle)
  */
 static inline int ipcsh_post(ipcsh *handle, const struct ipcsh_request *request, const struct ipcsh_lists *lists)
 {
-    lists = ipcsh_lists_of(lists);
-    if (!handle || !request || !ipcsh_has_lists(lists))
+    static const struct ipcsh_lists none = { 0, 0, 0, 0, 0, 0, 0, 0 };
+    if (!lists)
+        lists = &none;
+    if (!handle || !request || (!lists->text && lists->text_len) || (!lists->ops && lists->ops_len) || (!lists->values && lists->values_len) ||
+        (!lists->groups && lists->groups_len))
         return IPCSH_NULL;
-    return ipcsh_raw_post(handle, request, IPCSH_LISTS(lists));
+    return ipcsh_raw_post(handle, request, IPCSH_SOME(lists->text, const void), lists->text_len, IPCSH_SOME(lists->ops, const struct ipcsh_semop),
+                          lists->ops_len, IPCSH_SOME(lists->values, const uint16_t), lists->values_len, IPCSH_SOME(lists->groups, const uint32_t),
+                          lists->groups_len);
 }
 
 /*
@@ -233,7 +218,8 @@ static inline int ipcsh_advance(ipcsh *handle, struct ipcsh_reply *reply, const 
     room = ipcsh_room_of(room);
     if (!handle || !reply || !ipcsh_has_room(room))
         return IPCSH_NULL;
-    return ipcsh_raw_advance(handle, reply, IPCSH_ROOM(room));
+    return ipcsh_raw_advance(handle, reply, IPCSH_SOME(room->bytes, void), room->bytes_len, IPCSH_SOME(room->values, uint16_t), room->values_len,
+                             IPCSH_SOME(room->objects, struct ipcsh_object), room->objects_len);
 }
 
 /*
@@ -254,12 +240,7 @@ static inline int ipcsh_wait(ipcsh *handle, struct ipcsh_reply *reply, const str
 static inline int ipcsh_call(ipcsh *handle, const struct ipcsh_request *request, const struct ipcsh_lists *lists, struct ipcsh_reply *reply,
                              const struct ipcsh_room *room)
 {
-    int code;
-    lists = ipcsh_lists_of(lists);
-    room = ipcsh_room_of(room);
-    if (!handle || !request || !reply || !ipcsh_has_lists(lists) || !ipcsh_has_room(room))
-        return IPCSH_NULL;
-    code = ipcsh_raw_post(handle, request, IPCSH_LISTS(lists));
+    int code = reply && ipcsh_has_room(ipcsh_room_of(room)) ? ipcsh_post(handle, request, lists) : IPCSH_NULL;
     return code ? code : ipcsh_wait(handle, reply, room);
 }
 
