@@ -151,6 +151,13 @@ int32_t ipcsh_raw_post(ipcsh *, const struct ipcsh_request *, const void *, size
 int32_t ipcsh_raw_advance(ipcsh *, struct ipcsh_reply *, void *, size_t, uint16_t *, size_t, struct ipcsh_object *, size_t);
 void ipcsh_raw_close(ipcsh *);
 
+/* The way of a call: inlined, it costs few of the tests on it, since a call by name gives most of their operands as constants. */
+#if defined(__GNUC__)
+#define IPCSH_INLINE static inline __attribute__((always_inline))
+#else
+#define IPCSH_INLINE static inline
+#endif
+
 /* A slice of no elements has an address too. */
 static inline uint64_t *ipcsh_nowhere(void)
 {
@@ -160,14 +167,14 @@ static inline uint64_t *ipcsh_nowhere(void)
 #define IPCSH_SOME(pointer, type) ((pointer) ? (pointer) : (type *)ipcsh_nowhere())
 
 /* No room where there is a null pointer. */
-static inline const struct ipcsh_room *ipcsh_room_of(const struct ipcsh_room *room)
+IPCSH_INLINE const struct ipcsh_room *ipcsh_room_of(const struct ipcsh_room *room)
 {
     static const struct ipcsh_room none = { 0, 0, 0, 0, 0, 0 };
     return room ? room : &none;
 }
 
 /* Whether each place for a list that isn't empty has an address. */
-static inline int ipcsh_has_room(const struct ipcsh_room *room)
+IPCSH_INLINE int ipcsh_has_room(const struct ipcsh_room *room)
 {
     return (room->bytes || !room->bytes_len) && (room->values || !room->values_len) && (room->objects || !room->objects_len);
 }
@@ -195,7 +202,7 @@ static inline void ipcsh_close(ipcsh *handle)
  * Posts a call: any thread that advances a handle of the service may serve it from now on. What it is given is copied.
  * IPCSH_UNKNOWN, IPCSH_BUSY, IPCSH_UNTAKEN, IPCSH_NO_MEMORY, IPCSH_NULL: nothing is posted.
  */
-static inline int ipcsh_post(ipcsh *handle, const struct ipcsh_request *request, const struct ipcsh_lists *lists)
+IPCSH_INLINE int ipcsh_post(ipcsh *handle, const struct ipcsh_request *request, const struct ipcsh_lists *lists)
 {
     static const struct ipcsh_lists none = { 0, 0, 0, 0, 0, 0, 0, 0 };
     if (!lists)
@@ -213,7 +220,7 @@ static inline int ipcsh_post(ipcsh *handle, const struct ipcsh_request *request,
  * IPCSH_OK: `reply` and the lists in `room` are those of the reply, which is taken. IPCSH_IN_FLIGHT, IPCSH_WAITING: they are as they were.
  * IPCSH_NO_ROOM: `reply` is that of the reply, which isn't taken; call it again with more room. IPCSH_NO_CALL, IPCSH_NULL: nothing is done.
  */
-static inline int ipcsh_advance(ipcsh *handle, struct ipcsh_reply *reply, const struct ipcsh_room *room)
+IPCSH_INLINE int ipcsh_advance(ipcsh *handle, struct ipcsh_reply *reply, const struct ipcsh_room *room)
 {
     room = ipcsh_room_of(room);
     if (!handle || !reply || !ipcsh_has_room(room))
@@ -226,7 +233,7 @@ static inline int ipcsh_advance(ipcsh *handle, struct ipcsh_reply *reply, const 
  * Goes on with the handle's call until it has ended, and gives up the processor in between. A call that waits ends by another client's call
  * alone, so this may never return. What it returns is that of ipcsh_advance, but for IPCSH_IN_FLIGHT and IPCSH_WAITING.
  */
-static inline int ipcsh_wait(ipcsh *handle, struct ipcsh_reply *reply, const struct ipcsh_room *room)
+IPCSH_INLINE int ipcsh_wait(ipcsh *handle, struct ipcsh_reply *reply, const struct ipcsh_room *room)
 {
     unsigned tries = 0;
     int code;
@@ -237,7 +244,7 @@ static inline int ipcsh_wait(ipcsh *handle, struct ipcsh_reply *reply, const str
 }
 
 /* The same as ipcsh_post and then ipcsh_wait. IPCSH_NULL: nothing is posted. */
-static inline int ipcsh_call(ipcsh *handle, const struct ipcsh_request *request, const struct ipcsh_lists *lists, struct ipcsh_reply *reply,
+IPCSH_INLINE int ipcsh_call(ipcsh *handle, const struct ipcsh_request *request, const struct ipcsh_lists *lists, struct ipcsh_reply *reply,
                              const struct ipcsh_room *room)
 {
     int code = reply && ipcsh_has_room(ipcsh_room_of(room)) ? ipcsh_post(handle, request, lists) : IPCSH_NULL;
@@ -261,7 +268,7 @@ static inline const char *ipcsh_rule_name(uint32_t code)
  * The calls by name. Each posts its call at the time `clock`, in seconds, and waits for it. 0: it was granted. Above 0: the number of its error
  * (errno(3)); `reply->rule` says why. Below 0: as ipcsh_post and ipcsh_wait have it. IPCSH_NO_ROOM leaves the reply to be taken by ipcsh_wait.
  */
-static inline int ipcsh_named(ipcsh *handle, const struct ipcsh_request *request, const struct ipcsh_lists *lists, struct ipcsh_reply *reply,
+IPCSH_INLINE int ipcsh_named(ipcsh *handle, const struct ipcsh_request *request, const struct ipcsh_lists *lists, struct ipcsh_reply *reply,
                               const struct ipcsh_room *room)
 {
     int code = ipcsh_call(handle, request, lists, reply, room);
