@@ -4,5 +4,6 @@ pub mod Entries
 pub mod Laws
 pub mod Parts
 pub mod Serving
+pub mod Started
 pub mod States
 pub mod Telling

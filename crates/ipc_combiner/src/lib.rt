@@ -9,6 +9,7 @@ mod opening;
 mod parts;
 mod serving;
 mod shared;
+mod sleeping;
 mod states;
 mod telling;
 mod waiting;

@@ -1,10 +1,10 @@
 //! A service is opened.
-ghost use Rattle.std.specs.Prelude.{◌≡◌, ℕ, ◌≤◌, true, false, [], length, map, vec_len, IsTrue, IfOk, IfSome, All};
-ghost use Rattle.std.specs.List.{slice_get};
+ghost use Rattle.std.specs.Prelude.{◌≡◌, ◌≤◌, true, false, map, vec_len, IsTrue, IfOk};
 ghost use Rattle.ipc_call.specs.Limits.{are_in_range};
-ghost use Rattle.ipc_combiner.specs.States.{IsUnjoinedOf, keeps as keeps_journal, opened};
+ghost use Rattle.ipc_combiner.specs.Started.{IsStarted};
 
 use crate::shared::Shared;
+use crate::sleeping::Sleepers;
 use crate::states::{Service, Unjoined};
 use ipc_call::{Limits, Memory};
 use ipc_creds::Creds;
@@ -24,11 +24,7 @@ impl Service {
         requires limits { IsTrue (are_in_range limits) }
         requires some { 1 ≤ vec_len clients }
         requires few { vec_len clients ≤ 64 }
-        ensures opening { IfOk result (λ m. opened m.0.list ≡ record { limits = limits; clients = clients.items; events = [] }) }
-        ensures keeps { IfOk result (λ m. keeps_journal m.0.list ≡ true) }
-        ensures count { IfOk result (λ m. length m.1.items ≡ vec_len clients) }
-        ensures numbers { IfOk result (λ m. (k : ℕ) → IfSome (slice_get m.1.items k) (λ u. u.fresh.client ≡ k)) }
-        ensures service { IfOk result (λ m. All (λ u. IsUnjoinedOf m.0.list u.fresh) m.1.items) }
+        ensures { IfOk result (λ start. IsStarted limits clients true start) }
     {
         open(alloc, limits, clients, true)
     }
@@ -42,11 +38,7 @@ impl Service {
         requires limits { IsTrue (are_in_range limits) }
         requires some { 1 ≤ vec_len clients }
         requires few { vec_len clients ≤ 64 }
-        ensures opening { IfOk result (λ m. opened m.0.list ≡ record { limits = limits; clients = clients.items; events = [] }) }
-        ensures keeps { IfOk result (λ m. keeps_journal m.0.list ≡ false) }
-        ensures count { IfOk result (λ m. length m.1.items ≡ vec_len clients) }
-        ensures numbers { IfOk result (λ m. (k : ℕ) → IfSome (slice_get m.1.items k) (λ u. u.fresh.client ≡ k)) }
-        ensures service { IfOk result (λ m. All (λ u. IsUnjoinedOf m.0.list u.fresh) m.1.items) }
+        ensures { IfOk result (λ start. IsStarted limits clients false start) }
     {
         open(alloc, limits, clients, false)
     }
@@ -62,17 +54,14 @@ fn open(
     requires limits { IsTrue (are_in_range limits) }
     requires some { 1 ≤ vec_len clients }
     requires few { vec_len clients ≤ 64 }
-    ensures opening { IfOk result (λ m. opened m.0.list ≡ record { limits = limits; clients = clients.items; events = [] }) }
-    ensures keeps { IfOk result (λ m. keeps_journal m.0.list ≡ keeps) }
-    ensures count { IfOk result (λ m. length m.1.items ≡ vec_len clients) }
-    ensures numbers { IfOk result (λ m. (k : ℕ) → IfSome (slice_get m.1.items k) (λ u. u.fresh.client ≡ k)) }
-    ensures service { IfOk result (λ m. All (λ u. IsUnjoinedOf m.0.list u.fresh) m.1.items) }
+    ensures { IfOk result (λ start. IsStarted limits clients keeps start) }
 {
     let count = clients.len() as u32;
     let ledger = Box::new(alloc, Ledger::start(limits, clients)?)?;
     let (list, fresh) = List::new(alloc, count, Shared { ledger, keeps })?;
     let unjoined = unjoined_of(alloc, fresh)?;
-    Ok((Service { list }, unjoined))
+    let sleepers = Sleepers::none();
+    Ok((Service { list, sleepers }, unjoined))
 }
 
 // Clients that haven't joined, by their records.

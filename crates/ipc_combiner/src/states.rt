@@ -5,12 +5,14 @@ ghost use Rattle.ipc_combiner.specs.Laws.{IsLegal-prop};
 ghost use Rattle.ipc_combiner.specs.States.{IsIdle, IsInFlight, IsOpened};
 
 use crate::shared::Shared;
+use crate::sleeping::Sleepers;
 use pub_list::{Fresh, Joined, List};
 
 /// A namespace that its clients serve together. Threads share it by reference.
 #[derive(Drop)]
 pub struct Service {
     pub(crate) list: List<Shared>,
+    pub(crate) sleepers: Sleepers,
     ghost opened: { IsOpened list },
 }
 

@@ -10,7 +10,6 @@ use Rattle.pub_list.specs.declared.joined.Joined.{Joined}
 use Rattle.pub_list.specs.Clients.{work}
 use Rattle.ipc_combiner.specs.declared.calls.Pass.{Pass}
 use Rattle.ipc_combiner.specs.declared.calls.Pass.TheVariants.{Passed, Busy}
-use Rattle.ipc_combiner.specs.declared.calls.Seen.{Seen}
 use Rattle.ipc_combiner.specs.declared.entries.Entry.{Entry}
 use Rattle.ipc_combiner.specs.declared.shared.Shared.{Shared}
 use Rattle.ipc_combiner.specs.Asking.{HasCombined, HasDone, HasTried, IsFurther, IsStill}

@@ -16,6 +16,7 @@ mod list;
 mod making;
 mod passing;
 mod records;
+mod sleeping;
 mod telling;
 mod walking;
 

@@ -2,6 +2,8 @@
 #![tactic(auto)]
 
 #[cfg(test)]
+mod asleep;
+#[cfg(test)]
 mod passes;
 #[cfg(test)]
 mod quiet;

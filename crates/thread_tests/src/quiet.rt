@@ -15,7 +15,7 @@ use std::process::Abort;
 use std::test::Fail;
 use test_support::calls::{get, receive, semop, send, text};
 
-fn is_granted(reply: Reply) -> bool {
+pub(crate) fn is_granted(reply: Reply) -> bool {
     matches!(reply, Reply::Entered { outcome: Ok(_), .. })
 }
 

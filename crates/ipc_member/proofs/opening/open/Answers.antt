@@ -1,10 +1,7 @@
-use Rattle.std.proofs.Common.{◌≡◌, ℕ, All, map, ap, ◌∙◌}
-use Rattle.std.specs.Prelude.{IfSome}
-use Rattle.std.specs.List.{slice_get}
+use Rattle.std.proofs.Common.{ap, ◌∙◌}
 use Rattle.std.specs.Arc.{arc_value}
 use Rattle.ipc_combiner.specs.States.{keeps, opened}
-use Rattle.ipc_member.specs.Members.{AreOf, number_of, service_of}
-use Rattle.ipc_member.proofs.Numbers.{fresh_number, if_ok, numbers}
+use Rattle.ipc_member.proofs.Numbers.{if_ok, numbers}
 use Rattle.ipc_member.proofs.opening.open.Goals as goal
 
 pub returns-clause-opening : goal.returns-clause-opening

@@ -13,7 +13,7 @@ use Rattle.ipc_combiner.specs.States.{Records, keeps, opened}
 use Rattle.ipc_combiner.proofs.Closed.{words_onto, length-words, told_more, each_told, is_opened}
 use Rattle.ipc_combiner.proofs.Handing.{none_left}
 use Rattle.ipc_combiner.proofs.states.Service.close_ledger.Goals as goal
-use Rattle.ipc_combiner.proofs.states.Service.close_ledger.Goals.{After-into_inner}
+use Rattle.ipc_combiner.proofs.states.Service.close_ledger.Goals.{After-drop-self}
 
 pub add-requires-clause-list : goal.add-requires-clause-list
 add-requires-clause-list c = let i = c.loop-client.invariant in let list = c.args.self.list in
@@ -37,7 +37,7 @@ end-ledger-requires c = let i = c.loop-client.invariant in
 abbrev AtEnd : Shared → Records → List Client → Type 0
 AtEnd state list cs = All (λ x. IsTold (entries_in state) cs x) cs × IsOpenedBy (opened list) list.clients (history_of state) × (state.keeps ≡ keeps list)
 
-at_end : (c : After-into_inner) → AtEnd c.end-ledger.result c.args.self.list c.args.clients.items
+at_end : (c : After-drop-self) → AtEnd c.end-ledger.result c.args.self.list c.args.clients.items
 at_end c = let i = c.loop-client.invariant in let cs = c.args.clients.items in let list = c.args.self.list in let closer = c.loop-client.closing.closer in let state = c.end-ledger.result in
     let none : c.loop-client.client-iterator.rest.items ≡ [] = none_left _ (let size = c.loop-client.client-iterator.rest.ok.0 in let gone = c.in-None.ensures.steps.0 in omega arith) in
     let some : 1 ≤ length cs = (let all = c.requires.all in let least = list.sized in omega arith) in
