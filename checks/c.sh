@@ -13,7 +13,7 @@ c_checks() {
     attempt 'build c' library_is_built || return 0
     attempt 'include/ipcsh.h, as C++' is_cpp
     attempt 'the header names the rules in their order' names_the_rules
-    for file in examples/c/*.c checks/c/bad.c; do
+    for file in examples/c/*.c checks/c/bad.c checks/c/waits.c; do
         attempt "$file" prints_with_the_library "${file%.c}"
     done
     for seed in 1 2 3 4 5 6 7 8 9 10; do

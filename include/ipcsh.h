@@ -18,6 +18,7 @@
 #include <stddef.h>
 #include <stdint.h>
 #include <string.h>
+#include <sys/select.h>
 
 #ifdef __cplusplus
 extern "C" {
@@ -229,17 +230,36 @@ IPCSH_INLINE int ipcsh_advance(ipcsh *handle, struct ipcsh_reply *reply, const s
                              IPCSH_SOME(room->objects, struct ipcsh_object), room->objects_len);
 }
 
+/* A thread that waits gives up the processor after so many looks, and after so many it sleeps where its call waits. */
+enum { IPCSH_LOOKS = 16, IPCSH_YIELDS = 1000 };
+
+/* What a thread does between two looks: its sleeps grow from 10 microseconds to a millisecond. */
+static inline void ipcsh_pause(int code, unsigned looks)
+{
+    struct timeval nap = { 0, 0 };
+    if (code != IPCSH_WAITING || looks <= IPCSH_YIELDS) {
+        sched_yield();
+        return;
+    }
+    looks -= IPCSH_YIELDS;
+    nap.tv_usec = looks < 100 ? 10 * (suseconds_t)looks : 1000;
+    select(0, 0, 0, 0, &nap);
+}
+
 /*
- * Goes on with the handle's call until it has ended, and gives up the processor in between. A call that waits ends by another client's call
- * alone, so this may never return. What it returns is that of ipcsh_advance, but for IPCSH_IN_FLIGHT and IPCSH_WAITING.
+ * Goes on with the handle's call until it has ended. In between its thread gives up the processor, and sleeps, at most a millisecond, where the
+ * call has waited for long. A call that waits ends by another client's call alone, so this may never return. What it returns is that of
+ * ipcsh_advance, but for IPCSH_IN_FLIGHT and IPCSH_WAITING.
  */
 IPCSH_INLINE int ipcsh_wait(ipcsh *handle, struct ipcsh_reply *reply, const struct ipcsh_room *room)
 {
-    unsigned tries = 0;
+    unsigned looks = 0;
     int code;
-    while ((code = ipcsh_advance(handle, reply, room)) > 0)
-        if (++tries > 16)
-            sched_yield();
+    while ((code = ipcsh_advance(handle, reply, room)) > 0) {
+        looks += looks <= 2 * IPCSH_YIELDS;
+        if (looks > IPCSH_LOOKS)
+            ipcsh_pause(code, looks);
+    }
     return code;
 }
 

@@ -4,6 +4,7 @@ use crate::call::Call;
 use crate::error::Error;
 use crate::handle::Handle;
 use crate::raw::Answer;
+use std::time::Duration;
 use std::{fmt, thread};
 
 // What the library says of a post and of a step.
@@ -13,8 +14,23 @@ const WAITING: i32 = 2;
 const NO_ROOM: i32 = -6;
 const NO_MEMORY: i32 = -7;
 
-/// How often a client looks for its answer before it gives up the processor.
-const TRIES: u32 = 16;
+/// How often a client looks for its answer before it gives up the processor in between.
+const LOOKS: u32 = 16;
+
+/// And how often before it sleeps in between, where its call waits.
+const YIELDS: u32 = 1000;
+
+/// What a client does between two looks at a call that hasn't ended. Its sleeps grow from 10 microseconds to a millisecond.
+fn pause(still: &Still, looks: u32) {
+    match still {
+        _ if looks <= LOOKS => {}
+        Still::Waiting if looks > YIELDS => {
+            let hundredths = u64::from(looks - YIELDS).min(100);
+            thread::sleep(Duration::from_micros(10 * hundredths));
+        }
+        _ => thread::yield_now(),
+    }
+}
 
 /// A client of a service. It may go to another thread, and is used by one at a time:
 ///
@@ -165,14 +181,17 @@ impl<'c, T> Posted<'c, T> {
         }
     }
 
-    /// Waits until the call has ended. One that waits ends by another client's call alone, so this may never return.
+    /// Waits until the call has ended. Its thread yields in between, and sleeps, at most a millisecond, where the call has
+    /// waited for long. It ends by another client's call alone then, so this may never return.
     pub fn wait(self) -> Result<T, Error> {
-        let mut tries = 0;
+        let mut looks = 0u32;
         loop {
             match self.client.step() {
                 Ok(result) => return result.map(self.read),
-                Err(_) if tries < TRIES => tries += 1,
-                Err(_) => thread::yield_now(),
+                Err(still) => {
+                    looks = looks.saturating_add(1);
+                    pause(&still, looks);
+                }
             }
         }
     }

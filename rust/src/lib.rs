@@ -17,8 +17,8 @@
 //! # Ok::<(), std::io::Error>(())
 //! ```
 //!
-//! A call that waits keeps its thread, which yields. [`Client::post`] posts any [`Call`] and doesn't wait: its client is lent to
-//! the [`Posted`] until the call has ended.
+//! A call that waits keeps its thread, which yields, and sleeps after a while. [`Client::post`] posts any [`Call`] and doesn't
+//! wait: its client is lent to the [`Posted`] until the call has ended.
 
 #![deny(missing_docs, unsafe_code, unsafe_op_in_unsafe_fn)]
 
