@@ -1,6 +1,6 @@
 /*
- * A thread that waits for a message for long sleeps: while it waits, the process takes less than half of the processor's time. It has the message
- * soon after it was sent.
+ * A thread that waits for a message for long sleeps: while it waits, the process takes less than half of a processor's time. It has the message
+ * that is sent then.
  */
 #include "ipcsh.h"
 
