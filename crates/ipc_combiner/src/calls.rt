@@ -12,7 +12,7 @@ use ipc_call::{Call, Reply};
 use pub_list::{Answer, OpenGate, PassGate, WordState};
 
 /// How often a client looks at its own record while another one combines, before it gives up this try.
-const LOOKS: u32 = 128;
+const LOOKS: u32 = 8;
 
 /// How far a call in flight is.
 #[derive(Drop)]

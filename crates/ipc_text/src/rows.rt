@@ -98,19 +98,8 @@ fn print_named(rows: &mut String, word: &str, number: u32) -> Result<(), Memory>
     ensures { OnOk result (string_bytes rows.new ≡ string_bytes rows.old ++ (word.now ++ (decimal number ++ codes "\n"))) }
 {
     rows.push_str(word)?;
-    print_small(rows, number)?;
+    print_number(rows, u64::from(number))?;
     rows.push_str("\n")
-}
-
-// A number, which mostly has one digit.
-#[tactic(auto, using(std::proofs::lemmas::Fmt::decimal_digit))]
-fn print_small(rows: &mut String, number: u32) -> Result<(), Memory>
-    ensures { OnOk result (string_bytes rows.new ≡ string_bytes rows.old ++ decimal number) }
-{
-    if number < 10 {
-        return rows.push((b'0' + number as u8) as char);
-    }
-    print_number(rows, u64::from(number))
 }
 
 // A listing: how many objects there are, and the line of each.

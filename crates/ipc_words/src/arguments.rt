@@ -17,6 +17,7 @@ pub fn one_word(words: &[u8]) -> Option<&[u8]>
 }
 
 /// The words, where they are two.
+#[inline(always)]
 pub fn two_words(words: &[u8]) -> Option<(&[u8], &[u8])>
     ensures { MatchOption result (length (words_of words.now) ≢ 2) (λ x. words_of words.now ≡ x.0.now ∷ x.1.now ∷ []) }
 {

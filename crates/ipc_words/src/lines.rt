@@ -94,6 +94,7 @@ impl Pending {
 }
 
 /// The first line without its line feed, and what follows that; `None` where there is no line feed.
+#[inline(always)]
 pub fn split_line(text: &[u8]) -> Option<(&[u8], &[u8])>
     ensures line { MatchOption result (is_line text.now ≡ true) (λ x. is_line x.0.now ≡ true) }
     ensures parts { IfSome result (λ x. text.now ≡ x.0.now ++ 10 ∷ x.1.now) }

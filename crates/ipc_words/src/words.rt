@@ -10,12 +10,21 @@ fn is_blank(byte: u8) -> bool
     byte == b' ' || byte == b'\t'
 }
 
+// A tab, which is rare beside printing characters.
+#[cold]
+#[inline(never)]
+fn is_tab(byte: u8) -> bool
+    ensures { result ≡ (byte == 9) }
+{
+    byte == b'\t'
+}
+
 /// Whether each byte is a tab or a printing character of ASCII: 9, or 32 to 126.
 pub fn is_plain(text: &[u8]) -> bool
     ensures { result ≡ plain_text text.now }
 {
     text.iter()
-        .all(|byte| *byte == b'\t' || (b' '..=b'~').contains(byte))
+        .all(|byte| (b' '..=b'~').contains(byte) || is_tab(*byte))
 }
 
 /// The first word, and what follows it; `None` where there is no word. Words are parted by blanks and tabs.

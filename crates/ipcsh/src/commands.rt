@@ -16,6 +16,7 @@ use std::alloc::Global;
 
 impl Session {
     /// Makes the calls of a line in turn, and prints their rows. Where one waits, those behind it aren't made.
+    #[inline(always)]
     pub(crate) fn make_all<L: Listener>(
         &mut self,
         alloc: Global,
@@ -56,6 +57,7 @@ impl Session {
     }
 
     /// Makes the calls of a part in turn, and prints their rows.
+    #[inline(always)]
     fn make<L: Listener>(
         &mut self,
         alloc: Global,

@@ -47,6 +47,7 @@ pub(crate) enum Reading {
 impl Session {
     /// What a line says now.
     #[tactic(auto, unfolding(crate::specs::Readings::reading_of))]
+    #[inline(always)]
     pub(crate) fn read(&self, alloc: Global, line: &Line<'_>) -> Result<Reading, Memory>
         ensures value { IfOk result (λ r. r ≡ reading_of self.now (content_of line.now)) }
         ensures sound { IfOk result (IsSound self.now) }

@@ -183,6 +183,7 @@ impl Session {
     }
 
     /// Lets a listener hear what the line just counted says.
+    #[inline(always)]
     pub(crate) fn tell<L: Listener>(&self, line: &Line<'_>, reading: &Reading, listener: &mut L) {
         match (reading, line) {
             (Reading::Bad(reason), _) => listener.bad(self.lines, line, *reason),
@@ -218,6 +219,7 @@ impl Session {
     }
 
     /// Does what a line says, and prints its rows.
+    #[inline(always)]
     pub(crate) fn carry_out<L: Listener>(
         &mut self,
         alloc: Global,
@@ -284,6 +286,7 @@ impl Session {
     }
 
     /// Starts the namespace, where no call has done so.
+    #[inline(always)]
     pub(crate) fn start(&mut self, alloc: Global) -> Result<(), Memory>
         requires { 1 ≤ length self.old.names }
         ensures { OnOk result (self.new ≡ record self.old { history = Some (history_of self.old) }) }

@@ -7,8 +7,20 @@ ghost use Rattle.std.specs.Fmt.{signed_decimal};
 use itoa::Buffer;
 use std::alloc::AllocError;
 
-/// Appends a number. The error comes only where an allocation fails.
+/// Appends a number, which mostly has one digit. The error comes only where an allocation fails.
+#[tactic(auto, using(std::proofs::lemmas::Fmt::decimal_digit))]
+#[inline(always)]
 pub fn print_number(out: &mut String, number: u64) -> Result<(), AllocError>
+    ensures { OnOk result (string_bytes out.new ≡ string_bytes out.old ++ decimal number) }
+{
+    if number < 10 {
+        return out.push((b'0' + number as u8) as char);
+    }
+    print_digits(out, number)
+}
+
+#[inline(never)]
+fn print_digits(out: &mut String, number: u64) -> Result<(), AllocError>
     ensures { OnOk result (string_bytes out.new ≡ string_bytes out.old ++ decimal number) }
 {
     let mut digits = Buffer::new();

@@ -5,8 +5,8 @@ ghost use Rattle.pub_list.specs.Records.{state_at, IsLooked};
 
 use crate::joined::Joined;
 use crate::list::List;
+use crossbeam_utils::Backoff;
 use pub_rule::{FREE, LookAt, LookOwn, PARKED, POSTED, Served, TAKEN, state_word};
-use std::hint;
 
 /// How far a client's publication record is.
 #[derive(Drop)]
@@ -41,18 +41,20 @@ impl<S: Served> Joined<S> {
     }
 
     /// Looks at the own record, at most so many times, until its call is answered or parked: while another client
-    /// combines, it is that one which serves the call. It tells nothing, and leaves the lock's cache line alone.
+    /// combines, it is that one which serves the call. The pauses between two looks grow, as each look takes the record's
+    /// cache line from the one that serves. It tells nothing, and leaves the lock's cache line alone.
     pub fn linger(&self, list: &List<S>, looks: u32)
         requires { BelongsTo list.now self.now }
     {
         let table = &list.table.shared;
         let word = state_word(self.client);
+        let backoff = Backoff::new();
         for _ in 0..looks {
             let found = table.peek(word);
             if found != POSTED && found != TAKEN {
                 return;
             }
-            hint::spin_loop();
+            backoff.spin();
         }
     }
 

@@ -1,8 +1,7 @@
 // A client whose call waits for long sleeps, and is woken as its call ends.
 ghost use Rattle.ipc_combiner.specs.States.{IsOf};
 
-use crate::quiet::is_granted;
-use crate::services::{joined, one_of, replied, service_for};
+use crate::services::{is_granted, joined, one_of, replied, service_for};
 use ipc_call::Answer;
 use ipc_combiner::{Idle, Service};
 use std::process::Abort;
@@ -18,18 +17,12 @@ const ROUNDS: u32 = 60;
 /// How long the receiver waits for each message: it sleeps by the time that the message is sent.
 const WAIT: u64 = 5;
 
-/// When each message was sent or had come.
-#[derive(Drop)]
-struct Times {
-    at: Vec<Instant>,
-}
-
-/// Sends message after message, each after a while. `None` where memory or the clock fails.
+/// Sends message after message, each after a while, and gives when it sent each. `None` where memory or the clock fails.
 fn send_all<R: Wait + Clock + Abort + AllocGlobal>(
     rt: &R,
     service: &Service,
     mut idle: Idle,
-) -> Option<Times>
+) -> Option<Vec<Instant>>
     requires { IsOf service.now.list idle.joined }
 {
     let mut at = Vec::new(rt.alloc());
@@ -41,15 +34,15 @@ fn send_all<R: Wait + Clock + Abort + AllocGlobal>(
         assert!(rt; is_granted(reply));
         idle = next;
     }
-    Some(Times { at })
+    Some(at)
 }
 
-/// Receives as many, and waits for each.
+/// Receives as many, waits for each, and gives when each had come.
 fn receive_all<R: Wait + Clock + Abort + AllocGlobal>(
     rt: &R,
     service: &Service,
     mut idle: Idle,
-) -> Option<Times>
+) -> Option<Vec<Instant>>
     requires { IsOf service.now.list idle.joined }
 {
     let mut at = Vec::new(rt.alloc());
@@ -59,7 +52,7 @@ fn receive_all<R: Wait + Clock + Abort + AllocGlobal>(
         assert!(rt; is_granted(reply));
         idle = next;
     }
-    Some(Times { at })
+    Some(at)
 }
 
 /// Both at once.
@@ -68,29 +61,29 @@ fn at_once<R: Threads + Sync + Wait + Clock + Abort + AllocGlobal>(
     service: &Service,
     sender: Idle,
     receiver: Idle,
-) -> (Option<Times>, Option<Times>)
+) -> (Option<Vec<Instant>>, Option<Vec<Instant>>)
     requires sender { IsOf service.now.list sender.joined }
     requires receiver { IsOf service.now.list receiver.joined }
 {
     thread::join(
         rt,
-        move || -> Option<Times>
+        move || -> Option<Vec<Instant>>
             requires { IsOf service.now.list sender.joined }
         { send_all(rt, service, sender) },
-        move || -> Option<Times>
+        move || -> Option<Vec<Instant>>
             requires { IsOf service.now.list receiver.joined }
         { receive_all(rt, service, receiver) },
     )
 }
 
 /// How many messages had come within 200 microseconds. A sleep that nobody ends takes a millisecond.
-fn count_soon(sent: &Option<Times>, received: &Option<Times>) -> u32 {
+fn count_soon(sent: &Option<Vec<Instant>>, received: &Option<Vec<Instant>>) -> u32 {
     let (Some(sent), Some(received)) = (sent, received) else {
         return 0;
     };
     let soon = Duration::from_micros(200);
     let mut count: u32 = 0;
-    for (from, to) in sent.at.iter().zip(received.at.iter()) {
+    for (from, to) in sent.iter().zip(received.iter()) {
         if to.duration_since(*from) < soon {
             count = count.wrapping_add(1);
         }

@@ -6,18 +6,14 @@ ghost use Rattle.ipc_combiner.specs.States.{IsOf, IsUnjoinedOf};
 
 use crate::passes::{all_posted, pass, put_back};
 use crate::services::{
-    ended, has_passed, joined, one_of, one_unjoined, served, service_for, waiting,
+    ended, has_passed, is_granted, joined, one_of, one_unjoined, served, service_for, waiting,
 };
-use ipc_call::{Call, IPC_CREAT, Items, Kind, Reply, SEM_UNDO};
+use ipc_call::{Call, IPC_CREAT, Items, Kind, SEM_UNDO};
 use ipc_combiner::{Client, Idle, InFlight, Polled, Seen, Service, Unjoined};
 use std::alloc::{AllocError, Global};
 use std::process::Abort;
 use std::test::Fail;
 use test_support::calls::{get, receive, semop, send, text};
-
-pub(crate) fn is_granted(reply: Reply) -> bool {
-    matches!(reply, Reply::Entered { outcome: Ok(_), .. })
-}
 
 /// A client makes these calls one after another, the last first, and each is granted.
 fn all_granted(rt: &impl Abort, service: &Service, mut idle: Idle, mut calls: Vec<Call>) -> Idle

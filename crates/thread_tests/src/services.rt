@@ -203,7 +203,7 @@ fn a_pass_serves_who_was_heard_of_and_who_was_not(rt: HostRuntime) -> Result<(),
     bob.told(&service, &mut alice);
     let (_, bobs) = ended(&rt, &service, bob);
     let (_, carols) = ended(&rt, &service, carol);
-    assert!(rt; is_granted(bobs) && is_granted(carols));
+    assert!(rt; has_id(bobs) && has_id(carols));
     Ok(())
 }
 
@@ -336,7 +336,13 @@ struct Asked {
     granted: u64,
 }
 
+/// Whether a call was granted.
 pub(crate) fn is_granted(reply: Reply) -> bool {
+    matches!(reply, Reply::Entered { outcome: Ok(_), .. })
+}
+
+/// Whether a call was granted an identifier.
+pub(crate) fn has_id(reply: Reply) -> bool {
     matches!(
         reply,
         Reply::Entered {
@@ -356,7 +362,7 @@ fn ask_all<R: Wait>(rt: &R, service: &Service, client: Unjoined) -> Asked
     for round in 0..ROUNDS {
         let (next, reply) = idle.call(rt, service, round, get(5));
         idle = next;
-        if is_granted(reply) {
+        if has_id(reply) {
             granted = granted.wrapping_add(1);
         }
     }

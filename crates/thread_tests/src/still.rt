@@ -3,7 +3,7 @@ ghost use Rattle.std.specs.Prelude.{◌≤◌, ⊤, All, IfOk, IfSome};
 ghost use Rattle.ipc_combiner.specs.States.{IsOf};
 
 use crate::passes::all_posted;
-use crate::services::{ended, has_passed, is_granted, joined, service_for};
+use crate::services::{ended, has_id, has_passed, joined, service_for};
 use ipc_combiner::{Idle, InFlight, Pass, PassGate, Polled, Seen, Service};
 use std::alloc::{AllocError, Global};
 use std::process::Abort;
@@ -163,12 +163,12 @@ fn count_granted(rt: &impl Abort, service: &Service, mut flights: Vec<InFlight>)
     if let Some(mut last) = flights.pop() {
         assert!(rt; has_passed(last.combine(service)));
         let (_, reply) = ended(rt, service, last);
-        assert!(rt; is_granted(reply));
+        assert!(rt; has_id(reply));
         granted = 1;
     }
     for flight in flights {
         let (_, reply) = ended(rt, service, flight);
-        assert!(rt; is_granted(reply));
+        assert!(rt; has_id(reply));
         granted = granted.wrapping_add(1);
     }
     granted
@@ -228,7 +228,7 @@ fn stands_before<R: Abort + AllocGlobal>(
             count as usize
         );
         let (_, reply) = ended(rt, &service, flight);
-        assert!(rt; is_granted(reply));
+        assert!(rt; has_id(reply));
     } else {
         assert_eq!(rt;
             count_granted(rt, &service, flights).wrapping_add(1),
