@@ -12,7 +12,7 @@ check_bench() {
 # The instructions of docs/SPEED.md are those that valgrind counts, within a fifth, since they differ between environments.
 # Those of more than 64 objects, bytes or the like take long, and aren't counted here.
 counts_instructions() {
-    built ipc_bench || return 1
+    built ipc_bench && built member_bench && built ipcsh_cli || return 1
     ./bench instructions 64 >"$scratch/out" || return 1
     why='docs/SPEED.md has other figures, or less than ten of them:'
     awk -f lib/instructions.awk "$scratch/out" docs/SPEED.md >"$scratch/shown"
