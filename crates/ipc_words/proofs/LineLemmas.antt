@@ -8,7 +8,7 @@ use Rattle.std.proofs.Math.Seq.{take-append-add}
 use Rattle.std.specs.List.{prefix_len}
 use Rattle.std.specs.Prelude.{◌==◌, ◌&&◌, not, map, Option, None, Some, MatchOption, replicate, slice_index}
 use Rattle.memchr.specs.Find.{IsFirstByte, is_byte}
-use Rattle.ipc_words.specs.Lines.{Split, is_line, complete_lines, last_lines, lines_of, onto, onto_first, split, whole_line, within_limit, without_return}
+use Rattle.ipc_words.specs.Lines.{Split, is_line, complete_lines, onto, onto_first, split, whole_line, within_limit, without_return}
 
 -- one line
 
@@ -170,13 +170,10 @@ whole_more a (b ∷ bs) =
       ap (λ (t : List ℕ). (split t).whole) (sym same) ∙ rest.1 ∙ ap (λ (t : List (List ℕ)). t ++ rest.0) next.1 ∙ append_assoc (split a).whole next.0 rest.0,
     )
 
-pub complete_more : (a b : List ℕ) → (more : List (Option (List ℕ))) × (lines_of (a ++ b) ≡ complete_lines a ++ more)
+pub complete_more : (a b : List ℕ) → (more : List (Option (List ℕ))) × (complete_lines (a ++ b) ≡ complete_lines a ++ more)
 complete_more a b =
     let grew = whole_more a b in
-    let last = last_lines (split (a ++ b)).rest in (
-      map whole_line grew.0 ++ last,
-      ap (λ (t : List (List ℕ)). map whole_line t ++ last) grew.1 ∙ ap (λ (t : List (Option (List ℕ))). t ++ last) (map-append whole_line (split a).whole grew.0) ∙ append_assoc (complete_lines a) (map whole_line grew.0) last,
-    )
+    (map whole_line grew.0, ap (λ (t : List (List ℕ)). map whole_line t) grew.1 ∙ map-append whole_line (split a).whole grew.0)
 
 -- line feeds that come first
 

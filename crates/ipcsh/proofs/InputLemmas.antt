@@ -84,8 +84,8 @@ unfolding unrefused
 lines_in-unrefused [] = refl
 lines_in-unrefused (line ∷ lines) = ap (λ ls. line ∷ ls) (lines_in-unrefused lines)
 
--- what the complete lines of a front lead to is a front of what the whole text leads to
-pub LeadTo-more : (a b : List ℕ) (p : Printed) → LeadTo (complete_lines a) p → (q : Printed) × (rest : List ℕ) × LeadTo (lines_of (a ++ b)) q × (q.output ≡ p.output ++ rest)
+-- what the complete lines of a front lead to is a front of what those of the whole text lead to
+pub LeadTo-more : (a b : List ℕ) (p : Printed) → LeadTo (complete_lines a) p → (q : Printed) × (rest : List ℕ) × LeadTo (complete_lines (a ++ b)) q × (q.output ≡ p.output ++ rest)
 LeadTo-more a b p h =
     let more = complete_more a b in
     let inputs = unrefused more.0 in

@@ -1,5 +1,5 @@
 -- How a run goes on from piece to piece, and how each of its ends follows.
-use Rattle.std.proofs.Common.{◌≡◌, ℕ, ◌+◌, ◌≤◌, List, [], ◌++◌, length, Option, refl, sym, ap, subst, ◌∙◌, append_assoc, append-nil, arith}
+use Rattle.std.proofs.Common.{◌≡◌, ℕ, ◌+◌, ◌≤◌, List, [], ◌++◌, length, Option, inl, inr, refl, sym, ap, subst, ◌∙◌, append_assoc, append-nil, arith}
 use Rattle.std.specs.Prelude.{string_bytes, Result, Err, IfErr}
 use Rattle.std.specs.Io.KnownBytes.{Appends, Consumes, Keeps, IsAtEnd}
 use Rattle.std.proofs.KnownBytes.{Appends-nil, Appends-trans, Consumes-nil, Consumes-trans, Consumes-kept}
@@ -41,13 +41,13 @@ Going-start r w i session pending rows = record {
   wrote = Appends-nil w;
 }
 
-pub at_start : (r w : Option (List ℕ)) → WritesFront (transfer r r w w)
+pub at_start : (r w : Option (List ℕ)) → WritesFront (transfer r r w w) complete_lines
 at_start r w = (
   [],
   record { session = fresh_session; output = [] },
   [],
   [],
-  record { within = omega arith; lines = ([], refl, refl); front = refl; moves = record { read = Consumes-nil r; written = Appends-nil w } },
+  record { within = omega arith; lead = ([], refl, refl); front = refl; moves = record { read = Consumes-nil r; written = Appends-nil w } },
 )
 
 pub at_read_error : (r0 r1 r2 w0 w1 : Option (List ℕ)) (text written : List ℕ) (i : ScriptInput) → Going r0 r1 w0 w1 text written i → Keeps r1 r2 → StopsBy (transfer r0 r2 w0 w1) faults.Read
@@ -69,32 +69,37 @@ at_too_much r0 r1 r2 w0 w1 text written bytes i h full one more = (
   },
 )
 
--- a front of what the complete lines of some text print was written
-front_of : (r0 r2 w0 w2 : Option (List ℕ)) (a b : List ℕ) (p : Printed) (written rest : List ℕ) → LeadTo (complete_lines a) p → p.output ≡ written ++ rest → length (a ++ b) ≤ 16777216 → Consumes r0 r2 (a ++ b) → Appends w0 w2 written → WritesFront (transfer r0 r2 w0 w2)
-front_of r0 r2 w0 w2 a b p written rest h front small read wrote =
-    let more = LeadTo-more a b p h in (
-      a ++ b,
-      more.0,
+pub at_no_memory : (r0 r1 r2 w0 w1 : Option (List ℕ)) (text written bytes : List ℕ) (i : ScriptInput) → Going r0 r1 w0 w1 text written i → length text + length bytes ≤ 16777216 → Consumes r1 r2 bytes → WritesFront (transfer r0 r2 w0 w1) complete_lines
+at_no_memory r0 r1 r2 w0 w1 text written bytes i h small more =
+    let grown = LeadTo-more text bytes (printed i written) (written_all r0 r1 w0 w1 text written i h) in (
+      text ++ bytes,
+      grown.0,
       written,
-      rest ++ more.1,
+      grown.1,
       record {
-        within = small;
-        lines = more.2;
-        front = more.3 ∙ ap (λ (bs : List ℕ). bs ++ more.1) front ∙ append_assoc written rest more.1;
-        moves = record { read = read; written = wrote };
+        within = omega (arith, length-append text bytes);
+        lead = grown.2;
+        front = grown.3;
+        moves = record { read = Consumes-trans r0 r1 r2 text bytes h.read more; written = h.wrote };
       },
     )
 
-pub at_no_memory : (r0 r1 r2 w0 w1 : Option (List ℕ)) (text written bytes : List ℕ) (i : ScriptInput) → Going r0 r1 w0 w1 text written i → length text + length bytes ≤ 16777216 → Consumes r1 r2 bytes → WritesFront (transfer r0 r2 w0 w1)
-at_no_memory r0 r1 r2 w0 w1 text written bytes i h small more =
-    front_of r0 r2 w0 w1 text bytes (printed i written) written [] (written_all r0 r1 w0 w1 text written i h) (sym (append-nil written)) (omega (arith, length-append text bytes)) (Consumes-trans r0 r1 r2 text bytes h.read more) h.wrote
-
-pub at_write_error : (r0 r1 r2 w0 w1 w2 : Option (List ℕ)) (text written bytes done rest : List ℕ) (i new : ScriptInput) → Going r0 r1 w0 w1 text written i → length text + length bytes ≤ 16777216 → Consumes r1 r2 bytes → Takes i bytes new → string_bytes new.rows ≡ done ++ rest → Appends w1 w2 done → WritesFront (transfer r0 r2 w0 w2)
-at_write_error r0 r1 r2 w0 w1 w2 text written bytes done rest i new h small more takes rows wrote =
-    let all = text ++ bytes in
-    let read : Consumes r0 r2 (all ++ []) = subst (λ (bs : List ℕ). Consumes r0 r2 bs) (sym (append-nil all)) (Consumes-trans r0 r1 r2 text bytes h.read more) in
-    let front : written ++ string_bytes new.rows ≡ (written ++ done) ++ rest = ap (λ (bs : List ℕ). written ++ bs) rows ∙ sym (append_assoc written done rest) in
-    front_of r0 r2 w0 w2 all [] (printed new (written ++ string_bytes new.rows)) (written ++ done) rest (takes text written h.held).lines front (omega (arith, length-append text bytes, length-append all [])) read (Appends-trans w0 w1 w2 written done h.wrote wrote)
+pub at_write_error : (r0 r1 r2 w0 w1 w2 : Option (List ℕ)) (text written bytes done rest : List ℕ) (i new : ScriptInput) → Going r0 r1 w0 w1 text written i → length text + length bytes ≤ 16777216 → Consumes r1 r2 bytes → Takes i bytes new → string_bytes new.rows ≡ done ++ rest → Appends w1 w2 done → StopsBy (transfer r0 r2 w0 w2) faults.Write
+at_write_error r0 r1 r2 w0 w1 w2 text written bytes done rest i new h small more takes rows wrote = inl (
+  text ++ bytes,
+  printed new (written ++ string_bytes new.rows),
+  written ++ done,
+  rest,
+  record {
+    within = omega (arith, length-append text bytes);
+    lead = (takes text written h.held).lines;
+    front = ap (λ (bs : List ℕ). written ++ bs) rows ∙ sym (append_assoc written done rest);
+    moves = record {
+      read = Consumes-trans r0 r1 r2 text bytes h.read more;
+      written = Appends-trans w0 w1 w2 written done h.wrote wrote;
+    };
+  },
+)
 
 -- the rows held are written, and the next piece may come
 pub Going-on : (r0 r1 r2 w0 w1 w2 : Option (List ℕ)) (text written bytes : List ℕ) (i new flushed : ScriptInput) → Going r0 r1 w0 w1 text written i → length text + length bytes ≤ 16777216 → Consumes r1 r2 bytes → Takes i bytes new → Appends w1 w2 (string_bytes new.rows) → flushed.session ≡ new.session → flushed.pending ≡ new.pending → string_bytes flushed.rows ≡ [] → Going r0 r2 w0 w2 (text ++ bytes) (written ++ string_bytes new.rows) flushed
@@ -128,21 +133,24 @@ at_end r0 r1 r2 w0 w1 w2 text written i new summary h none end lines wrote told 
   },
 )
 
-pub at_end_write_error : (r0 r1 r2 w0 w1 w2 : Option (List ℕ)) (text written done rest : List ℕ) (i new : ScriptInput) → Going r0 r1 w0 w1 text written i → Consumes r1 r2 [] → LeadTo (lines_of text) (printed new (written ++ string_bytes new.rows)) → string_bytes new.rows ≡ done ++ rest → Appends w1 w2 done → WritesFront (transfer r0 r2 w0 w2)
-at_end_write_error r0 r1 r2 w0 w1 w2 text written done rest i new h none lines rows wrote = (
-  text,
-  printed new (written ++ string_bytes new.rows),
-  written ++ done,
-  rest,
-  record {
-    within = h.within;
-    lines = lines;
-    front = ap (λ (bs : List ℕ). written ++ bs) rows ∙ sym (append_assoc written done rest);
-    moves = record {
-      read = subst (λ (bs : List ℕ). Consumes r0 r2 bs) (append-nil text) (Consumes-trans r0 r1 r2 text [] h.read none);
-      written = Appends-trans w0 w1 w2 written done h.wrote wrote;
-    };
-  },
+pub at_end_write_error : (r0 r1 r2 w0 w1 w2 : Option (List ℕ)) (text written done rest : List ℕ) (i new : ScriptInput) → Going r0 r1 w0 w1 text written i → Consumes r1 r2 [] → IsAtEnd r2 → LeadTo (lines_of text) (printed new (written ++ string_bytes new.rows)) → string_bytes new.rows ≡ done ++ rest → Appends w1 w2 done → StopsBy (transfer r0 r2 w0 w2) faults.Write
+at_end_write_error r0 r1 r2 w0 w1 w2 text written done rest i new h none end lines rows wrote = inr (
+  end,
+  (
+    text,
+    printed new (written ++ string_bytes new.rows),
+    written ++ done,
+    rest,
+    record {
+      within = h.within;
+      lead = lines;
+      front = ap (λ (bs : List ℕ). written ++ bs) rows ∙ sym (append_assoc written done rest);
+      moves = record {
+        read = subst (λ (bs : List ℕ). Consumes r0 r2 bs) (append-nil text) (Consumes-trans r0 r1 r2 text [] h.read none);
+        written = Appends-trans w0 w1 w2 written done h.wrote wrote;
+      };
+    },
+  ),
 )
 
 -- a result that is this fault says what the fault says

@@ -1,6 +1,6 @@
 -- What a run reads and writes, by how it ends. Known bytes of a reader and a writer are those of std's words; where
 -- they aren't known, what is said holds of the bytes that the calls handed over.
-use Rattle.std.specs.Prelude.{◌≡◌, ℕ, ◌+◌, ◌≤◌, List, ◌++◌, length, take, Option, Result, IfErr, IfOk}
+use Rattle.std.specs.Prelude.{◌≡◌, ℕ, ◌+◌, ◌≤◌, ◌⊎◌, List, ◌++◌, length, take, Option, Result, IfErr, IfOk}
 use Rattle.std.specs.Io.KnownBytes.{Appends, Consumes, IsAtEnd}
 use Rattle.ipcsh.specs.declared.runs.Summary.{Summary}
 use Rattle.ipcsh.specs.declared.runs.Fault.{Fault}
@@ -45,10 +45,11 @@ pub record IsWhole (t : Transfer) (summary : Summary) (text : List ℕ) (printed
   pub moves : Moves t text printed.output
   pub told : summary ≡ summary_of printed.session
 
--- no more than the longest script was read, and a front of its rows was written
-pub record IsFront (t : Transfer) (text : List ℕ) (printed : Printed) (written rest : List ℕ) : Type 0 where
+-- no more than the longest script was read, and a front of the rows of these lines was written
+pub record IsFront (t : Transfer) (lines : List (Option (List ℕ))) (text : List ℕ) (printed : Printed)
+    (written rest : List ℕ) : Type 0 where
   pub within : length text ≤ longest_input
-  pub lines : LeadTo (lines_of text) printed
+  pub lead : LeadTo lines printed
   pub front : printed.output ≡ written ++ rest
   pub moves : Moves t text written
 
@@ -60,21 +61,24 @@ pub record IsComplete (t : Transfer) (text front : List ℕ) (printed : Printed)
 abbrev pub WritesWhole : Transfer → Summary → Type 0
 WritesWhole t summary = (text : List ℕ) × (printed : Printed) × IsWhole t summary text printed
 
-abbrev pub WritesFront : Transfer → Type 0
-WritesFront t =
-    (text : List ℕ) × (printed : Printed) × (written : List ℕ) × (rest : List ℕ) × IsFront t text printed written rest
+-- of the lines that this gives of the text that was read
+abbrev pub WritesFront : Transfer → (List ℕ → List (Option (List ℕ))) → Type 0
+WritesFront t lines =
+    (text : List ℕ) × (printed : Printed) × (written : List ℕ) × (rest : List ℕ)
+    × IsFront t (lines text) text printed written rest
 
 -- what a fault says: a failed read comes after the rows of the complete lines read so far; an input that is too long
 -- was read to the byte behind the longest script, and no further; what was written before a failed write or for want
--- of memory is a front of the output
+-- of memory is a front of the rows of the complete lines read so far, and before a failed write, where the input has
+-- ended, of those of all its lines
 abbrev pub StopsBy : Transfer → Fault → Type 0
 StopsBy t faults.Read =
     (text : List ℕ) × (printed : Printed) × (length text ≤ longest_input) × IsComplete t text text printed
 StopsBy t faults.TooMuch =
     (text : List ℕ) × (printed : Printed) × (length text ≡ longest_input + 1)
     × IsComplete t text (take longest_input text) printed
-StopsBy t faults.Write = WritesFront t
-StopsBy t faults.Memory = WritesFront t
+StopsBy t faults.Write = WritesFront t complete_lines ⊎ (IsAtEnd t.read_after × WritesFront t lines_of)
+StopsBy t faults.Memory = WritesFront t complete_lines
 
 -- how a run ends
 abbrev pub EndsBy : Transfer → Result Summary Fault → Type 0

@@ -29,14 +29,15 @@ pub enum Fault {
     /// A read failed or was interrupted. The rows of all complete lines were written.
     #[error("read failed")]
     Read,
-    /// A write failed, was interrupted or took no byte. A front of the rows was written.
+    /// A write failed, was interrupted or took no byte. A front of the rows of the complete lines was written; where the
+    /// input had ended, of those of all its lines.
     #[error("write failed")]
     Write,
     /// The input has more than 16777216 bytes. The rows of their complete lines were written.
     #[error("input too long")]
     TooMuch,
     /// Memory was refused to the reader or the printer, or to the start of the namespace. A front of
-    /// the rows was written.
+    /// the rows of the complete lines was written.
     #[error("no memory")]
     Memory,
 }

@@ -40,7 +40,7 @@ returns-in_err-flush-clause-fault g c =
     let h = c.pieces.invariant.going in
     let none : Consumes (g.R.Read.remaining c.pieces.reader) (g.R.Read.remaining c.read_piece.new.reader) [] = subst (λ (n : ℕ). Consumes (g.R.Read.remaining c.pieces.reader) (g.R.Read.remaining c.read_piece.new.reader) (take n c.read_piece.new.piece)) c.if-taken-eq0.true c.in_ok-taken.ensures.bytes in
     let e = c.in_err-flush.ensures.err in
-    stops_at _ c.from_residual-in_err-flush.result faults.Write (p.1 ∙ ap (λ (f : Fault). Err f) (p.2 ∙ c.in_err-flush.ensures.fault)) (at_end_write_error _ _ _ _ _ _ h.0 h.1 e.0 e.1 c.pieces.input c.finish.new.self h.3 none (c.in_ok-finish.ensures h.0 h.1 h.3.held) e.2 e.3)
+    stops_at _ c.from_residual-in_err-flush.result faults.Write (p.1 ∙ ap (λ (f : Fault). Err f) (p.2 ∙ c.in_err-flush.ensures.fault)) (at_end_write_error _ _ _ _ _ _ h.0 h.1 e.0 e.1 c.pieces.input c.finish.new.self h.3 none (c.in_ok-taken.ensures.end c.if-taken-eq0.true) (c.in_ok-finish.ensures h.0 h.1 h.3.held) e.2 e.3)
 
 pub returns-then-taken-eq0-clause-ok : goal.returns-then-taken-eq0-clause-ok
 returns-then-taken-eq0-clause-ok g c =
