@@ -1,12 +1,13 @@
 # ./ipcsh_trace: each trace of examples/traces has its stored script and verdict, an answer that is altered in it is told,
-# and what is no trace, or none that can be taken whole, has its clear reason.
+# and what is no trace, or none that can be taken whole, has its clear reason. A damaged line is a call that isn't taken, and the other lines
+# keep their verdict: those of checks/damaged, and random ones (lib/damaged_traces.py).
 
 check_traces() { with_program trace_checks; }
 
 trace_checks() {
     IPCSH_PROGRAM=$(the_program)
     export IPCSH_PROGRAM
-    for verdict in examples/traces/*.verdict; do
+    for verdict in examples/traces/*.verdict checks/damaged/*.verdict; do
         base=${verdict%.verdict}
         set -- "$base".strace*
         attempt "$verdict" has_its_verdict "$base.verdict" "$@"
@@ -15,6 +16,65 @@ trace_checks() {
         attempt "$verdict, an answer altered" tells_an_altered_answer "$base.verdict" "$@"
     done
     bad_traces
+    broken_streams
+    random_damage
+}
+
+# random_damage: traces of which one line is damaged. Longer ones take longer.
+random_damage() {
+    status=0
+    set -- ipcmk ipcrm perl python undo segment wait counts
+    nice -n 5 timeout 600 python3 lib/damaged_traces.py "$IPCSH_PROGRAM" 1 200 $(printf 'examples/traces/%s.strace ' "$@") >"$scratch/tried" 2>&1 || status=$?
+    grep '^FAILED ' "$scratch/tried" || :
+    count_of 'damaged_traces.py' "$(tail -n 1 "$scratch/tried")" "$status"
+}
+
+# broken_streams: as the programs in Rattle do where a stream fails.
+broken_streams() {
+    trace=examples/traces/undo.strace
+    for option in '' --script; do
+        attempt "a full disk $option" fails_to_write "./ipcsh_trace $option $trace >/dev/full"
+        attempt "standard output closed $option" fails_to_write "./ipcsh_trace $option $trace >&-"
+        attempt "a reader that has gone $option" fails_to_write "without_reader ./ipcsh_trace $option $trace"
+    done
+    attempt '--help on a full disk' fails_to_write './ipcsh_trace --help >/dev/full'
+    attempt 'a reader that takes one line' one_line_is_read
+    attempt 'no stream at all' ends_alone
+    attempt 'standard input closed' says 2 '^ipcsh_trace: standard input: Bad file descriptor$' <&-
+    attempt 'standard input a folder' says 2 '^ipcsh_trace: standard input: Is a directory$' <checks
+}
+
+# without_reader COMMAND..: its standard output is a pipe that nobody reads any more.
+without_reader() {
+    python3 -c '
+import os, subprocess, sys
+ends = os.pipe()
+os.close(ends[0])
+sys.exit(subprocess.run(sys.argv[1:], stdout=ends[1]).returncode)' "$@"
+}
+
+# fails_to_write COMMAND: the status is 2, and this alone is on standard error.
+fails_to_write() {
+    status=0
+    eval "$1" 2>"$scratch/err" || status=$?
+    why="status $status, not 2"
+    [ "$status" = 2 ] || return 1
+    echo 'ipcsh_trace: write failed' >"$scratch/wanted"
+    same 'its standard error' "$scratch/wanted" "$scratch/err"
+}
+
+one_line_is_read() {
+    why='it writes to standard error'
+    ./ipcsh_trace "$trace" 2>"$scratch/err" | head -n 1 >"$scratch/out"
+    cp "$scratch/err" "$scratch/shown"
+    [ -s "$scratch/out" ] && [ ! -s "$scratch/err" ]
+}
+
+ends_alone() {
+    status=0
+    ./ipcsh_trace "$trace" <&- >&- 2>&- || status=$?
+    why="status $status, not 2"
+    [ "$status" = 2 ]
 }
 
 # traced STATUS ARGUMENT..: runs ./ipcsh_trace, which is to end with this status.

@@ -4,7 +4,7 @@ import re
 
 import kernel
 from plan import has_timeout, was_interrupted
-from values import NotTaken, Text, int32, int64, is_address, number, value
+from values import DAMAGED, NotTaken, Text, flags32, int32, int64, is_address, number, number32, value
 
 MSGMAX = 8192
 SEMOPM = 500
@@ -25,11 +25,23 @@ def kind_of(record):
 
 
 def command_of(record):
-    """What of msgctl, semctl or shmctl is asked; else the call's name."""
+    """What of msgctl, semctl or shmctl is asked; else the call's name. It is empty where the line lacks it."""
     if not record.name.endswith("ctl"):
         return record.name
     at = 2 if record.name == "semctl" else 1
-    return record.words[at].replace("IPC_64|", "").strip()
+    return "".join(record.words[at : at + 1]).replace("IPC_64|", "").strip()
+
+
+def ident_of(record):
+    """The kernel's identifier of the object that a call names; None where it can't be read."""
+    try:
+        return int32(number32(record.words[0]))
+    except DAMAGED:
+        return None
+
+
+def key_of(record):
+    return number32(record.words[0]) % 2**32
 
 
 class Objects:
@@ -41,7 +53,7 @@ class Objects:
 
     def ident(self, record):
         """The script's identifier of the object that a call names."""
-        kind, ident = kind_of(record), int32(number(record.words[0]))
+        kind, ident = kind_of(record), int32(number32(record.words[0]))
         if ident < 0:
             return NOWHERE
         if (kind, ident) in self.own:
@@ -68,9 +80,8 @@ class Objects:
             return f"the definitions answer the object of {self.kernels[kind, own]}"
         self.own[kind, ident], self.kernels[kind, own] = own, ident
         self.removed.discard((kind, ident))
-        key = number(record.words[0])
-        if key:
-            self.keys[kind, key] = ident
+        if key_of(record):
+            self.keys[kind, key_of(record)] = ident
         return None
 
     def not_taken(self, record):
@@ -79,8 +90,8 @@ class Objects:
         if record.name in kernel.KINDS:
             if record.answer is not None and (kind, record.answer) not in self.own:
                 self.untaken[kind, record.answer] = str(record.place)
-        elif record.answer is not None and record.name != "shmdt" and not ABSENT.match(command_of(record)) and not command_of(record).startswith("GET"):
-            ident = int32(number(record.words[0]))
+        elif record.may_be_done and record.name != "shmdt" and not ABSENT.match(command_of(record)) and not command_of(record).startswith("GET"):
+            ident = ident_of(record)
             hidden = command_of(record) in ("SETALL", "semop", "semtimedop", "msgsnd", "msgrcv")
             if (kind, ident) in self.own:
                 self.unsure.setdefault((kind, ident), ("contents" if hidden else "all", str(record.place)))
@@ -92,8 +103,8 @@ def octal(found):
 
 def get(record, objects):
     """msgget, semget or shmget."""
-    kind, key, flags = kind_of(record), number(record.words[0]) % 2**32, number(record.words[-1])
-    ident, size = record.answer, number(record.words[1]) if len(record.words) > 2 else 0
+    kind, key, flags = kind_of(record), key_of(record), flags32(record.words[-1])
+    ident, size = record.answer, size_of(record, kind)
     if key and (kind, key) not in objects.keys:
         if record.error in ("EEXIST", "EACCES") or ident is not None and not flags & 0o1000:
             raise NotTaken("object made before the trace")
@@ -101,8 +112,12 @@ def get(record, objects):
         raise NotTaken(f"object made by a call that isn't taken, {objects.untaken[kind, ident]}")
     if kind == "m" and size > SHMMAX and not record.error:
         raise NotTaken(f"a segment of more than {SHMMAX} bytes")
-    sizes = {"q": [], "s": [str(size % 2**32)], "m": [str(size % 2**64)]}[kind]
-    return [record.name, f"0x{key:x}" if key else "0", *sizes, octal(flags)]
+    return [record.name, f"0x{key:x}" if key else "0", *([] if kind == "q" else [str(size)]), octal(flags)]
+
+
+def size_of(record, kind):
+    """What semget or shmget asks for: semaphores or bytes; 0 for msgget."""
+    return 0 if kind == "q" else number32(record.words[1]) % 2**32 if kind == "s" else number(record.words[1]) % 2**64
 
 
 def message_of(word):
@@ -121,7 +136,7 @@ def shown(content):
 
 
 def msgsnd(record, objects):
-    ident, size, flags = objects.ident(record), number(record.words[2]) % 2**64, number(record.words[3])
+    ident, size, flags = objects.ident(record), number(record.words[2]) % 2**64, flags32(record.words[3])
     mtype, text = message_of(record.words[1])
     known = text.bytes if text else b""
     content = (known + b"." * (min(size, objects.msgmax + 1) - len(known)))[: min(size, objects.msgmax + 1)]
@@ -135,7 +150,7 @@ def msgrcv(record, objects):
     ident = objects.ident(record)
     if len(record.words) < 5:
         raise NotTaken("it has no end, so strace didn't write what it asks for")
-    size, mtype, flags = number(record.words[2]) % 2**64, int64(number(record.words[3])), number(record.words[4])
+    size, mtype, flags = number(record.words[2]) % 2**64, int64(number(record.words[3])), flags32(record.words[4])
     if flags & 0o40000:
         raise NotTaken("MSG_COPY isn't there (docs/PROFILE.md, Not there)")
     return ["msgrcv", str(ident), str(size), str(mtype), octal(flags)]
@@ -144,6 +159,8 @@ def msgrcv(record, objects):
 def operation(it):
     """An operation of semop in the language."""
     num, amount, flags = (number(it["sem_num"]), number(it["sem_op"]), number(it["sem_flg"])) if isinstance(it, dict) else it
+    if not (0 <= num < 2**16 and -(2**15) <= amount < 2**15 and 0 <= flags < 2**16):
+        raise NotTaken("a number of an operation is wider than 16 bits")
     return f"{num}:{amount:+d}" + (f":{octal(flags)}" if flags else "") if amount else f"{num}:0" + (f":{octal(flags)}" if flags else "")
 
 
@@ -179,21 +196,21 @@ def owner(word, prefix):
         raise NotTaken("strace didn't write the structure")
     fields = value(word)
     perm = value(fields[f"{prefix}_perm"])
-    words = [str(number(perm[it]) % 2**32) for it in ("uid", "gid")] + [octal(number(perm["mode"]))]
-    return words + ([str(number(fields["msg_qbytes"]))] if prefix == "msg" and "msg_qbytes" in fields else [])
+    words = [str(number32(perm[it]) % 2**32) for it in ("uid", "gid")] + [octal(flags32(perm["mode"]))]
+    return words + ([str(number(fields["msg_qbytes"]) % 2**64)] if prefix == "msg" and "msg_qbytes" in fields else [])
 
 
 def semctl(record, objects, command, ident):
-    num = str(number(record.words[1]) % 2**32)
+    num = str(number32(record.words[1]) % 2**32)
     if command in ("GETVAL", "GETPID", "GETNCNT", "GETZCNT"):
         return [command.lower(), ident, num]
     if command == "SETVAL":
-        return ["setval", ident, num, str(int32(number(record.words[3])))]
+        return ["setval", ident, num, str(int32(number32(record.words[3])))]
     if command == "GETALL":
         return ["getall", ident]
     if record.error is None or record.error == "ERANGE":
         raise NotTaken("strace doesn't write the values of SETALL")
-    return ["setall", ident, *["0"] * objects.sizes.get(int32(number(record.words[0])), 1)]
+    return ["setall", ident, *["0"] * objects.sizes.get(ident_of(record), 1)]
 
 
 def control(record, objects):
@@ -216,7 +233,7 @@ def control(record, objects):
 def shmat(record, objects):
     if record.words[1] != "NULL" and record.error:
         raise NotTaken("an address is asked for; the definitions have none (rule 61)")
-    return ["shmat", str(objects.ident(record)), octal(number(record.words[2]))]
+    return ["shmat", str(objects.ident(record)), octal(flags32(record.words[2]))]
 
 
 def words_of(step, objects, numbers):
@@ -307,7 +324,7 @@ def judged(record, row, objects):
     if told:
         return False, told
     if command_of(record) == "IPC_RMID":
-        objects.removed.add((kind_of(record), int32(number(record.words[0]))))
+        objects.removed.add((kind_of(record), ident_of(record)))
     if record.name == "semget":
-        objects.sizes.setdefault(record.answer, number(record.words[1]))
+        objects.sizes.setdefault(record.answer, size_of(record, "s"))
     return True, f"({shortened(row)})"

@@ -4,12 +4,13 @@ Whether such a call is granted isn't decided here: what the kernel answered is f
 
 import re
 
-from values import NotTaken, number, numbers, parts
+from values import NotTaken, number32, numbers, parts
 
 BITS = {"SETGID": 6, "SETUID": 7, "IPC_OWNER": 15, "SYS_ADMIN": 21, "SYS_RESOURCE": 24}
 CAPABILITIES = tuple(BITS)
-READERS = {"getuid", "geteuid", "getgid", "getegid", "getresuid", "getresgid", "getgroups", "capget"}
-SETTERS = {"setuid", "setgid", "setreuid", "setregid", "setresuid", "setresgid", "setgroups", "capset"}
+# How many arguments each call has that reads credentials, and each that changes them.
+READERS = {"getuid": 0, "geteuid": 0, "getgid": 0, "getegid": 0, "getresuid": 3, "getresgid": 3, "getgroups": 2, "capget": 2}
+SETTERS = {"setuid": 1, "setgid": 1, "setreuid": 2, "setregid": 2, "setresuid": 3, "setresgid": 3, "setgroups": 2, "capset": 2}
 KEEP = -1
 
 
@@ -76,22 +77,29 @@ def cap_sets(word):
 
 
 def one(word):
-    return number(word.strip("[]"))
+    return ident(number32(word.strip("[]")))
+
+
+def ident(found):
+    """A user or a group, which has 32 bits and no sign."""
+    if not 0 <= found < 2**32:
+        raise NotTaken(f"{found} is no user or group")
+    return found
 
 
 def read_into(creds, call):
     """What a call that reads credentials tells of them."""
     words, users, groups = call.words, list(creds.users), list(creds.groups_of_ids)
     if call.name in ("getuid", "geteuid"):
-        users[call.name == "geteuid"] = call.answer
+        users[call.name == "geteuid"] = ident(call.answer)
     elif call.name in ("getgid", "getegid"):
-        groups[call.name == "getegid"] = call.answer
+        groups[call.name == "getegid"] = ident(call.answer)
     elif call.name == "getresuid":
         users = [one(it) for it in words]
     elif call.name == "getresgid":
         groups = [one(it) for it in words]
     elif call.name == "getgroups" and (call.answer == 0 or words[0] != "0"):
-        creds.groups = tuple(numbers(words[1])) if call.answer else ()
+        creds.groups = tuple(map(ident, numbers(words[1]))) if call.answer else ()
     elif call.name == "capget" and re.search(r"pid=0\b", words[0]):
         creds.caps, creds.permitted = cap_sets(words[1])
     creds.users, creds.groups_of_ids = tuple(users), tuple(groups)
@@ -99,7 +107,7 @@ def read_into(creds, call):
 
 def changed_ids(name, words, now, has_cap):
     """The real, the effective and the saved one after a granted call on users, or on groups."""
-    wanted = [KEEP if number(it) == 2**32 - 1 else number(it) for it in words]
+    wanted = [KEEP if number32(it) in (KEEP, 2**32 - 1) else ident(number32(it)) for it in words]
     if name in ("setuid", "setgid"):
         return (wanted[0],) * 3 if has_cap else (now[0], wanted[0], now[2])
     real = now[0] if wanted[0] == KEEP else wanted[0]
@@ -114,7 +122,7 @@ def followed(creds, call):
     """The credentials after a granted call that changes them."""
     it = creds.copy()
     if call.name == "setgroups":
-        it.groups = tuple(numbers(call.words[1])) if number(call.words[0]) else ()
+        it.groups = tuple(map(ident, numbers(call.words[1]))) if number32(call.words[0]) else ()
     elif call.name == "capset":
         it.caps, it.permitted = cap_sets(call.words[1])
     elif call.name in ("setuid", "setreuid", "setresuid"):

@@ -1,19 +1,28 @@
 """The lines of a trace: calls, ends and births of processes, in the order in which they came, and lines that are none of these."""
 
 import bisect
+import errno
+import os
 import pathlib
 import re
 
 from values import parts
 
-STAMP = r"(?:(?P<day>\d\d:\d\d:\d\d(?:\.\d+)?)|(?P<seconds>\d+\.\d+))\s+(?:\(\+\s*[\d.]+\)\s+)?"
-HEAD = re.compile(rf"\s*(?:\[pid\s+(?P<pid>\d+)\]\s+|(?P<pid_of_file>\d+)\s+)?(?:{STAMP})?(?P<rest>.*)", re.S)
-WHOLE = re.compile(r"(\w+)\((.*)\)\s+=\s+(.*?)(?: <([\d.]+)>)?$", re.S)
+SECONDS = r"[0-9]{1,12}\.[0-9]+"
+STAMP = rf"(?:(?P<day>[0-9]{{2}}:[0-9]{{2}}:[0-9]{{2}}(?:\.[0-9]+)?)|(?P<seconds>{SECONDS}))\s+(?:\(\+\s*[0-9.]+\)\s+)?"
+HEAD = re.compile(rf"\s*(?:\[pid\s+(?P<pid>[0-9]{{1,9}})\]\s+|(?P<pid_of_file>[0-9]{{1,9}})\s+)?(?:{STAMP})?(?P<rest>.*)", re.S)
+DURATION = rf"(?: <({SECONDS}|[0-9]{{1,9}})>)?"
+WHOLE = re.compile(rf"(\w+)\((.*)\)\s+=\s+(.*?){DURATION}$", re.S)
 OPEN = re.compile(r"(\w+)\((.*?) ?<unfinished \.\.\.>$", re.S)
 CUT_SHORT = re.compile(r"(\w+)\((.*?) ?<unfinished \.\.\.>\)\s+=\s+\?$", re.S)
-RESUMED = re.compile(r"<\.\.\. (\w+) resumed>(.*)\)\s+=\s+(.*?)(?: <([\d.]+)>)?$", re.S)
+CUT = re.compile(r"(\w+)\((.*)", re.S)
+RESUMED = re.compile(rf"<\.\.\. (\w+) resumed>(.*)\)\s+=\s+(.*?){DURATION}$", re.S)
 END = re.compile(r"\+\+\+ (?:exited with|killed by|superseded by execve).*\+\+\+$")
-ATTACHED = re.compile(r"strace: Process (\d+) attached$")
+ATTACHED = re.compile(r"strace: Process ([0-9]{1,9}) attached$")
+# What a call answered, of which the name of an error is one that there is.
+NUMBER = re.compile(r"(0x[0-9a-f]{1,16}|0|[1-9][0-9]{0,18})(?![^\s(<])")
+ERROR = re.compile(r"(?:-1|\?) (E[A-Z0-9_]+)(?!\S)")
+ERRORS = {*errno.errorcode.values(), "ERESTARTSYS", "ERESTARTNOINTR", "ERESTARTNOHAND", "ERESTART_RESTARTBLOCK"}
 DAY = 86400
 
 
@@ -48,14 +57,24 @@ class Record:
 
     @property
     def error(self):
-        found = re.match(r"(?:-1|\?) (E\w+)", self.result or "")
-        return found[1] if found else None
+        found = ERROR.match(self.result or "")
+        return found[1] if found and found[1] in ERRORS else None
 
     @property
     def answer(self):
         """The number that the call answered; None where it failed or didn't end."""
-        found = re.match(r"(0x[0-9a-f]+|\d+)", self.result or "")
+        found = NUMBER.match(self.result or "")
         return int(found[1], 0) if found else None
+
+    @property
+    def is_readable(self):
+        """Whether what the call answered can be read, or it has no end."""
+        return self.result in (None, "?") or self.error is not None or self.answer is not None
+
+    @property
+    def may_be_done(self):
+        """Whether the kernel may have done the call: it was granted, or what it answered isn't known."""
+        return self.kind == "other" or self.answer is not None or not self.is_readable
 
     @property
     def is_split(self):
@@ -94,7 +113,7 @@ class Clock:
 def lines_of(name, text, pid_of_file):
     """The lines of a file. The message that a process was attached may stand inside another line, which goes on in the next one."""
     found, clock, torn = [], Clock(), None
-    for at, line in enumerate(text.splitlines(), 1):
+    for at, line in enumerate(text.replace("\r\n", "\n").split("\n"), 1):
         at, line = (torn[0], torn[1] + line) if torn else (at, line)
         message = re.search(r"strace: Process \d+ attached$", line)
         torn = (at, line[: message.start()]) if message and message.start() else None
@@ -145,7 +164,9 @@ class Reader:
         record = Record("call", place, pid, stamp)
         found = CUT_SHORT.match(rest) or WHOLE.match(rest) or OPEN.match(rest)
         if not found:
-            record.kind, record.reason = "other", "the line is cut" if re.match(r"\w+\(", rest) else "no line of strace"
+            cut = CUT.match(rest)
+            record.kind, record.reason = "other", "the line is cut" if cut else "no line of strace"
+            record.name, record.words = (cut[1], parts(cut[2])[:-1]) if cut else ("", [])
         else:
             record.name, record.text = found[1], re.sub(r"\)\s+= (.*?)( <[\d.]+>)?$", r") = \1", rest)
             if found.re is WHOLE:
@@ -173,22 +194,35 @@ class Reader:
         self.records.append(record.resumed_at)
 
 
+def read_all(stdin):
+    """All of standard input, which may be closed."""
+    if stdin is None:
+        raise OSError(errno.EBADF, os.strerror(errno.EBADF))
+    return stdin.buffer.read()
+
+
 def read_file(path, name, stdin):
     """The records of a file."""
-    try:
-        content = stdin.buffer.read() if path is None else pathlib.Path(path).read_bytes()
-    except OSError as why:
-        raise BadFile(f"{path}: {why.strerror}") from why
     shown = path or "standard input"
+    try:
+        content = read_all(stdin) if path is None else pathlib.Path(path).read_bytes()
+    except OSError as why:
+        raise BadFile(f"{shown}: {why.strerror}") from why
     if not content.strip():
         raise BadFile(f"{shown}: it is empty")
-    number = re.search(r"\.(\d+)$", path or "") if name else None
-    lines, reader = lines_of(name, content.decode("utf-8", "replace"), int(number[1]) if number else None), Reader()
+    number = re.search(r"\.([0-9]{1,9})$", path or "") if name else None
+    records = records_of(name, content, int(number[1]) if number else None)
+    if not any(it.kind in ("call", "end", "birth") for it in records):
+        raise BadFile(f"{shown}: it is no trace: none of its lines is one of strace")
+    return records
+
+
+def records_of(name, content, pid_of_file):
+    """The records of a file's bytes."""
+    lines, reader = lines_of(name, content.decode("utf-8", "replace"), pid_of_file), Reader()
     name_processes(lines)
     for line in lines:
         reader.read(line)
-    if not any(it.kind in ("call", "end", "birth") for it in reader.records):
-        raise BadFile(f"{shown}: it is no trace: none of its lines is one of strace")
     return reader.records
 
 

@@ -1,6 +1,7 @@
 """Says of a trace of strace whether the kernel answered what the definitions give: ./ipcsh_trace, whose --help has the words."""
 
 import argparse
+import contextlib
 import os
 import pathlib
 import subprocess
@@ -23,11 +24,30 @@ class Words(argparse.ArgumentParser):
     """The words of the command line. Others end the program with status 3."""
 
     def error(self, message):
-        print(f"ipcsh_trace: {message}; ./ipcsh_trace --help has the words", file=sys.stderr)
+        complain(f"{message}; ./ipcsh_trace --help has the words")
         sys.exit(3)
 
 
-def words():
+def complain(text):
+    """A line on standard error, where that can be written."""
+    with contextlib.suppress(OSError, AttributeError):
+        sys.stderr.write(f"ipcsh_trace: {text}\n")
+        sys.stderr.flush()
+
+
+def write_out(text):
+    """Writes to standard output without a buffer, and says whether all of it was taken."""
+    rest = text.encode("utf-8", "surrogateescape")
+    try:
+        while rest:
+            rest = rest[os.write(sys.stdout.fileno(), rest) :]
+    except (OSError, AttributeError):
+        return False
+    return True
+
+
+def words(given=None):
+    """What the words of the command line ask for, or those that are given."""
     it = Words(add_help=False, allow_abbrev=False)
     it.add_argument("--script", action="store_true")
     it.add_argument("--uid", type=int)
@@ -38,7 +58,7 @@ def words():
     it.add_argument("--output")
     it.add_argument("--record", nargs=argparse.REMAINDER)
     it.add_argument("files", nargs="*")
-    given = it.parse_args()
+    given = it.parse_args(given)
     if given.record is not None and (given.files or not given.record):
         it.error("--record takes a program and its arguments, and no file of a trace")
     if given.output and given.record is None:
@@ -154,21 +174,14 @@ def main():
     given = words()
     try:
         plan, run = judge(given)
-    except lines.BadFile as why:
-        print(f"ipcsh_trace: {why}", file=sys.stderr)
+    except (lines.BadFile, runs.BadLine, runs.Stopped) as why:
+        complain(why)
+        return {lines.BadFile: 2, runs.BadLine: 3, runs.Stopped: 70}[type(why)]
+    told = run.script if given.script else [*verdict_lines(plan, run), last_line(plan, run)]
+    if not write_out("".join(f"{it}\n" for it in told)):
+        complain("write failed")
         return 2
-    except runs.BadLine as why:
-        print(f"ipcsh_trace: {why}", file=sys.stderr)
-        return 3
-    except runs.Stopped as why:
-        print(f"ipcsh_trace: {why}", file=sys.stderr)
-        return 70
-    if given.script:
-        print("\n".join(run.script))
-        return 0
-    for line in [*verdict_lines(plan, run), last_line(plan, run)]:
-        print(line)
-    return 1 if any(it[0] is False for it in run.verdicts.values()) else 0
+    return 1 if not given.script and any(it[0] is False for it in run.verdicts.values()) else 0
 
 
 if __name__ == "__main__":

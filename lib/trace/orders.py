@@ -28,7 +28,7 @@ def object_of(step):
     record = step.record
     if step.kind != "call":
         return None, None
-    ident = record.words[0] if record.name not in kernel.KINDS and record.name != "shmdt" else None
+    ident = next(iter(record.words), None) if record.name not in kernel.KINDS and record.name != "shmdt" else None
     return kind_of(record), ident
 
 

@@ -3,11 +3,13 @@
 import re
 
 import creds
-import kernel
 from processes import Attachment, Clients, Group, Process
-from values import NotTaken, is_address, number
+from values import DAMAGED, NotTaken, flags32, int32, is_address, number32, reason
 
-CALLS = {*kernel.KINDS, "msgsnd", "msgrcv", "msgctl", "semop", "semtimedop", "semctl", "shmat", "shmdt", "shmctl"}
+# How many arguments each call has; strace writes the fourth of semctl where the command takes one, or always.
+CALLS = {"msgget": 2, "semget": 3, "shmget": 3, "msgsnd": 4, "msgrcv": 5, "msgctl": 3, "semop": 3, "semtimedop": 4, "semctl": 4}
+CALLS.update({"shmat": 3, "shmdt": 1, "shmctl": 3})
+ARGUMENTS = {**CALLS, **creds.READERS, **creds.SETTERS}
 WAITING = {"msgsnd", "msgrcv", "semop", "semtimedop"}
 FORKS = {"fork", "vfork", "clone", "clone3"}
 NOT_IN_THE_END = re.compile(r"ERESTART\w*$|EINTR$")
@@ -37,6 +39,16 @@ def has_timeout(record):
     return record.name == "semtimedop" and len(record.words) > 3 and record.words[3] != "NULL"
 
 
+def ask_form(record):
+    """A call whose answer or whose arguments can't be those of the call isn't taken. Of one without an end arguments may be missing."""
+    if not record.is_readable:
+        raise NotTaken("its answer is none that strace writes")
+    count, wanted = len(record.words), ARGUMENTS[record.name]
+    if record.result in (None, "?") or count == wanted or (record.name == "semctl" and count == 3):
+        return
+    raise NotTaken(f"it has {count} argument{'s' * (count != 1)}, and {record.name} has {wanted}")
+
+
 def needs_system(record):
     """Whether the script needs a client of its own for it: to interrupt its wait, or to let its time pass."""
     if record.kind != "call" or record.name not in WAITING:
@@ -64,10 +76,12 @@ class Plan:
             self.end(record, process)
         elif record.kind == "other":
             self.notes.append((record, f"not taken: {record.reason}"))
+            if record.name in CALLS:
+                self.steps.append(Step("cut", record, None))
         elif record.kind == "call":
             try:
                 self.call(record, process)
-            except (NotTaken, ValueError, IndexError) as why:
+            except DAMAGED as why:
                 self.notes.append((record, f"not taken: {reason(why)}"))
         process.last_at = max(process.last_at, record.at if record.kind == "end" or record.result in (None, "?") else record.until)
 
@@ -100,8 +114,9 @@ class Plan:
 
     def read(self, now, record):
         try:
+            ask_form(record)
             creds.read_into(now, record)
-        except (NotTaken, ValueError, IndexError):
+        except DAMAGED:
             pass
 
     def call(self, record, process):
@@ -111,6 +126,7 @@ class Plan:
             if record.answer is not None:
                 self.read(process.creds, record)
         elif record.name in creds.SETTERS:
+            ask_form(record)
             self.change(record, process)
         elif record.name in FORKS:
             self.fork(record, process)
@@ -127,20 +143,25 @@ class Plan:
 
     def step(self, record, process):
         try:
+            ask_form(record)
             step = Step("call", record, self.client(process))
-        except NotTaken as why:
+            self.attach(step, process)
+        except DAMAGED as why:
             step = Step("untaken", record, None)
             step.why = reason(why)
-            return step
+        return step
+
+    def attach(self, step, process):
+        """What shmat attaches, and what shmdt detaches."""
+        record = step.record
         if record.name == "shmat":
-            step.attachment = Attachment(step.client, record.words[0], number(record.words[2]))
+            step.attachment = Attachment(step.client, int32(number32(record.words[0])), flags32(record.words[2]))
             if re.match("0x", record.result or ""):
                 process.group.attached[record.result] = step.attachment
         elif record.name == "shmdt" and is_address(record.words[0]):
             attached = process.group.attached
             step.attachment = attached.pop(record.words[0], None) if record.answer == 0 else attached.get(record.words[0])
             step.client = step.attachment.client if step.attachment else step.client
-        return step
 
     def end(self, record, process):
         process.has_ended = True
@@ -208,7 +229,3 @@ class Plan:
         else:
             process.creds, process.source = after, f"{record.place}"
             self.notes.append((record, f"followed: {after}"))
-
-
-def reason(why):
-    return str(why) if isinstance(why, NotTaken) else "strace's line has another form"

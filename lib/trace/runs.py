@@ -7,7 +7,7 @@ import threading
 from calls import Objects, judged, octal, remark, timeout_of, words_of
 from plan import has_timeout, was_interrupted
 from processes import SYSTEM
-from values import NotTaken
+from values import DAMAGED, reason
 
 # A line that the program answers without an event: so all rows of the line before it are read.
 MARK = "?"
@@ -133,15 +133,16 @@ class Run:
             raise BadLine(f"'{line}' isn't taken by the language: {answer}")
 
     def send(self, line, comment=None, step=None):
-        """Writes a line, and keeps what it answered: to the step itself, and to those whose wait it ended."""
+        """Writes a line, and keeps what it answered: to the step itself, and to those whose wait it ended. A line that the language doesn't
+        take isn't left in the script."""
         if comment:
             self.script.append(f"# {comment}"[:160].rstrip())
         self.script.append(line)
         own = None
         for row in self.session.ask(line):
             if row.startswith("line "):
-                own = row
-                continue
+                del self.script[-2 if comment else -1 :]
+                return row
             self.rows.append(row)
             if row.startswith("  "):
                 continue
@@ -158,7 +159,7 @@ class Run:
         if step.record.stamp is None or not (self.deadlines or has_timeout(step.record)):
             return
         now = int((step.record.stamp - self.began) * 10**9)
-        now = min([now, *(it - 1 for it in self.deadlines.values())])
+        now = min([now, 2**64 - 1, *(it - 1 for it in self.deadlines.values())])
         if now > self.now:
             self.now = now
             self.send(f"clock {now}")
@@ -167,7 +168,11 @@ class Run:
         if step.kind == "untaken":
             self.not_taken(step, step.why)
             return
-        {"call": self.call, "creds": self.call, "exit": self.exit, "inherit": self.inherit, "exec": self.exec}[step.kind](step)
+        kinds = {"call": self.call, "creds": self.call, "cut": self.cut, "exit": self.exit, "inherit": self.inherit, "exec": self.exec}
+        kinds[step.kind](step)
+
+    def cut(self, step):
+        self.objects.not_taken(step.record)
 
     def not_taken(self, step, why):
         self.verdicts[step] = (None, why)
@@ -177,11 +182,8 @@ class Run:
     def call(self, step):
         try:
             words = step.words or words_of(step, self.objects, self.numbers)
-        except NotTaken as why:
-            self.not_taken(step, str(why))
-            return
-        except (ValueError, KeyError, IndexError, TypeError):
-            self.not_taken(step, "strace's line has another form")
+        except DAMAGED as why:
+            self.not_taken(step, reason(why))
             return
         if step.client.name in self.waiting:
             self.not_taken(step, f"the definitions let {step.client.name} wait in the call of {self.waiting[step.client.name].record.place}")
@@ -236,10 +238,14 @@ class Run:
         row, ended_by = self.answers[step]
         if step in self.ended_by_exit or record.result in (None, "?") and row.endswith(" interrupted"):
             return True, "it waits until its process ends"
-        is_so, text = judged(record, row, self.objects)
+        try:
+            is_so, text = judged(record, row, self.objects)
+            more = remark(record) if is_so and not record.error else ""
+        except DAMAGED as why:
+            return None, f"its answer can't be read: {reason(why)}"
         if ended_by and ended_by is not step and is_so:
             text += f", after a wait that {cause(ended_by)} ends"
-        return is_so, text + (remark(record) if is_so and not record.error else "")
+        return is_so, text + more
 
     def exit(self, step):
         for client in step.group.clients:
@@ -254,7 +260,7 @@ class Run:
         """A new process has attached what its parent has."""
         comment = f"{step.record.place}: the new process has attached what its parent has"
         for it in step.attachments:
-            ident = self.objects.own.get(("m", int(it.ident)))
+            ident = self.objects.own.get(("m", it.ident))
             own = self.send(f"{it.client.name} shmat {ident} {octal(it.flags)}", comment, step) if ident is not None else None
             if own and own.startswith("attached "):
                 self.numbers[it] = int(own.split()[1])

@@ -10,10 +10,22 @@ NUMBERS.update({"SHM_HUGETLB": 0o4000, "SHM_NORESERVE": 0o10000, "SHM_DEST": 0o1
 ESCAPES = {"n": 10, "t": 9, "r": 13, "v": 11, "f": 12, "a": 7, "b": 8, "e": 27, "\\": 92, '"': 34}
 OPENING, CLOSING = "([{", ")]}"
 STRING = re.compile(r'"(?:[^"\\]|\\.)*"(?:\.\.\.)?', re.S)
+OCTAL, DECIMAL, HEX = re.compile(r"-?0[0-7]*"), re.compile(r"-?[1-9][0-9]*"), re.compile(r"-?0x[0-9a-fA-F]+")
+# Lists and structures of strace lie in one another at most three deep.
+DEEPEST = 8
 
 
 class NotTaken(Exception):
     """A line or a call that can't be translated; its text is the reason."""
+
+
+# What comes of a line that strace wrote otherwise than it does, or that was damaged later.
+DAMAGED = (NotTaken, ValueError, KeyError, IndexError, TypeError, AttributeError)
+
+
+def reason(why):
+    """The text of one of these."""
+    return str(why) if isinstance(why, NotTaken) else "strace's line has another form"
 
 
 class Text:
@@ -61,18 +73,44 @@ def number(word):
             total |= NUMBERS[part]
         elif re.fullmatch(r"-?\d+<<\w+", part):
             continue
-        elif re.fullmatch(r"-?(0x[0-9a-fA-F]+|\d+)", part):
-            digits = part.lstrip("-")
-            value = int(digits, 16 if digits[:2] == "0x" else 8 if digits[0] == "0" else 10)
-            total = total | value if value >= 0 and part[0] != "-" else -value
-        else:
+        elif (found := plain_number(part)) is None:
             raise NotTaken(f"'{word}' is no number that is known")
+        else:
+            total = found if part[0] == "-" else total | found
+    if not -(2**63) <= total < 2**64:
+        raise NotTaken(f"'{word}' is wider than 64 bits")
     return total
 
 
+def plain_number(part):
+    """A number without names; None for another text. No number of the kernel has more than 24 digits."""
+    if len(part) > 24:
+        return None
+    base = 16 if HEX.fullmatch(part) else 8 if OCTAL.fullmatch(part) else 10 if DECIMAL.fullmatch(part) else None
+    return None if base is None else int(part, base)
+
+
+def number32(word):
+    """A number of 32 bits, with or without a sign."""
+    found = number(word)
+    if not -(2**31) <= found < 2**32:
+        raise NotTaken(f"'{word}' is wider than 32 bits")
+    return found
+
+
+def flags32(word):
+    """Flags, or a mode, of 32 bits."""
+    found = number32(word)
+    if found < 0:
+        raise NotTaken(f"'{word}' is no set of flags")
+    return found
+
+
 @functools.lru_cache(None)
-def value(word):
+def value(word, depth=0):
     """An argument: None for an address, a number, a Text, a list, or a structure as a dictionary. `...` in a list is Ellipsis."""
+    if depth > DEEPEST:
+        raise NotTaken("its brackets lie too deep in one another")
     if word == "...":
         return ...
     if word[:1] == '"':
@@ -81,7 +119,7 @@ def value(word):
         items = parts(word[1:-1])
         if items and all(re.match(r"\w+=", it) or it == "..." for it in items):
             return {it.split("=", 1)[0]: it.split("=", 1)[1] for it in items if it != "..."}
-        return [value(it) for it in items]
+        return [value(it, depth + 1) for it in items]
     return number(word)
 
 
@@ -90,6 +128,8 @@ def numbers(word):
     found = value(word)
     if not isinstance(found, list) or ... in found:
         raise NotTaken("strace cut the list: record with -v")
+    if not all(isinstance(it, int) for it in found):
+        raise NotTaken(f"'{word}' is no list of numbers")
     return found
 
 
