@@ -22,7 +22,13 @@ explain_checks() {
     done
     attempt 'pictures are XML' are_well_formed
     attempt 'ipcsh_explain --svg, a file that cannot be written' draws_nowhere
+    attempt 'ipcsh_explain --svg, a script in place of the picture' keeps_file examples/waiting.ipcsh
+    attempt 'ipcsh_explain --svg, a file that is shorter than its beginning' keeps_file crates/ipcsh_explain/stdin
+    attempt 'ipcsh_explain --svg, the script twice' keeps_script
+    attempt 'ipcsh_explain --svg, over a picture and an empty file' draws_again
+    attempt 'ipcsh_explain --svg, into a pipe' draws_into_pipe
     attempt 'ipcsh_explain --svg with --who' takes_one_option
+    attempt 'ipcsh_explain --who, no such object and a bad line' finds_no_object
     attempt 'ipcsh_explain of a file' explains_a_file
     attempt 'ipcsh_explain of no file' explains_no_file
     attempt 'ipcsh_explain, output that cannot be written' explain_cannot_write
@@ -97,11 +103,64 @@ draws_nowhere() {
     same 'its output' "$scratch/wanted" "$scratch/out"
 }
 
+# keeps_file FILE: a copy of it isn't overwritten, and nothing is run.
+keeps_file() {
+    cp "$1" "$scratch/kept"
+    [ -s "$scratch/kept" ] || printf '<sv' >"$scratch/kept"
+    cp "$scratch/kept" "$scratch/copy"
+    status=0
+    "$(program_to_run ipcsh_explain)" --svg "$scratch/kept" examples/waiting.ipcsh </dev/null >"$scratch/out" 2>"$scratch/err" || status=$?
+    why="status $status, not 2, or it printed"
+    [ "$status" = 2 ] && [ ! -s "$scratch/out" ] || return 1
+    echo "ipcsh_explain: $scratch/kept: it is no picture, so --svg doesn't overwrite it" >"$scratch/wanted"
+    same 'its standard error' "$scratch/wanted" "$scratch/err" || return 1
+    same 'the file' "$scratch/copy" "$scratch/kept"
+}
+
+keeps_script() {
+    cp examples/waiting.ipcsh "$scratch/kept"
+    status=0
+    "$(program_to_run ipcsh_explain)" --svg "$scratch/kept" "$scratch/kept" >"$scratch/out" 2>"$scratch/err" || status=$?
+    why="status $status, not 3, or it printed"
+    [ "$status" = 3 ] && [ ! -s "$scratch/out" ] && grep -q '^ipcsh_explain: usage: ' "$scratch/err" || return 1
+    same 'the script' examples/waiting.ipcsh "$scratch/kept"
+}
+
+draws_again() {
+    : >"$scratch/empty.svg"
+    cp docs/pictures/deadlines.svg "$scratch/other.svg"
+    for picture in empty other; do
+        why="it fails over $picture.svg"
+        "$(program_to_run ipcsh_explain)" --svg "$scratch/$picture.svg" examples/waiting.ipcsh >"$scratch/out" 2>"$scratch/shown" || return 1
+        same 'the picture' docs/pictures/waiting.svg "$scratch/$picture.svg" || return 1
+    done
+}
+
+draws_into_pipe() {
+    why='it fails'
+    mkfifo "$scratch/pipe.svg"
+    cat "$scratch/pipe.svg" >"$scratch/piped.svg" &
+    timeout 60 "$(program_to_run ipcsh_explain)" --svg "$scratch/pipe.svg" examples/waiting.ipcsh >"$scratch/out" 2>"$scratch/shown" || return 1
+    wait $!
+    same 'the picture' docs/pictures/waiting.svg "$scratch/piped.svg"
+}
+
 takes_one_option() {
     status=0
     "$(program_to_run ipcsh_explain)" --svg "$scratch/picture.svg" --who queue 0 examples/waiting.ipcsh >"$scratch/out" 2>"$scratch/err" || status=$?
     why="status $status, not 3, or it printed"
     [ "$status" = 3 ] && [ ! -s "$scratch/out" ] && grep -q '^ipcsh_explain: usage: ' "$scratch/err"
+}
+
+finds_no_object() {
+    status=0
+    printf 'client alice 100 10\nalice mssget 5 0600\n' |
+        "$(program_to_run ipcsh_explain)" --who queue 0 >"$scratch/out" 2>"$scratch/err" || status=$?
+    why="status $status, not 2, or it printed"
+    [ "$status" = 2 ] && [ ! -s "$scratch/out" ] || return 1
+    printf 'ipcsh_explain: %s\n' 'bad lines in the script: 1; a run without --who tells of each' \
+        'at the end of the script there is no queue 0' >"$scratch/wanted"
+    same 'its standard error' "$scratch/wanted" "$scratch/err"
 }
 
 explains_a_file() {

@@ -2,8 +2,10 @@
 //! were good. 1: some line was bad. 2: a fault. 3: words that the program doesn't take.
 #![tactic(auto)]
 
+mod pictures;
 mod words;
 
+use crate::pictures::{refuse_other, write_picture};
 use crate::words::{Asked, Task};
 use client_rights::print_rights;
 use ipc_call::Kind;
@@ -11,13 +13,12 @@ use ipc_explain::{Explained, explain};
 use ipcsh::{Fault, write_bytes};
 use perm_words::kind_name;
 use program_words::{asked, read_whole};
-use run_picture::{STYLE, draw};
-use run_watch::{left_by, watch};
+use run_watch::left_by;
 use std::alloc::AllocError;
+use std::io;
 use std::io::Error;
 use std::process::ExitCode;
 use std::rt::{Env, Files};
-use std::{fs, io};
 use thiserror::Error;
 
 /// A run that read all its lines, some of them bad.
@@ -41,6 +42,9 @@ enum Failure {
     /// The picture can't be written to this file.
     #[error("{0}: {1}")]
     Picture(String, Error),
+    /// This file holds something else than a picture.
+    #[error("{0}: it is no picture, so --svg doesn't overwrite it")]
+    NoPicture(String),
     /// At the end of the script there is no object of this kind and identifier.
     #[error("at the end of the script there is no {0} {1}")]
     NoObject(&'static str, u32),
@@ -77,6 +81,7 @@ fn run<R: Env + Files + Input + Print + Eprint + AllocGlobal>(rt: &R) -> Result<
         }
         Task::Explain => explain_alone(rt, &asked.script),
         Task::Picture(path) => {
+            refuse_other(rt, path.as_str())?;
             let script = script_of(rt, &asked.script)?;
             explain_with_picture(rt, script.as_slice(), path.as_str())
         }
@@ -120,13 +125,8 @@ fn explain_with_picture<R: Files + Print + AllocGlobal>(
 ) -> Result<u8, Failure> {
     let mut reader = script;
     let status = print(rt, explain(rt.alloc(), &mut reader)?)?;
-    let run = watch(rt.alloc(), script)?;
-    let mut picture = String::new(rt.alloc());
-    draw(&mut picture, STYLE, &run)?;
-    match fs::write(rt, path, picture.as_bytes()) {
-        Ok(()) => Ok(status),
-        Err(error) => Err(Failure::Picture(String::from_str(rt.alloc(), path)?, error)),
-    }
+    write_picture(rt, script, path)?;
+    Ok(status)
 }
 
 /// Prints who may do what to an object when the script has ended.

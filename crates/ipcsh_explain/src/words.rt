@@ -67,7 +67,18 @@ fn asked_by(alloc: Global, matches: &ArgMatches<'_>) -> Result<Option<Asked>, Al
         Some(path) => Some(String::from_str(alloc, path)?),
         None => None,
     };
+    if draws_over(&task, &script) {
+        return Ok(None);
+    }
     Ok(Some(Asked { task, script }))
+}
+
+/// The script and the picture have the same name.
+fn draws_over(task: &Task, script: &Option<String>) -> bool {
+    match (task, script) {
+        (Task::Picture(picture), Some(script)) => picture.as_str() == script.as_str(),
+        _ => false,
+    }
 }
 
 fn task_of(alloc: Global, matches: &ArgMatches<'_>) -> Result<Option<Task>, AllocError> {
