@@ -20,6 +20,7 @@ c_checks() {
         attempt "2,000 random calls, $seed" random_calls_replay "$seed"
     done
     attempt 'random calls under valgrind' random_calls_replay 11 "$(watch)"
+    attempt 'memory of ten million calls' stays_flat_in_c
     if command -v cargo >/dev/null; then rust_checks; else echo 'c: there is no cargo, so rust/ was not tried'; fi
 }
 
@@ -30,6 +31,7 @@ rust_checks() {
     for file in rust/examples/*.rs; do
         attempt "$file" prints_in_rust "$file"
     done
+    attempt 'memory of ten million calls from Rust' stays_flat_in_rust
 }
 
 # with_cargo WORD..: what cargo makes of rust/ is in out/rust.
@@ -48,6 +50,30 @@ prints_in_rust() {
     [ -f "$wanted" ] || wanted=${1%.rs}.out
     with_cargo build --offline --quiet --example "$name" || return 1
     prints "$wanted" "out/rust/debug/examples/$name" definite
+}
+
+stays_flat_in_c() {
+    with_library checks/c/flat && stays_flat "$scratch/with_library"
+}
+
+stays_flat_in_rust() {
+    with_cargo build --offline --quiet --release --example flat && stays_flat out/rust/release/examples/flat
+}
+
+# stays_flat PROGRAM: ten million calls with texts leave no more in memory than ten thousand, also where the journal is read every thousand calls;
+# and what is read of a journal, one part behind another, is replayed as the same.
+stays_flat() {
+    for file in '' /dev/null; do
+        why="memory grows, with journal '$file':"
+        timeout 300 "$1" 10000000 $file >"$scratch/out" 2>"$scratch/shown" || return 1
+    done
+    has_program ipcsh_journal || return 1
+    why='it fails'
+    timeout 300 "$1" 1000000 "$scratch/journal" >"$scratch/out" 2>"$scratch/shown" || return 1
+    why='its journal has not just its calls'
+    [ "$(grep -c '^at ' "$scratch/journal")" = 1000002 ] || return 1
+    why='its journal is not replayed as the same:'
+    "$(program_to_run ipcsh_journal)" --replay "$scratch/journal" >"$scratch/shown" 2>&1
 }
 
 library_is_built() {

@@ -31,9 +31,60 @@ docs_checks() {
     attempt 'links' links_lead_somewhere
     attempt 'pictures of docs/threads.rows' threads_are_drawn
     attempt 'tables of docs/threads.rows' threads_are_told
+    attempt 'docs/ASSUMED.md, crates of the kit' names_kit_crates
+    attempt 'docs/ASSUMED.md, programs' names_programs
     attempt 'wrong bodies' edits_are_current
     attempt 'man/' man_pages_are_current
     ! command -v man >/dev/null || attempt 'man -l' man_pages_show
+}
+
+# names_kit_crates: the table of docs/ASSUMED.md has each crate of the kit that crates.txt names, and no other; and a crate that it
+# says uses one does so there.
+names_kit_crates() {
+    kit_uses >"$scratch/uses"
+    assumed_uses >"$scratch/assumed"
+    cut -d ' ' -f 1 "$scratch/uses" | sort -u >"$scratch/wanted"
+    cut -d ' ' -f 1 "$scratch/assumed" | sort -u >"$scratch/named"
+    same 'its list of the crates of the kit' "$scratch/wanted" "$scratch/named" || return 1
+    why='crates.txt has no such use of a crate of the kit:'
+    ! grep -v -x -F -f "$scratch/uses" "$scratch/assumed" >"$scratch/shown"
+}
+
+# kit_uses: a line `CRATE USER` for each crate of the kit and each crate of the repository that names it, by crates.txt.
+kit_uses() {
+    awk '
+        { sub(/#.*/, ""); at = index($0, ":") }
+        at { split(substr($0, 1, at), head, /[ :]/); own[head[1]] = 1; uses[head[1]] = substr($0, at + 1) }
+        END {
+            for (user in uses) {
+                count = split(uses[user], list, " ")
+                for (i = 1; i <= count; i++) if (!(list[i] in own)) print list[i], user
+            }
+        }' crates.txt
+}
+
+# assumed_uses: the same by the table of docs/ASSUMED.md.
+assumed_uses() {
+    awk -F '|' '
+        function names(cell, list) {
+            gsub(/[^a-z0-9_]+/, " ", cell)
+            return split(cell, list, " ")
+        }
+        /^## / { inside = /The statements of the kit/ }
+        inside && $2 ~ /`/ {
+            crates = names($2, crate)
+            users = names($3, user)
+            for (i = 1; i <= crates; i++) for (j = 1; j <= users; j++) print crate[i], user[j]
+        }' docs/ASSUMED.md
+}
+
+# names_programs: the row of scripts of docs/ASSUMED.md has each program at the top of the repository, and no other.
+names_programs() {
+    for file in *; do
+        [ ! -f "$file" ] || [ ! -x "$file" ] || printf '%s\n' "$file"
+    done | LC_ALL=C sort >"$scratch/wanted"
+    sed -n 's/^| the shell scripts \([^|]*\), the Python.*/\1/p' docs/ASSUMED.md | grep -o '`[^`]*`' | tr -d '`' | LC_ALL=C sort >"$scratch/named"
+    same 'its list of programs' "$scratch/wanted" "$scratch/named"
 }
 
 # Each edit of the part `wrong`, which takes long, can be tried on the code as it stands.

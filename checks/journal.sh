@@ -12,6 +12,7 @@ journal_checks() {
     attempt 'each script of examples' replays_examples
     attempt 'a journal that is handed out in parts' replays_parts
     attempt 'a script without a call' says_no_call
+    attempt 'a script without a call, and a bad line' says_no_call_and_a_bad_line
     attempt 'a bad line' tells_a_bad_line
     attempt 'no file' journal_fails 2 'ipcsh_journal: no-such-file: read failed' no-such-file
     attempt 'two files' journal_fails 3 'ipcsh_journal: usage: ipcsh_journal [FILE] | --replay [FILE]' README.md README.md
@@ -77,6 +78,15 @@ journal_fails() {
 
 says_no_call() {
     journal_fails 2 'ipcsh_journal: the script makes no call, so there is no journal'
+}
+
+says_no_call_and_a_bad_line() {
+    status=0
+    printf 'client alice 100 10\nalice mssget 5 0600\n' | "$program" >"$scratch/out" 2>"$scratch/err" || status=$?
+    why="status $status, not 2, or it prints something"
+    [ "$status" = 2 ] && [ ! -s "$scratch/out" ] || return 1
+    printf '%s\n' 'line 2: bad-line' 'ipcsh_journal: the script makes no call, so there is no journal' >"$scratch/wanted"
+    same 'its standard error' "$scratch/wanted" "$scratch/err"
 }
 
 tells_a_bad_line() {

@@ -1,4 +1,4 @@
-# Wrong bodies and weakened plans, which the prover must refuse, over what `rt ci` has proved (lib/wrong_bodies.py).
+# Wrong bodies and weakened plans, which the prover must refuse, or of an edit with a line `bound:` the compiler, over what `rt ci` has proved (lib/wrong_bodies.py).
 #
 # What a caller knows of a function are its clauses alone. So wrong bodies of several functions are tried in one check, in a
 # fifth of the time that one check for each takes, and of the other functions the clauses are left alone (lib/stubs.py):

@@ -38,7 +38,9 @@ enum {
     IPCSH_NO_MEMORY = -7,    /* an allocation fails */
     IPCSH_BAD_LIMITS = -8,   /* a limit isn't in its range */
     IPCSH_BAD_CLIENTS = -9,  /* there are none or more than 64, or one has more than 32 groups, or capabilities that there aren't */
-    IPCSH_NULL = -10         /* a null pointer */
+    IPCSH_NULL = -10,        /* a null pointer */
+    IPCSH_COMBINING = -11,   /* of ipcsh_raw_read_journal: another handle combines, or reads it; ask again */
+    IPCSH_NO_JOURNAL = -12   /* the handle reads no journal */
 };
 
 enum ipcsh_op {
@@ -72,8 +74,9 @@ typedef struct ipcsh ipcsh; /* a handle; never looked into */
 struct ipcsh_limits {
     uint32_t slots, msgmax, msgmnb, semmsl, semopm, shmmax;
     uint32_t first_seq; /* its low 16 bits count */
+    uint32_t journal;   /* not 0: the service keeps its journal until it is read, as by ipcsh_open_with_journal */
 };
-#define IPCSH_DEFAULT_LIMITS { 128, 8192, 16384, 32000, 500, 33554432, 0 }
+#define IPCSH_DEFAULT_LIMITS { 128, 8192, 16384, 32000, 500, 33554432, 0, 0 }
 
 struct ipcsh_client {
     uint32_t uid, gid; /* the effective ones, and the real and the saved ones too */
@@ -150,7 +153,8 @@ int32_t ipcsh_raw_open(const struct ipcsh_limits *, const struct ipcsh_client *,
 int32_t ipcsh_raw_post(ipcsh *, const struct ipcsh_request *, const void *, size_t, const struct ipcsh_semop *, size_t, const uint16_t *, size_t,
                        const uint32_t *, size_t);
 int32_t ipcsh_raw_advance(ipcsh *, struct ipcsh_reply *, void *, size_t, uint16_t *, size_t, struct ipcsh_object *, size_t);
-void ipcsh_raw_close(ipcsh *);
+int32_t ipcsh_raw_read_journal(ipcsh *, uint64_t *, void *, size_t);
+int32_t ipcsh_raw_close(ipcsh *);
 
 /* The way of a call: inlined, it costs few of the tests on it, since a call by name gives most of their operands as constants. */
 #if defined(__GNUC__)
@@ -181,7 +185,8 @@ IPCSH_INLINE int ipcsh_has_room(const struct ipcsh_room *room)
 }
 
 /*
- * Opens a service for n clients, 1 to 64, and writes a handle for each to `handles`, in their order. Each is to be closed.
+ * Opens a service for n clients, 1 to 64, and writes a handle for each to `handles`, in their order. Each is to be closed. It keeps no journal: a
+ * call leaves nothing in memory but what it made, as a message, a waiting call, an object or an attachment.
  * IPCSH_BAD_LIMITS, IPCSH_BAD_CLIENTS, IPCSH_NO_MEMORY: there is no service, and each of `handles` is NULL. IPCSH_NULL: `handles` is as it was.
  */
 static inline int ipcsh_open(const struct ipcsh_limits *limits, const struct ipcsh_client *clients, size_t n, ipcsh **handles)
@@ -190,6 +195,37 @@ static inline int ipcsh_open(const struct ipcsh_limits *limits, const struct ipc
         return IPCSH_NULL;
     memset(handles, 0, n * sizeof *handles);
     return ipcsh_raw_open(limits, clients, n, handles, n);
+}
+
+/*
+ * The same, and the service keeps its journal, some 130 bytes a call and its text, until the first handle reads it by ipcsh_read_journal.
+ */
+static inline int ipcsh_open_with_journal(const struct ipcsh_limits *limits, const struct ipcsh_client *clients, size_t n, ipcsh **handles)
+{
+    struct ipcsh_limits with;
+    if (!limits)
+        return IPCSH_NULL;
+    with = *limits;
+    with.journal = 1;
+    return ipcsh_open(&with, clients, n, handles);
+}
+
+/*
+ * Reads on in the text of the journal, by the first handle of a service that keeps one: at most `size` bytes, each of the text once, and `len` says
+ * how many. 0 bytes: there is no more as yet. All that is read, one behind another, is a journal that ./ipcsh_journal --replay checks. The
+ * thread gives up the processor while another handle combines. IPCSH_NO_JOURNAL, IPCSH_BUSY, IPCSH_NO_MEMORY, IPCSH_NULL: nothing is read or lost.
+ */
+static inline int ipcsh_read_journal(ipcsh *handle, void *bytes, size_t size, size_t *len)
+{
+    uint64_t count = 0;
+    int code;
+    if (!handle || !len || (!bytes && size))
+        return IPCSH_NULL;
+    while ((code = ipcsh_raw_read_journal(handle, &count, IPCSH_SOME(bytes, void), size)) == IPCSH_COMBINING)
+        sched_yield();
+    if (!code)
+        *len = (size_t)count;
+    return code;
 }
 
 /* Closes a handle, also one whose call is in flight. With its last handle a service ends. NULL is let be. */

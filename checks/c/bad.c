@@ -30,6 +30,7 @@ static void opening(void)
     tell("open with too many slots", ipcsh_open(&other, &one, 1, handles));
     tell("a raw open with fewer places than clients", ipcsh_raw_open(&limits, many, 2, handles, 1));
     one.ngroups = 32;
+    tell("open with a journal for no clients", ipcsh_open_with_journal(&limits, &one, 0, handles));
     tell("open with 32 groups", ipcsh_open(&limits, &one, 1, handles));
     ipcsh_close(handles[0]);
     ipcsh_close(NULL);
@@ -116,6 +117,36 @@ static void keeping(ipcsh *alice, ipcsh *bob)
     tell("post, and leave it in flight", ipcsh_post(alice, &receive, NULL));
 }
 
+/* The first handle reads the journal, of a service that keeps one, while it asks nothing. */
+static void reading(const struct ipcsh_limits *limits, const struct ipcsh_client *clients)
+{
+    struct ipcsh_request receive = ipcsh_request_of(IPCSH_MSGRCV, 0);
+    ipcsh *handles[2];
+    char text[16] = "";
+    size_t len = 77;
+    if (ipcsh_open(limits, clients, 2, handles))
+        return;
+    tell("read the journal of a service that keeps none", ipcsh_read_journal(handles[0], text, sizeof text, &len));
+    ipcsh_close(handles[0]);
+    ipcsh_close(handles[1]);
+    if (ipcsh_open_with_journal(limits, clients, 2, handles))
+        return;
+    tell("read it by the second handle", ipcsh_read_journal(handles[1], text, sizeof text, &len));
+    tell("read it without a handle", ipcsh_read_journal(NULL, text, sizeof text, &len));
+    tell("read it to NULL", ipcsh_read_journal(handles[0], NULL, sizeof text, &len));
+    tell("read it without a place for the length", ipcsh_read_journal(handles[0], text, sizeof text, NULL));
+    tell("post", ipcsh_post(handles[0], &receive, NULL));
+    tell("read it while a call is in flight", ipcsh_read_journal(handles[0], text, sizeof text, &len));
+    printf("the length is %s, and the text '%s'\n", len == 77 ? "as it was" : "changed", text);
+    tell("wait", ipcsh_wait(handles[0], &(struct ipcsh_reply){.place = 0}, NULL));
+    tell("read 15 bytes", ipcsh_read_journal(handles[0], text, 15, &len));
+    printf("    %u: '%s'\n", (unsigned)len, text);
+    tell("read none", ipcsh_read_journal(handles[0], NULL, 0, &len));
+    printf("    %u\n", (unsigned)len);
+    ipcsh_close(handles[0]);
+    ipcsh_close(handles[1]);
+}
+
 int main(void)
 {
     const struct ipcsh_limits limits = IPCSH_DEFAULT_LIMITS;
@@ -126,6 +157,7 @@ int main(void)
         return 1;
     calling(handles[0], handles[1]);
     keeping(handles[0], handles[1]);
+    reading(&limits, clients);
     ipcsh_close(handles[0]);
     ipcsh_close(handles[1]);
     return 0;

@@ -317,7 +317,7 @@ static int by_place(const void *a, const void *b)
 
 int main(int argc, char **argv)
 {
-    const struct ipcsh_limits limits = {8, BYTES - 4, 4 * BYTES, SEMS, 2, BYTES, 0};
+    const struct ipcsh_limits limits = {8, BYTES - 4, 4 * BYTES, SEMS, 2, BYTES, 0, 0};
     struct ipcsh_client creds[CLIENTS];
     ipcsh *handles[CLIENTS];
     if (argc != 4)

@@ -42,7 +42,7 @@ fn pause(still: &Still, looks: u32) {
 /// Each method makes a call and waits for its answer; [`post`](Client::post) doesn't wait. Dropping a client isn't
 /// [`exit`](Client::exit): what its operations with `SemFlags::UNDO` did stays, and so do its attachments.
 pub struct Client {
-    handle: Handle,
+    pub(crate) handle: Handle,
     pid: u32,
     time: u64,
     last: Option<Place>,
@@ -136,7 +136,7 @@ impl Client {
     }
 
     // Where a call whose `Posted` was dropped is still there, it ends first.
-    fn end_dropped(&mut self) -> Result<(), Error> {
+    pub(crate) fn end_dropped(&mut self) -> Result<(), Error> {
         while self.is_posted {
             match self.step() {
                 Ok(_) => {}

@@ -7,7 +7,7 @@ use std::{error, fmt, io};
 /// Linux's numbers (errno(3)).
 const ENOMEM: i32 = 12;
 const EBUSY: i32 = 16;
-const EINVAL: i32 = 22;
+pub(crate) const EINVAL: i32 = 22;
 
 /// Why a call has no answer.
 #[derive(Clone, Copy, Debug, PartialEq, Eq)]

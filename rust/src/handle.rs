@@ -44,7 +44,14 @@ unsafe extern "C" {
         objects_len: usize,
     ) -> i32;
 
-    fn ipcsh_raw_close(handle: *mut Seat);
+    fn ipcsh_raw_read_journal(
+        handle: *mut Seat,
+        count: *mut u64,
+        bytes: *mut u8,
+        bytes_len: usize,
+    ) -> i32;
+
+    fn ipcsh_raw_close(handle: *mut Seat) -> i32;
 }
 
 /// A handle that is open, and closed when it is dropped.
@@ -125,11 +132,24 @@ impl Handle {
             )
         }
     }
+
+    /// Reads on in the text of the journal: how many bytes, or the library's code.
+    pub(crate) fn read_journal(&mut self, bytes: &mut [u8]) -> Result<usize, i32> {
+        let mut count = 0;
+        // SAFETY: as in `advance`.
+        let code = unsafe {
+            ipcsh_raw_read_journal(self.0.as_ptr(), &mut count, bytes.as_mut_ptr(), bytes.len())
+        };
+        match code {
+            0 => Ok(usize::try_from(count).expect("no more than there is room for")),
+            code => Err(code),
+        }
+    }
 }
 
 impl Drop for Handle {
     fn drop(&mut self) {
         // SAFETY: the handle is open, and nothing uses it after its drop.
-        unsafe { ipcsh_raw_close(self.0.as_ptr()) }
+        unsafe { ipcsh_raw_close(self.0.as_ptr()) };
     }
 }

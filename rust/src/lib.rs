@@ -29,6 +29,7 @@ mod flags;
 #[allow(unsafe_code)]
 mod handle;
 mod ids;
+mod journal;
 mod messages;
 mod opening;
 mod processes;
@@ -43,6 +44,7 @@ pub use client::{Advanced, Client, Place, Posted};
 pub use error::{Error, OpenError};
 pub use flags::{AttachFlags, Caps, GetFlags, ReceiveFlags, SemFlags, SendFlags};
 pub use ids::{Attached, Kind, QueueId, SegmentId, SetId};
+pub use journal::Journal;
 pub use messages::{Message, QueueSettings, Receive};
 pub use opening::{Creds, Limits, Service};
 pub use rules::Rule;

@@ -10,10 +10,21 @@ use crate::raw::{RawClient, RawLimits};
 pub enum Service {}
 
 impl Service {
-    /// Opens a service for 1 to 64 clients, and gives them in the order of their credentials.
+    /// Opens a service for 1 to 64 clients, and gives them in the order of their credentials. It keeps no journal: a call
+    /// leaves nothing in memory but what it made, as a message, a waiting call, an object or an attachment.
     pub fn open(limits: &Limits, clients: &[Creds]) -> Result<Vec<Client>, OpenError> {
+        Service::opened(limits, clients, false)
+    }
+
+    /// The same, and the service keeps its journal, some 130 bytes a call and its text, until it is read by the [`Journal`] of
+    /// the first client.
+    pub fn open_with_journal(limits: &Limits, clients: &[Creds]) -> Result<Vec<Client>, OpenError> {
+        Service::opened(limits, clients, true)
+    }
+
+    fn opened(limits: &Limits, clients: &[Creds], journal: bool) -> Result<Vec<Client>, OpenError> {
         let raw: Vec<RawClient> = clients.iter().map(Creds::raw).collect();
-        let handles = handle::open(&limits.raw(), &raw).map_err(OpenError::of_code)?;
+        let handles = handle::open(&limits.raw(journal), &raw).map_err(OpenError::of_code)?;
         Ok((1..)
             .zip(handles)
             .map(|(pid, handle)| Client::new(pid, handle))
@@ -56,7 +67,7 @@ impl Default for Limits {
 }
 
 impl Limits {
-    fn raw(&self) -> RawLimits {
+    fn raw(&self, journal: bool) -> RawLimits {
         RawLimits {
             slots: self.slots,
             msg_max: self.msg_max,
@@ -65,6 +76,7 @@ impl Limits {
             sem_opm: self.sem_opm,
             shm_max: self.shm_max,
             first_seq: self.first_seq.into(),
+            journal: journal.into(),
         }
     }
 }

@@ -12,6 +12,7 @@ pub(crate) struct RawLimits {
     pub(crate) sem_opm: u32,
     pub(crate) shm_max: u32,
     pub(crate) first_seq: u32,
+    pub(crate) journal: u32,
 }
 
 /// `struct ipcsh_client`.

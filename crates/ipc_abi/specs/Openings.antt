@@ -1,5 +1,5 @@
 -- What a service is opened with.
-use Rattle.std.specs.Prelude.{◌%◌, ◌<◌, ◌≤◌, take}
+use Rattle.std.specs.Prelude.{Bool, not, ◌==◌, ◌%◌, ◌<◌, ◌≤◌, take}
 use Rattle.ipc_call.specs.declared.limits.Limits.{Limits}
 use Rattle.ipc_creds.specs.Credentials.{Credentials, groups_max}
 use Rattle.ipc_abi.specs.declared.opening.RawClient.{RawClient}
@@ -16,6 +16,10 @@ limits_in l = record {
   sem_opm = l.sem_opm;
   shm_max = l.shm_max;
 }
+
+-- whether a service keeps its journal until it is read
+abbrev pub journal_in : RawLimits → Bool
+journal_in l = not (l.journal == 0)
 
 -- at most 32 groups count, and no capability but the five that there are is given
 abbrev pub IsValid : RawClient → Type 0

@@ -1,14 +1,15 @@
 //! What a service is opened with.
 
 ghost use Rattle.std.specs.Prelude.{◌≡◌, ◌↔◌, map, All, IfOk, IsTrue};
-ghost use Rattle.ipc_abi.specs.Openings.{IsValid, creds_in, limits_in};
+ghost use Rattle.ipc_abi.specs.Openings.{IsValid, creds_in, journal_in, limits_in};
 
 use bitflags::Flags;
 use ipc_call::{Limits, Memory};
 use ipc_creds::{Caps, Creds, GROUPS_MAX};
 use std::alloc::Global;
 
-/// The limits of a namespace, in numbers.
+/// What a service is opened with beside its clients: the limits of its namespace, in numbers, and whether it keeps its journal
+/// until it is read, where `journal` isn't 0, or not at all.
 #[repr(C)]
 #[derive(Clone, Copy, Debug, PartialEq, Eq)]
 pub struct RawLimits {
@@ -19,6 +20,7 @@ pub struct RawLimits {
     pub sem_opm: u32,
     pub shm_max: u32,
     pub first_seq: u32,
+    pub journal: u32,
 }
 
 /// The credentials of a client: its user and group, its supplementary groups, of which the first `ngroups` count, and its
@@ -47,6 +49,13 @@ impl RawLimits {
             sem_opm: self.sem_opm,
             shm_max: self.shm_max,
         }
+    }
+
+    /// Whether the service keeps its journal until it is read.
+    pub fn keeps_journal(&self) -> bool
+        ensures { result ≡ journal_in self.now }
+    {
+        self.journal != 0
     }
 }
 

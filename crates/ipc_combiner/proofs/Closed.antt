@@ -1,5 +1,5 @@
 -- What the clients told at the close, by the words that the list took in.
-use Rattle.std.proofs.Common.{◌≡◌, ◌≢◌, ◌⊎◌, ℕ, Bool, ◌+◌, ◌≤◌, ◌<◌, List, [], ◌∷◌, ◌++◌, length, refl, sym, ap, ◌∙◌, subst, inl, inr, ⊎_elim, arith, append-nil, All}
+use Rattle.std.proofs.Common.{◌≡◌, ◌≢◌, ◌⊎◌, ℕ, ◌+◌, ◌≤◌, ◌<◌, List, [], ◌∷◌, ◌++◌, length, refl, sym, ap, ◌∙◌, subst, inl, inr, ⊎_elim, arith, append-nil, All}
 use Rattle.std.proofs.lemmas.List.Elements.{All-nil, All-cons, All-head}
 use Rattle.ipc_call.specs.declared.calls.Call.{Call}
 use Rattle.ipc_call.specs.declared.replies.Reply.{Reply}
@@ -19,9 +19,10 @@ use Rattle.pub_list.proofs.Marking.{goes_further}
 use Rattle.ipc_combiner.specs.declared.closing.Client.{Client}
 use Rattle.ipc_combiner.specs.declared.closing.Client.TheVariants.{Unjoined, Idle, InFlight}
 use Rattle.ipc_combiner.specs.declared.entries.Entry.{Entry}
+use Rattle.ipc_combiner.specs.declared.entries.Keeping.{Keeping}
 use Rattle.ipc_combiner.specs.Closing.{number_of, work_of, IsClientOf, Has, IsKept, HasBegun, IsTold, IsOpenedBy}
-use Rattle.ipc_combiner.specs.Entries.{entries_of, history_in, keeps_in, own, replies}
-use Rattle.ipc_combiner.specs.States.{IsOpened, Records, first_entries, keeps, opened}
+use Rattle.ipc_combiner.specs.Entries.{entries_of, history_in, keeping_in, own, replies}
+use Rattle.ipc_combiner.specs.States.{IsOpened, Records, first_entries, keeping, opened}
 
 abbrev Known : Type 0
 Known = Work Entry (ℕ × Call) Reply
@@ -122,10 +123,10 @@ module _ (h : List Entry) (cs : List Client) (closed : List Words) (are : closed
   each_told = λ k d lt. replies_by _ (subst (IsAmong _) (sym are) (are_among cs [] k d lt))
 
 -- the opening stays
-pub saw_opening : (a b : Bool) (o h : History) (seen : List Entry) → GoesOn (entries_of a o) seen → GoesOn seen (entries_of b h) → (h.limits ≡ o.limits) × (h.clients ≡ o.clients) × (b ≡ a)
+pub saw_opening : (a b : Keeping) (o h : History) (seen : List Entry) → GoesOn (entries_of a o) seen → GoesOn seen (entries_of b h) → (h.limits ≡ o.limits) × (h.clients ≡ o.clients) × (b ≡ a)
 saw_opening a b o h seen first then =
     let all = goes_further (entries_of a o) seen (entries_of b h) first then in
-    (ap (λ (es : List Entry). (history_in es).limits) all.1, ap (λ (es : List Entry). (history_in es).clients) all.1, ap keeps_in all.1)
+    (ap (λ (es : List Entry). (history_in es).limits) all.1, ap (λ (es : List Entry). (history_in es).clients) all.1, ap keeping_in all.1)
 
 client_saw : (list : Records) (c : Client) → IsClientOf list c → GoesOn (first_entries list) (work_of c).seen
 client_saw list (Unjoined c) is = ([], is.1 ∙ sym (append-nil (first_entries list)))
@@ -138,9 +139,9 @@ below_from n s [] is law = All-nil (λ (e : Event). e.client < n)
 below_from n s (e ∷ es) is law = All-cons (λ (x : Event). x.client < n) e es (let known = law.0.known in omega arith)
     (below_from n (step s e).state es ((Follows-step s e).clients ∙ is) law.1)
 
-pub is_opened : (list : Records) (b : Bool) (h : History) (cs : List Client) → IsOpened list → 1 ≤ length cs → All (λ c. IsClientOf list c) cs → All (λ c. IsTold (entries_of b h) cs c) cs → IsLegal h
-    → IsOpenedBy (opened list) list.clients h × (b ≡ keeps list)
+pub is_opened : (list : Records) (b : Keeping) (h : History) (cs : List Client) → IsOpened list → 1 ≤ length cs → All (λ c. IsClientOf list c) cs → All (λ c. IsTold (entries_of b h) cs c) cs → IsLegal h
+    → IsOpenedBy (opened list) list.clients h × (b ≡ keeping list)
 is_opened list b h [] for some are told law = absurd (omega (arith, some))
 is_opened list b h (c ∷ cs) for some are told law =
-    let same = saw_opening (keeps list) b (opened list) h (work_of c).seen (client_saw list c (All-head (λ x. IsClientOf list x) c cs are)) (All-head (λ x. IsTold (entries_of b h) (c ∷ cs) x) c cs told).saw in
+    let same = saw_opening (keeping list) b (opened list) h (work_of c).seen (client_saw list c (All-head (λ x. IsClientOf list x) c cs are)) (All-head (λ x. IsTold (entries_of b h) (c ∷ cs) x) c cs told).saw in
     ((same.0, same.1, below_from list.clients (opening h.limits h.clients) h.events (ap length same.1 ∙ for.0) law), same.2)

@@ -1,5 +1,5 @@
 -- One more call of the namespace, and handing out what it tells.
-use Rattle.std.proofs.Common.{◌≡◌, ◌≢◌, ℕ, ◌+◌, ◌≤◌, ◌<◌, Bool, false, cond, eqb, List, [], ◌∷◌, ◌++◌, map, length, refl, sym, ap, ◌∙◌, subst, inl, inr, arith, ⊎_elim, Option, Some, None, All, append-nil, length-append, eq-eqb, ne_eqb, IfOk, OnOk, Result, Ok, Err}
+use Rattle.std.proofs.Common.{◌≡◌, ◌≢◌, ℕ, ◌+◌, ◌≤◌, ◌<◌, false, cond, eqb, List, [], ◌∷◌, ◌++◌, map, length, refl, sym, ap, ◌∙◌, subst, inl, inr, arith, ⊎_elim, Option, Some, None, All, append-nil, length-append, eq-eqb, ne_eqb, IfOk, OnOk, Result, Ok, Err}
 use Rattle.std.specs.Prelude.{filter}
 use Rattle.std.proofs.lemmas.List.Elements.{All-head, All-tail}
 use mathlib.Core.Logic.{dite}
@@ -22,6 +22,7 @@ use Rattle.pub_rule.specs.WorkSteps.{with_work, refusing, leaving, paying, reply
 use Rattle.pub_list.specs.Combining.{MayAnswer, MayPark, EntersCall}
 use Rattle.pub_list.specs.declared.asking.Answer.TheVariants as answers
 use Rattle.pub_list.specs.Passing.{HasTaken, IsAsFar, HasDealt}
+use Rattle.ipc_combiner.specs.declared.entries.Keeping.{Keeping}
 use Rattle.pub_list.proofs.Marking.{goes_further}
 use Rattle.ipc_combiner.specs.declared.entries.Entry.{Entry}
 use Rattle.ipc_combiner.specs.declared.shared.Shared.{Shared}
@@ -46,18 +47,18 @@ no_head x l e = let size = ap length e in absurd (omega (arith, size))
 alone : (l rest : List Reply) (y : Reply) → l ≡ y ∷ rest → length l ≤ 1 → rest ≡ []
 alone l rest y is few = let size = ap length is in none_left rest (omega (arith, size, few))
 
-replies-entries : (keeps : Bool) (h : History) (r : ℕ) → replies (entries_of keeps h) r ≡ model.replies h r
-replies-entries keeps h r = ap (λ (z : History). model.replies z r) (history-entries keeps h)
+replies-entries : (keeping : Keeping) (h : History) (r : ℕ) → replies (entries_of keeping h) r ≡ model.replies h r
+replies-entries keeping h r = ap (λ (z : History). model.replies z r) (history-entries keeping h)
 
 -- a client each of whose calls has its reply has none that waits
-pub calls_freely : (keeps : Bool) (h : History) (r : ℕ) → IsLegal h → length (own (entries_of keeps h) r) ≡ length (replies (entries_of keeps h) r) → is_waiting (model.run h) r ≡ false
-calls_freely keeps h r legal same = is_free h r legal (sym (ap length (ap (λ (z : History). model.own z r) (history-entries keeps h))) ∙ same ∙ ap length (replies-entries keeps h r))
+pub calls_freely : (keeping : Keeping) (h : History) (r : ℕ) → IsLegal h → length (own (entries_of keeping h) r) ≡ length (replies (entries_of keeping h) r) → is_waiting (model.run h) r ≡ false
+calls_freely keeping h r legal same = is_free h r legal (sym (ap length (ap (λ (z : History). model.own z r) (history-entries keeping h))) ∙ same ∙ ap length (replies-entries keeping h r))
 
 -- what the last event brought a client
 brings : (n : ℕ) (v : Knowledge) (state : Shared) (rest : List (ℕ × Reply)) (h : IsHanding n v state rest) (r : ℕ) → replies v.work.seen r ≡ replies v.work.before r ++ replies_in (replies_of h.before h.event) r
 brings n v state rest h r =
-    ap (λ (es : List Entry). replies es r) h.is ∙ replies-entries h.keeps (with_event h.before h.event) r ∙ replies_push h.before h.event r
-    ∙ ap (λ (l : List Reply). l ++ replies_in (replies_of h.before h.event) r) (sym (replies-entries h.keeps h.before r) ∙ ap (λ (es : List Entry). replies es r) (sym h.was))
+    ap (λ (es : List Entry). replies es r) h.is ∙ replies-entries h.keeping (with_event h.before h.event) r ∙ replies_push h.before h.event r
+    ∙ ap (λ (l : List Reply). l ++ replies_in (replies_of h.before h.event) r) (sym (replies-entries h.keeping h.before r) ∙ ap (λ (es : List Entry). replies es r) (sym h.was))
 
 -- what is still to be handed out
 module _ (n : ℕ) (v : Knowledge) (state : Shared) (o : ℕ) (y : Reply) (rest : List (ℕ × Reply)) (h : IsHanding n v state ((o, y) ∷ rest)) where
@@ -91,7 +92,7 @@ module _ (n : ℕ) (v : Knowledge) (state : Shared) (o : ℕ) (y : Reply) (rest 
     seen = ap entries_in same ∙ h.seen;
     before = h.before;
     event = h.event;
-    keeps = h.keeps;
+    keeping = h.keeping;
     was = h.was;
     is = h.is;
     is_legal = h.is_legal;
@@ -112,7 +113,7 @@ all_handed n v state h = (
       (λ (l : IsOn r v.work.paid × (replies_in [] r ≡ [])). inr l.0)
       (λ (k : (¬ IsOn r v.work.paid) × (replies_in [] r ≡ replies_in (replies_of h.before h.event) r)). inl (brings n v state [] h r ∙ ap (λ (l : List Reply). replies v.work.before r ++ l) (sym k.1) ∙ append-nil (replies v.work.before r)))
       (h.each r lt)),
-  subst legal (sym h.is) (is_legal h.keeps (with_event h.before h.event) h.is_legal),
+  subst legal (sym h.is) (is_legal h.keeping (with_event h.before h.event) h.is_legal),
 )
 
 -- it has taken the record of a client that posted this call
@@ -137,20 +138,20 @@ module _ (n client now : ℕ) (call : Call) (v : Knowledge) (old : Shared) (take
   is_replied = subst (λ es. length (own es client) ≡ length (replies es client)) (sym taken.2) taken.4
 
   pub is_lawful : IsLegal was
-  is_lawful = subst IsLegal (history-entries old.keeps was) (subst legal (sym taken.2) taken.7).1
+  is_lawful = subst IsLegal (history-entries old.keeping was) (subst legal (sym taken.2) taken.7).1
 
   pub serves_still : (w : Knowledge) (new : Shared) → w ≡ with_work (refusing client v.work) v → entries_in new ≡ entries_in old → Serves n w new
   serves_still w new e same = subst (λ (z : Knowledge). Serves n z new) (sym e) ((taken.0, refl), same ∙ taken.2, taken.3, taken.7)
 
-  module _ (new : Shared) (mine : Option Reply) (others : List (ℕ × Reply)) (ent : HasEntered client now call was (history_of new) mine others) (as_before : new.keeps ≡ old.keeps) where
-    becomes : entries_in new ≡ entries_of old.keeps (with_event was event)
-    becomes = ap (λ (k : Bool). entries_of k (history_of new)) as_before ∙ ap (entries_of old.keeps) ent.0
+  module _ (new : Shared) (mine : Option Reply) (others : List (ℕ × Reply)) (ent : HasEntered client now call was (history_of new) mine others) (as_before : new.keeping ≡ old.keeping) where
+    becomes : entries_in new ≡ entries_of old.keeping (with_event was event)
+    becomes = ap (λ (k : Keeping). entries_of k (history_of new)) as_before ∙ ap (entries_of old.keeping) ent.0
 
     longer : entries_in new ≡ v.work.seen ++ called event ∷ []
-    longer = becomes ∙ entries_push old.keeps was event ∙ ap (λ (l : List Entry). l ++ called event ∷ []) taken.2
+    longer = becomes ∙ entries_push old.keeping was event ∙ ap (λ (l : List Entry). l ++ called event ∷ []) taken.2
 
     legal_now : legal (entries_in new)
-    legal_now = is_legal new.keeps (history_of new) ent.1
+    legal_now = is_legal new.keeping (history_of new) ent.1
 
     next_legal : IsLegal (with_event was event)
     next_legal = subst IsLegal ent.0 ent.1
@@ -159,8 +160,8 @@ module _ (n client now : ℕ) (call : Call) (v : Knowledge) (old : Shared) (take
     enters = ((now, call), called event, taken.1, refl, refl, longer, legal_now, taken.3)
 
     more : (r : ℕ) → replies (entries_in new) r ≡ replies v.work.seen r ++ replies_in (replies_of was event) r
-    more r = replies-entries new.keeps (history_of new) r ∙ ap (λ (z : History). model.replies z r) ent.0 ∙ replies_push was event r
-        ∙ ap (λ (l : List Reply). l ++ replies_in (replies_of was event) r) (sym (replies-entries old.keeps was r) ∙ ap (λ (es : List Entry). replies es r) taken.2)
+    more r = replies-entries new.keeping (history_of new) r ∙ ap (λ (z : History). model.replies z r) ent.0 ∙ replies_push was event r
+        ∙ ap (λ (l : List Reply). l ++ replies_in (replies_of was event) r) (sym (replies-entries old.keeping was r) ∙ ap (λ (es : List Entry). replies es r) taken.2)
 
     goes_on : GoesOn v.work.seen (entries_in new)
     goes_on = (called event ∷ [], longer)
@@ -181,7 +182,7 @@ module _ (n client now : ℕ) (call : Call) (v : Knowledge) (old : Shared) (take
         seen = ap entries_in eq;
         before = was;
         event = event;
-        keeps = old.keeps;
+        keeping = old.keeping;
         was = sym taken.2;
         is = becomes;
         is_legal = next_legal;
@@ -216,7 +217,7 @@ module _ (n client now : ℕ) (call : Call) (v : Knowledge) (old : Shared) (take
         seen = ap entries_in eq;
         before = was;
         event = event;
-        keeps = old.keeps;
+        keeping = old.keeping;
         was = sym taken.2;
         is = becomes;
         is_legal = next_legal;

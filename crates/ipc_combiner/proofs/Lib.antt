@@ -4,3 +4,4 @@ mod Handing
 mod Learning
 mod Opened
 mod Polling
+mod Taking

@@ -7,7 +7,7 @@ use Rattle.ipc_model.specs.Step.{Event}
 use Rattle.ipc_history.specs.History.{AreLegalFrom}
 use Rattle.ipc_combiner.specs.Entries.{legal}
 use Rattle.ipc_combiner.specs.Laws.{is_legal}
-use Rattle.ipc_combiner.specs.States.{IsOpened, Records, first_entries, keeps, opened}
+use Rattle.ipc_combiner.specs.States.{IsOpened, Records, first_entries, keeping, opened}
 
 module _ {X Y : Type 0} (f : X → Y) where
   -- one more is mapped
@@ -27,4 +27,4 @@ module _ {X Y : Type 0} (f : X → Y) where
 -- a history to which nobody has called is legal
 pub opening_is_legal : (list : Records) → IsOpened list → legal (first_entries list)
 opening_is_legal list is = let h = opened list in
-    is_legal (keeps list) h (subst (λ (es : List Event). AreLegalFrom (opening h.limits h.clients) es) (sym is.1) tt)
+    is_legal (keeping list) h (subst (λ (es : List Event). AreLegalFrom (opening h.limits h.clients) es) (sym is.1) tt)

@@ -44,7 +44,7 @@ IsKept h (InFlight c) = let w = clients_of.work c.joined in
     × (Has h c.joined.client (w.entered ++ k ∷ []) w.got
     ⊎ ((x : Reply) × Has h c.joined.client (w.entered ++ k ∷ []) (w.got ++ x ∷ []))))
 
--- one of the clients has this number, and began to combine
+-- one of the clients has this number, and began to combine, be it to serve or to take rows
 abbrev pub HasBegun : ℕ → List Client → Type 0
 HasBegun r [] = ⊥
 HasBegun r (c ∷ cs) = ((number_of c ≡ r) × (1 ≤ (work_of c).begun)) ⊎ HasBegun r cs

@@ -1,5 +1,5 @@
 -- That the entries of a service meet the laws of a served state.
-use Rattle.std.proofs.Common.{◌≡◌, ◌≢◌, ◌⊎◌, ℕ, Bool, ◌+◌, ◌≤◌, cond, List, [], ◌∷◌, ◌++◌, map, length}
+use Rattle.std.proofs.Common.{◌≡◌, ◌≢◌, ◌⊎◌, ℕ, ◌+◌, ◌≤◌, cond, List, [], ◌∷◌, ◌++◌, map, length}
 use Rattle.std.proofs.Common.{refl, sym, ap, ◌∙◌, subst, inl, inr, arith, append-nil, eq-eqb, ne_eqb, ⊎_elim}
 use Rattle.std.specs.Prelude.{◌==◌}
 use Rattle.ipc_call.specs.declared.replies.Reply.{Reply}
@@ -14,7 +14,8 @@ use Rattle.ipc_space.proofs.Balance.{own_push, replies_push, told_once, no_more_
 use Rattle.pub_rule.specs.Work.{GoesOn}
 use Rattle.ipc_combiner.specs.declared.entries.Entry.{Entry}
 use Rattle.ipc_combiner.specs.declared.entries.Entry.TheVariants.{Opened, Called}
-use Rattle.ipc_combiner.specs.Entries.{called, entries_of, events_in, history_in, keeps_in, legal, has_clients}
+use Rattle.ipc_combiner.specs.declared.entries.Keeping.{Keeping}
+use Rattle.ipc_combiner.specs.Entries.{called, entries_of, events_in, history_in, keeping_in, legal, has_clients}
 use Rattle.ipc_combiner.specs.Entries.{client_of, call_of, own, replies}
 
 events-called : (es : List Event) → events_in (map called es) ≡ es
@@ -22,28 +23,28 @@ events-called [] = refl
 events-called (e ∷ es) = ap (λ l. e ∷ l) (events-called es)
 
 -- the entries of a history mean it
-pub history-entries : (keeps : Bool) (h : History) → history_in (entries_of keeps h) ≡ h
-history-entries keeps h = ap (λ (es : List Event). record h { events = es }) (events-called h.events)
+pub history-entries : (keeping : Keeping) (h : History) → history_in (entries_of keeping h) ≡ h
+history-entries keeping h = ap (λ (es : List Event). record h { events = es }) (events-called h.events)
 
-pub is_legal : (keeps : Bool) (h : History) → IsLegal h → legal (entries_of keeps h)
-is_legal keeps h is = (ap (entries_of keeps) (sym (history-entries keeps h)), subst IsLegal (sym (history-entries keeps h)) is)
+pub is_legal : (keeping : Keeping) (h : History) → IsLegal h → legal (entries_of keeping h)
+is_legal keeping h is = (ap (entries_of keeping) (sym (history-entries keeping h)), subst IsLegal (sym (history-entries keeping h)) is)
 
 map-called : (es : List Event) (e : Event) → map called (es ++ e ∷ []) ≡ map called es ++ called e ∷ []
 map-called [] e = refl
 map-called (x ∷ es) e = ap (λ l. called x ∷ l) (map-called es e)
 
 -- one more call is one more entry
-pub entries_push : (keeps : Bool) (h : History) (e : Event) → entries_of keeps (with_event h e) ≡ entries_of keeps h ++ called e ∷ []
-entries_push keeps h e = ap (λ l. Opened h.limits h.clients keeps ∷ l) (map-called h.events e)
+pub entries_push : (keeping : Keeping) (h : History) (e : Event) → entries_of keeping (with_event h e) ≡ entries_of keeping h ++ called e ∷ []
+entries_push keeping h e = ap (λ l. Opened h.limits h.clients keeping ∷ l) (map-called h.events e)
 
 abbrev openings : List Entry → ℕ
 openings [] = 0
-openings (Opened limits clients keeps ∷ es) = 1 + openings es
+openings (Opened limits clients keeping ∷ es) = 1 + openings es
 openings (Called client now call ∷ es) = openings es
 
 openings-append : (a b : List Entry) → openings (a ++ b) ≡ openings a + openings b
 openings-append [] b = omega arith
-openings-append (Opened limits clients keeps ∷ a) b = let rest = openings-append a b in omega (arith, rest)
+openings-append (Opened limits clients keeping ∷ a) b = let rest = openings-append a b in omega (arith, rest)
 openings-append (Called client now call ∷ a) b = openings-append a b
 
 openings-called : (es : List Event) → openings (map called es) ≡ 0
@@ -53,17 +54,17 @@ openings-called (e ∷ es) = openings-called es
 -- what goes on from a legal history is a call
 pub as_call : (h : List Entry) (e : Entry) → legal h → legal (h ++ e ∷ []) → (ev : Event) × (e ≡ called ev)
 as_call h (Called client now call) was is = (record { client = client; now = now; call = call }, refl)
-as_call h (Opened limits clients keeps) was is =
-    let both = openings-append h (Opened limits clients keeps ∷ []) in
+as_call h (Opened limits clients keeping) was is =
+    let both = openings-append h (Opened limits clients keeping ∷ []) in
     let all = ap openings is.0 in
-    let one = openings-called (history_in (h ++ Opened limits clients keeps ∷ [])).events in
+    let one = openings-called (history_in (h ++ Opened limits clients keeping ∷ [])).events in
     let before = ap openings was.0 in
     let none = openings-called (history_in h).events in
     absurd (omega (arith, both, all, one, before, none))
 
 pub push_call : (h : List Entry) (e : Event) → legal h → history_in (h ++ called e ∷ []) ≡ with_event (history_in h) e
 push_call h e was = ap (λ l. history_in (l ++ called e ∷ [])) was.0
-    ∙ ap history_in (sym (entries_push (keeps_in h) (history_in h) e)) ∙ history-entries (keeps_in h) (with_event (history_in h) e)
+    ∙ ap history_in (sym (entries_push (keeping_in h) (history_in h) e)) ∙ history-entries (keeping_in h) (with_event (history_in h) e)
 
 own_called : (h : List Entry) (e : Event) (r : ℕ) → legal h
     → own (h ++ called e ∷ []) r ≡ own h r ++ cond (e.client == r) ((e.now, e.call) ∷ []) []
@@ -126,7 +127,7 @@ no_more h r is = no_more_replies (history_in h) r is.1
 
 pub stays : (n : ℕ) (h k : List Entry) → GoesOn h k → has_clients n h → has_clients n k
 stays n [] k more is = absurd is
-stays n (Opened limits clients keeps ∷ es) k more is = subst (has_clients n) (sym more.1) is
+stays n (Opened limits clients keeping ∷ es) k more is = subst (has_clients n) (sym more.1) is
 stays n (Called client now call ∷ es) k more is = absurd is
 
 -- that a history is legal can't be so in two ways

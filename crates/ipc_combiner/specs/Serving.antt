@@ -1,9 +1,10 @@
 -- How a client serves the namespace: what one more call tells, and what of it is still to be handed out.
-use Rattle.std.specs.Prelude.{◌≡◌, ◌⊎◌, ℕ, Bool, ◌<◌, List, [], ◌∷◌, ◌++◌, Option, Some, None, All, box_value}
+use Rattle.std.specs.Prelude.{◌≡◌, ◌⊎◌, ℕ, ◌<◌, List, [], ◌∷◌, ◌++◌, length, Option, Some, None, All, box_value}
 use Rattle.ipc_call.specs.declared.calls.Call.{Call}
 use Rattle.ipc_call.specs.declared.replies.Reply.{Reply}
 use Rattle.ipc_model.specs.Step.{Event}
-use Rattle.ipc_history.specs.History.{History, IsLegal, with_event}
+use Rattle.ipc_history.specs.History.{History, IsLegal, rows_of, with_event}
+use Rattle.ipc_space.specs.Spaces.{Parts}
 use Rattle.ipc_space.specs.Telling.{replies_of, replies_in}
 use Rattle.pub_rule.specs.declared.walk.View.{View}
 use Rattle.pub_rule.specs.declared.work.Work.{Work}
@@ -11,6 +12,8 @@ use Rattle.pub_rule.specs.Lists.{IsOn}
 use Rattle.pub_list.specs.Combining.{IsCombining}
 use Rattle.pub_list.specs.Passing.{IsServing}
 use Rattle.ipc_combiner.specs.declared.entries.Entry.{Entry}
+use Rattle.ipc_combiner.specs.declared.entries.Keeping.{Keeping}
+use Rattle.ipc_combiner.specs.declared.entries.Keeping.TheVariants.{Whole, UntilTaken, Nothing}
 use Rattle.ipc_combiner.specs.declared.shared.Shared.{Shared}
 use Rattle.ipc_combiner.specs.Entries.{entries_of, legal, replies}
 
@@ -24,7 +27,13 @@ history_of state = (box_value state.ledger).history
 
 -- the entries that the shared namespace means
 abbrev pub entries_in : Shared → List Entry
-entries_in state = entries_of state.keeps (history_of state)
+entries_in state = entries_of state.keeping (history_of state)
+
+-- how many rows of a journal were handed out once an event has ended, by what is kept of it
+abbrev pub given_after : Keeping → Parts → ℕ
+given_after Whole l = l.given
+given_after UntilTaken l = l.given
+given_after Nothing l = length (rows_of l.history)
 
 -- who is told what by an event: its own client first, where its call doesn't wait
 abbrev pub told_list : ℕ → Option Reply → List (ℕ × Reply) → List (ℕ × Reply)
@@ -44,9 +53,9 @@ pub record IsHanding (n : ℕ) (v : Knowledge) (state : Shared) (rest : List (�
   pub seen : entries_in state ≡ v.work.seen
   pub before : History
   pub event : Event
-  pub keeps : Bool
-  pub was : v.work.before ≡ entries_of keeps before
-  pub is : v.work.seen ≡ entries_of keeps (with_event before event)
+  pub keeping : Keeping
+  pub was : v.work.before ≡ entries_of keeping before
+  pub is : v.work.seen ≡ entries_of keeping (with_event before event)
   pub is_legal : IsLegal (with_event before event)
   pub known : All (λ t. t.0 < n) rest
   pub each : (r : ℕ) → r < n → (IsOn r v.work.paid × (replies_in rest r ≡ []))

@@ -13,6 +13,7 @@ use Rattle.pub_list.specs.Clients.{first_seen, work, BelongsTo, IsFreshOf}
 use Rattle.pub_list.specs.Opening.{opening_of}
 use Rattle.ipc_history.specs.History.{History}
 use Rattle.ipc_combiner.specs.declared.entries.Entry.{Entry}
+use Rattle.ipc_combiner.specs.declared.entries.Keeping.{Keeping}
 use Rattle.ipc_combiner.specs.declared.shared.Shared.{Shared}
 use Rattle.ipc_combiner.specs.Entries.{entries_of, legal, own, replies}
 
@@ -24,13 +25,13 @@ Records = Listing Shared Entry (ℕ × Call) Reply
 abbrev pub opened : Records → History
 opened list = (box_value (opening_of list).ledger).history
 
--- whether it keeps its journal
-abbrev pub keeps : Records → Bool
-keeps list = (opening_of list).keeps
+-- what it keeps of its journal
+abbrev pub keeping : Records → Keeping
+keeping list = (opening_of list).keeping
 
 -- what it was opened as
 abbrev pub first_entries : Records → List Entry
-first_entries list = entries_of (keeps list) (opened list)
+first_entries list = entries_of (keeping list) (opened list)
 
 -- it was opened for as many clients as the list has, and nobody had called
 abbrev pub IsOpened : Records → Type 0

@@ -39,7 +39,7 @@ pub enum Polled {
 pub enum Pass {
     /// The client served each posted record on the list.
     Passed,
-    /// This other client combined.
+    /// This other client combined, or took rows of the journal.
     Busy(u32),
 }
 

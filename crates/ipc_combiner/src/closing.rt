@@ -1,10 +1,11 @@
 //! The service is closed: its clients are handed in, and the namespace comes back.
-ghost use Rattle.std.specs.Prelude.{◌≡◌, true, false, length, All};
+ghost use Rattle.std.specs.Prelude.{◌≡◌, false, length, All};
 ghost use Rattle.ipc_history.specs.History.{IsLegal};
 ghost use Rattle.ipc_combiner.specs.Entries.{entries_of};
 ghost use Rattle.pub_list.specs.Closing.{list_of, work_of as end_work};
 ghost use Rattle.ipc_combiner.specs.Closing.{work_of, IsClientOf, IsOpenedBy, IsTold};
-ghost use Rattle.ipc_combiner.specs.States.{keeps, opened, Records};
+ghost use Rattle.ipc_combiner.specs.States.{keeping, opened, Records};
+ghost use Rattle.ipc_combiner.specs.declared.entries.Keeping.TheVariants.{Whole};
 
 use crate::shared::Shared;
 use crate::states::{Idle, InFlight, Service, Unjoined};
@@ -23,15 +24,15 @@ pub enum Client {
 }
 
 impl Service {
-    /// Closes a service that keeps its journal, with all its clients, and gives the namespace with its journal. A call in
+    /// Closes a service that keeps its journal whole, with all its clients, and gives the namespace with its journal. A call in
     /// flight that no combiner served is in no history; one that waits, waits in the namespace that comes back.
     pub fn close(self, clients: Vec<Client>) -> Space
-        requires keeps { keeps self.list ≡ true }
+        requires keeping { keeping self.list ≡ Whole }
         requires all { length clients.items ≡ self.list.clients }
         requires service { All (λ c. IsClientOf self.list c) clients.items }
         ensures opening { IsOpenedBy (opened self.list) self.list.clients result }
         ensures legal { IsLegal result }
-        ensures told { All (λ c. IsTold (entries_of true result) clients.items c) clients.items }
+        ensures told { All (λ c. IsTold (entries_of Whole result) clients.items c) clients.items }
     {
         self.close_ledger(clients).into_space()
     }
@@ -42,8 +43,8 @@ impl Service {
         requires service { All (λ c. IsClientOf self.list c) clients.items }
         ensures opening { IsOpenedBy (opened self.list) self.list.clients result.history }
         ensures legal { IsLegal result.history }
-        ensures told { All (λ c. IsTold (entries_of (keeps self.list) result.history) clients.items c) clients.items }
-        ensures kept { keeps self.list ≡ true → result.given ≡ 0 }
+        ensures told { All (λ c. IsTold (entries_of (keeping self.list) result.history) clients.items c) clients.items }
+        ensures kept { keeping self.list ≡ Whole → result.given ≡ 0 }
     {
         let mut closing = self.list.closing();
         for client in clients {

@@ -5,6 +5,7 @@
 mod calls;
 mod closing;
 mod entries;
+pub mod laws;
 mod opening;
 mod parts;
 mod serving;
@@ -16,8 +17,8 @@ mod waiting;
 
 pub use calls::{Pass, Polled, Seen};
 pub use closing::Client;
-pub use entries::Entry;
-pub use parts::Part;
+pub use entries::{Entry, Keeping};
+pub use parts::Untaken;
 pub use pub_list::{OpenGate, PassGate};
 pub use shared::Shared;
 pub use states::{Idle, InFlight, Service, Unjoined};

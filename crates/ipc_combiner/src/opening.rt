@@ -1,8 +1,10 @@
 //! A service is opened.
-ghost use Rattle.std.specs.Prelude.{◌≡◌, ◌≤◌, true, false, map, vec_len, IsTrue, IfOk};
+ghost use Rattle.std.specs.Prelude.{◌≡◌, ◌≤◌, map, vec_len, IsTrue, IfOk};
 ghost use Rattle.ipc_call.specs.Limits.{are_in_range};
 ghost use Rattle.ipc_combiner.specs.Started.{IsStarted};
+ghost use Rattle.ipc_combiner.specs.declared.entries.Keeping.TheVariants.{Whole};
 
+use crate::entries::Keeping;
 use crate::shared::Shared;
 use crate::sleeping::Sleepers;
 use crate::states::{Service, Unjoined};
@@ -14,8 +16,8 @@ use std::alloc::Global;
 
 impl Service {
     /// A service with these limits, each in its range, for 1 to 64 clients, numbered from 0 in the order of their
-    /// credentials; and its clients, none of which has joined. It keeps its journal. Memory (ENOMEM) is for an allocation
-    /// that was refused.
+    /// credentials; and its clients, none of which has joined. It keeps its journal whole. Memory (ENOMEM) is for an
+    /// allocation that was refused.
     pub fn start(
         alloc: Global,
         limits: Limits,
@@ -24,44 +26,30 @@ impl Service {
         requires limits { IsTrue (are_in_range limits) }
         requires some { 1 ≤ vec_len clients }
         requires few { vec_len clients ≤ 64 }
-        ensures { IfOk result (λ start. IsStarted limits clients true start) }
+        ensures { IfOk result (λ start. IsStarted limits clients Whole start) }
     {
-        open(alloc, limits, clients, true)
+        Service::start_keeping(alloc, limits, clients, Keeping::Whole)
     }
 
-    /// The same, but it hands out the rows of its journal to clients that take them.
-    pub fn start_in_parts(
+    /// The same, which keeps this of its journal.
+    pub fn start_keeping(
         alloc: Global,
         limits: Limits,
         clients: Vec<Creds>,
+        keeping: Keeping,
     ) -> Result<(Service, Vec<Unjoined>), Memory>
         requires limits { IsTrue (are_in_range limits) }
         requires some { 1 ≤ vec_len clients }
         requires few { vec_len clients ≤ 64 }
-        ensures { IfOk result (λ start. IsStarted limits clients false start) }
+        ensures { IfOk result (λ start. IsStarted limits clients keeping start) }
     {
-        open(alloc, limits, clients, false)
+        let count = clients.len() as u32;
+        let ledger = Box::new(alloc, Ledger::start(limits, clients)?)?;
+        let (list, fresh) = List::new(alloc, count, Shared { ledger, keeping })?;
+        let unjoined = unjoined_of(alloc, fresh)?;
+        let sleepers = Sleepers::none();
+        Ok((Service { list, sleepers }, unjoined))
     }
-}
-
-// A service that keeps its journal or not, and its clients.
-fn open(
-    alloc: Global,
-    limits: Limits,
-    clients: Vec<Creds>,
-    keeps: bool,
-) -> Result<(Service, Vec<Unjoined>), Memory>
-    requires limits { IsTrue (are_in_range limits) }
-    requires some { 1 ≤ vec_len clients }
-    requires few { vec_len clients ≤ 64 }
-    ensures { IfOk result (λ start. IsStarted limits clients keeps start) }
-{
-    let count = clients.len() as u32;
-    let ledger = Box::new(alloc, Ledger::start(limits, clients)?)?;
-    let (list, fresh) = List::new(alloc, count, Shared { ledger, keeps })?;
-    let unjoined = unjoined_of(alloc, fresh)?;
-    let sleepers = Sleepers::none();
-    Ok((Service { list, sleepers }, unjoined))
 }
 
 // Clients that haven't joined, by their records.

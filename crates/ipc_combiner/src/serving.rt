@@ -1,15 +1,17 @@
 //! How a combiner serves a posted call: the namespace decides on it, and its replies are handed out.
-ghost use Rattle.std.specs.Prelude.{◌≡◌, ◌<◌, length, IfOk, OnErr};
+ghost use Rattle.std.specs.Prelude.{◌≡◌, ◌<◌, box_value, length, IfOk, OnErr};
 ghost use Rattle.ipc_history.specs.History.{IsLegal};
 ghost use Rattle.pub_rule.specs.WorkSteps.{with_work, paying};
 ghost use Rattle.pub_list.specs.Clients.{view, work, BelongsTo, IsSame};
 ghost use Rattle.pub_list.specs.Passing.{IsAsFar};
 ghost use Rattle.ipc_combiner.specs.Entries.{own as calls, replies};
-ghost use Rattle.ipc_combiner.specs.Serving.{entries_in, history_of, HasEntered, HasKept, IsHanding, OwesReply, Serves as IsServing};
+ghost use Rattle.ipc_combiner.specs.declared.entries.Keeping.TheVariants.{UntilTaken};
+ghost use Rattle.ipc_combiner.specs.Serving.{entries_in, given_after, history_of, HasEntered, HasKept, IsHanding, OwesReply, Serves as IsServing};
 
+use crate::entries::Keeping;
 use crate::shared::Shared;
 use ipc_call::{Call, Memory, Reply};
-use ipc_space::Effects;
+use ipc_space::{Effects, Ledger};
 use pub_list::{Answer, Joined, List, Serves, WordState};
 
 /// The call enters as the next event, on the credentials of its client. It is answered, or left parked where it
@@ -56,9 +58,23 @@ impl Shared {
         requires free { length (calls (entries_in self.old) client) ≡ length (replies (entries_in self.old) client) }
         ensures ok { IfOk result (λ effects. HasEntered client now call (history_of self.old) (history_of self.new) effects.own effects.others.items) }
         ensures err { OnErr result (entries_in self.new ≡ entries_in self.old) }
-        ensures keeps { self.new.keeps ≡ self.old.keeps }
+        ensures keeping { self.new.keeping ≡ self.old.keeping }
+        ensures given { self.old.keeping ≡ UntilTaken → (box_value self.new.ledger).given ≡ (box_value self.old.ledger).given }
     {
-        self.ledger.apply(client, now, call)
+        let entered = self.ledger.apply(client, now, call);
+        forget(&mut self.ledger, self.keeping);
+        entered
+    }
+}
+
+// Hands the rows of the last event out to nobody, where none are kept.
+#[inline(always)]
+fn forget(ledger: &mut Ledger, keeping: Keeping)
+    ensures history { ledger.new.history ≡ ledger.old.history }
+    ensures given { ledger.new.given ≡ given_after keeping ledger.old }
+{
+    if let Keeping::Nothing = keeping {
+        ledger.forget_rows();
     }
 }
 

@@ -1,7 +1,9 @@
 //! The namespace, as clients share it.
-ghost use Rattle.std.specs.Prelude.{◌≡◌, true, box_value};
+ghost use Rattle.std.specs.Prelude.{◌≡◌, box_value, length};
+ghost use Rattle.ipc_history.specs.History.{rows_of};
+ghost use Rattle.ipc_combiner.specs.declared.entries.Keeping.TheVariants.{Nothing, Whole};
 
-use crate::entries::Entry;
+use crate::entries::{Entry, Keeping};
 use ipc_call::{Call, Reply};
 use ipc_space::Ledger;
 use pub_rule::Served;
@@ -10,8 +12,9 @@ use pub_rule::Served;
 #[derive(Drop)]
 pub struct Shared {
     pub(crate) ledger: Box<Ledger>,
-    pub(crate) keeps: bool,
-    ghost whole: { keeps ≡ true → (box_value ledger).given ≡ 0 },
+    pub(crate) keeping: Keeping,
+    ghost whole: { keeping ≡ Whole → (box_value ledger).given ≡ 0 },
+    ghost nothing: { keeping ≡ Nothing → (box_value ledger).given ≡ length (rows_of (box_value ledger).history) },
 }
 
 impl Served for Shared {
@@ -25,7 +28,7 @@ impl Served for Shared {
 
     type Reply = Reply;
 
-    ghost history = { λ s. entries_of s.keeps (box_value s.ledger).history };
+    ghost history = { λ s. entries_of s.keeping (box_value s.ledger).history };
 
     ghost legal = { legal };
 

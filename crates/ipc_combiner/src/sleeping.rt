@@ -1,5 +1,5 @@
 //! A client sleeps while its call waits, and whoever ends that call wakes it.
-ghost use Rattle.std.specs.Prelude.{◌≡◌, ◌<◌};
+ghost use Rattle.std.specs.Prelude.{◌≡◌, ◌<◌, ◌≤◌};
 ghost use Rattle.ipc_combiner.specs.States.{IsOf};
 ghost use Rattle.pub_list.specs.Clients.{work};
 
@@ -16,16 +16,18 @@ const YIELDS: u32 = 100;
 /// The longest sleep, in milliseconds, after which a client looks for itself: who combines by `combine` wakes nobody.
 const NAP_MS: u64 = 1;
 
-/// The clients that sleep, a bit for each.
+/// The clients that sleep, a bit for each, and how often one was woken.
 #[derive(Drop)]
 pub(crate) struct Sleepers {
     bits: AtomicU64,
+    wakes: AtomicU64,
 }
 
 impl Sleepers {
     pub(crate) fn none() -> Sleepers {
         Sleepers {
             bits: AtomicU64::new(0),
+            wakes: AtomicU64::new(0),
         }
     }
 
@@ -39,6 +41,22 @@ impl Sleepers {
         requires { client < 64 }
     {
         self.bits.fetch_and(!(1 << client), Ordering::SeqCst);
+    }
+}
+
+impl Service {
+    /// How many clients sleep now. Each looks for itself after a millisecond, so for a moment it doesn't count though its
+    /// call still waits.
+    pub fn asleep(&self) -> u32
+        ensures { result ≤ 64 }
+    {
+        self.sleepers.bits.load(Ordering::SeqCst).count_ones()
+    }
+
+    /// How often a client that passed in `Idle::call` found another asleep whose call had ended, and woke it. The sleeper
+    /// may have been about to look for itself. One that is found again before it is up counts again.
+    pub fn wakes(&self) -> u64 {
+        self.sleepers.wakes.load(Ordering::SeqCst)
     }
 }
 
@@ -136,6 +154,7 @@ impl InFlight {
             return;
         }
         if let WordState::Answered = self.joined.look(&service.list, client) {
+            service.sleepers.wakes.fetch_add(1, Ordering::SeqCst);
             service.list.wake(client);
         }
     }

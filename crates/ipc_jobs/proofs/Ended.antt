@@ -1,5 +1,5 @@
 -- What the workers' clients did, as the history at the end has it.
-use Rattle.std.proofs.Common.{◌≡◌, ℕ, suc, ◌+◌, ◌<◌, Bool, true, cond, List, [], ◌∷◌, map, length, refl, sym, ap, ◌∙◌, subst, arith, IfSome, IfOk, Result, Ok, Err, All}
+use Rattle.std.proofs.Common.{◌≡◌, ℕ, suc, ◌+◌, ◌<◌, Bool, cond, List, [], ◌∷◌, map, length, refl, sym, ap, ◌∙◌, subst, arith, IfSome, IfOk, Result, Ok, Err, All}
 use Rattle.std.specs.Global.{Vec}
 use Rattle.std.specs.Prelude.{count_by, slice_index_or}
 use Rattle.std.specs.List.{slice_get, zip}
@@ -10,6 +10,7 @@ use Rattle.ipc_history.specs.History.{History}
 use Rattle.ipc_history.specs.History as model
 use Rattle.pub_list.specs.Clients.{work}
 use Rattle.ipc_combiner.specs.declared.closing.Client.{Client}
+use Rattle.ipc_combiner.specs.declared.entries.Keeping.TheVariants.{Whole}
 use Rattle.ipc_combiner.specs.declared.states.Unjoined.{Unjoined}
 use Rattle.ipc_combiner.specs.Closing.{IsClientOf, IsTold}
 use Rattle.ipc_combiner.specs.Entries.{entries_of}
@@ -52,7 +53,7 @@ module _ (may_hold was_told : ℕ → ℕ → Type 0) (h : History) (list : Reco
       × (map (λ e. e.caller.memory) es ≡ map failures_of cs)
 
   pub gone : (k : ℕ) (us : List Unjoined) (js : List (Vec Job)) (es : List Ended) → length us ≡ length js → AreEnds may_hold was_told list (map worker_of (zip us js)) es
-      → AreNumbered k us → All (λ c. IsTold (entries_of true h) all c) (map client_of es) → IsGone k js es
+      → AreNumbered k us → All (λ c. IsTold (entries_of Whole h) all c) (map client_of es) → IsGone k js es
   gone k [] [] [] alike ends are told = ([], tt, refl, refl)
   gone k [] [] (e ∷ es) alike ends are told = absurd ends
   gone k [] (j ∷ js) es alike ends are told = absurd (omega (arith, alike))
@@ -60,12 +61,12 @@ module _ (may_hold was_told : ℕ → ℕ → Type 0) (h : History) (list : Reco
   gone k (u ∷ us) (j ∷ js) [] alike ends are told = absurd ends
   gone k (u ∷ us) (j ∷ js) (e ∷ es) alike ends are told =
       let end = ends.0 in
-      let rest = gone (k + 1) us js es (omega (arith, alike)) ends.1 (numbered_on k u us are) (All-tail (λ c. IsTold (entries_of true h) all c) (client_of e) (map client_of es) told) in
-      let kept = (All-head (λ c. IsTold (entries_of true h) all c) (client_of e) (map client_of es) told).kept in
+      let rest = gone (k + 1) us js es (omega (arith, alike)) ends.1 (numbered_on k u us are) (All-tail (λ c. IsTold (entries_of Whole h) all c) (client_of e) (map client_of es) told) in
+      let kept = (All-head (λ c. IsTold (entries_of Whole h) all c) (client_of e) (map client_of es) told).kept in
       let first : u.fresh.client ≡ k = (let zeroth = are 0 in omega (arith, zeroth)) in
       let same : e.caller.idle.joined.client ≡ k = end.1 ∙ first in
-      let own = ap (λ (z : History). model.own z k) (sym (history-entries true h)) ∙ ap (λ r. entries.own (entries_of true h) r) (sym same) ∙ kept.0 in
-      let got = ap (λ (z : History). model.replies z k) (sym (history-entries true h)) ∙ ap (λ r. entries.replies (entries_of true h) r) (sym same) ∙ kept.1 in
+      let own = ap (λ (z : History). model.own z k) (sym (history-entries Whole h)) ∙ ap (λ r. entries.own (entries_of Whole h) r) (sym same) ∙ kept.0 in
+      let got = ap (λ (z : History). model.replies z k) (sym (history-entries Whole h)) ∙ ap (λ r. entries.replies (entries_of Whole h) r) (sym same) ∙ kept.1 in
       let c = end.2 in
       let held = ap {B = ℕ} (λ (b : Bool). cond b 1 0) end.5 in
       let ends_count = count-cons (λ (x : Ended). x.held) e es in

@@ -1,4 +1,4 @@
-ghost use Rattle.std.specs.Prelude.{◌≡◌, ◌+◌, ◌<◌, ◌≤◌, ◌^◌, [], ◌∷◌, ◌++◌, drop, length, IsOk, OnOk, OnErr};
+ghost use Rattle.std.specs.Prelude.{◌≡◌, ◌+◌, ◌<◌, ◌≤◌, ◌^◌, [], ◌∷◌, ◌++◌, drop, length, vec_len, IsOk, OnOk, OnErr};
 
 use crate::given::Given;
 use ipc_call::{JournalRow, Memory};
@@ -100,6 +100,8 @@ impl Journal {
         ensures taken { result.items ≡ drop self.old.given self.old.rows }
         ensures rows { self.new.rows ≡ self.old.rows }
         ensures given { self.new.given ≡ length self.old.rows }
+        ensures count { self.old.given + vec_len result ≡ length self.old.rows }
+        ensures fits { length self.old.rows < 2 ^ 64 }
     {
         let none = Vec::new(*self.rows.allocator());
         if self.rows.is_empty() {
@@ -110,5 +112,18 @@ impl Journal {
         self.given += taken.len() as u64;
         self.before = Some(before);
         taken
+    }
+
+    /// Hands out to nobody the rows that weren't handed out. Their room stays.
+    #[inline(always)]
+    pub fn forget_rows(&mut self)
+        ensures rows { self.new.rows ≡ self.old.rows }
+        ensures given { self.new.given ≡ length self.old.rows }
+        ensures room { self.old.room ≤ self.new.room }
+    {
+        let all = Given::of(&*self);
+        self.given += self.rows.len() as u64;
+        self.rows.clear();
+        self.before = Some(all);
     }
 }

@@ -61,7 +61,8 @@ fn print_limit(text: &mut String, name: &str, value: u32) -> Result<(), Memory>
     write!(text, "limit {name} {value}\n")
 }
 
-fn print_rows(text: &mut String, rows: &[JournalRow]) -> Result<(), Memory>
+/// Appends the lines of rows.
+pub fn print_rows(text: &mut String, rows: &[JournalRow]) -> Result<(), Memory>
     ensures { OnOk result (string_bytes text.new ≡ string_bytes text.old ++ flat_map row_text rows.now) }
 {
     for row in rows {

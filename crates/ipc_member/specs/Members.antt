@@ -1,14 +1,15 @@
 -- What is known of clients with their service.
-use Rattle.std.specs.Prelude.{◌≡◌, ℕ, false, List, All}
+use Rattle.std.specs.Prelude.{◌≡◌, ℕ, List, All}
 use Rattle.ipc_call.specs.declared.calls.Call.{Call}
 use Rattle.ipc_call.specs.declared.replies.Reply.{Reply}
 use Rattle.ipc_history.specs.History.{History}
 use Rattle.pub_rule.specs.declared.work.Work.{Work}
 use Rattle.pub_list.specs.Clients.{work}
 use Rattle.ipc_combiner.specs.declared.entries.Entry.{Entry}
+use Rattle.ipc_combiner.specs.declared.entries.Keeping.{Keeping}
 use Rattle.ipc_combiner.specs.declared.states.Service.{Service}
 use Rattle.ipc_combiner.specs.Asking.{HasCalled, HasDone, IsFurther, IsStill}
-use Rattle.ipc_combiner.specs.States.{keeps, opened}
+use Rattle.ipc_combiner.specs.States.{keeping, opened}
 use Rattle.std.specs.Arc.{arc_value}
 use Rattle.ipc_member.specs.declared.states.Member.{Member}
 use Rattle.ipc_member.specs.declared.states.Posted.{Posted}
@@ -39,7 +40,7 @@ HasAdvanced v (Done m reply) = (arc_value m.service ≡ arc_value v.service) × 
 HasAdvanced v (Still p seen) = (arc_value p.service ≡ arc_value v.service) × (p.flight.joined.client ≡ v.flight.joined.client)
     × ((u : Known) × IsFurther (work v.flight.joined) u × IsStill v.flight.joined.client u (work p.flight.joined) seen)
 
--- the clients of one service, opened so, which hands out the rows of its journal
-abbrev pub AreOf : History → List Member → Type 0
-AreOf opening members = (service : Service) × (opened service.list ≡ opening) × All (λ m. service_of m ≡ service) members
-    × (keeps service.list ≡ false)
+-- the clients of one service, opened so, which keeps this of its journal
+abbrev pub AreOf : Keeping → History → List Member → Type 0
+AreOf kept opening members = (service : Service) × (opened service.list ≡ opening)
+    × All (λ m. service_of m ≡ service) members × (keeping service.list ≡ kept)

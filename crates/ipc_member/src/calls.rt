@@ -12,8 +12,8 @@ ghost use Rattle.ipc_combiner.specs.Telling.{LearnsFrom};
 ghost use Rattle.ipc_member.specs.Members.{HasAdvanced, HasLooked};
 
 use crate::states::{Member, Posted};
-use ipc_call::{Call, Memory, Reply};
-use ipc_combiner::{Client, Part, Pass, Polled, Seen, Service, Unjoined};
+use ipc_call::{Call, JournalRow, Memory, Reply};
+use ipc_combiner::{Client, Pass, Polled, Seen, Service, Unjoined, Untaken};
 use std::alloc::Global;
 use std::sync::Arc;
 
@@ -77,14 +77,14 @@ impl Member {
         self.idle.learn(service, &mut other.idle);
     }
 
-    /// Takes the rows of the journal that weren't handed out, oldest first, with the number of those that were. Where
-    /// another client combines, that one's number comes, and nothing was taken.
-    pub fn take_rows(&mut self) -> Result<Part, u32>
+    /// Takes the rows of the journal from this one on, counted from 0, to its end: all that weren't handed out. It is 0 the first
+    /// time, and then where the part before ended, so the parts join up.
+    pub fn take_rows(&mut self, from: u64) -> Result<Vec<JournalRow>, Untaken>
         ensures service { arc_value self.new.service ≡ arc_value self.old.service }
-        ensures taken { TriedToTake (arc_value self.old.service).list self.old.idle.joined self.new.idle.joined result }
+        ensures taken { TriedToTake (arc_value self.old.service).list self.old.idle.joined self.new.idle.joined from result }
     {
         let service = &*self.service;
-        self.idle.take_rows(service)
+        self.idle.take_rows(service, from)
     }
 
     /// The client without its service, to be handed in as the service is closed.

@@ -8,6 +8,6 @@ mod states;
 mod waiting;
 
 pub use calls::Looked;
-pub use ipc_combiner::{Part, Pass, Seen};
-pub use opening::open;
+pub use ipc_combiner::{Keeping, Pass, Seen, Untaken};
+pub use opening::{open, open_keeping};
 pub use states::{Member, Posted};

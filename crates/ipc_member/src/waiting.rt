@@ -10,9 +10,9 @@ use ipc_call::{Call, Reply};
 use std::sync::Wait;
 
 impl Member {
-    /// Posts a call at a time in seconds, and combines and looks at its own record until the call has ended. It spins, and
-    /// then yields the processor, while another client combines or the call waits. It may never return: a call that waits
-    /// ends by another client's call alone.
+    /// Posts a call at a time in seconds, and combines and looks at its own record until the call has ended. While another
+    /// client combines or the call waits it spins, then yields the processor, and sleeps where the call has waited for long.
+    /// It may never return: a call that waits ends by another client's call alone.
     pub fn call<R: Wait>(self, rt: &R, now: u64, call: Call) -> (Member, Reply)
         ensures service { arc_value result.0.service ≡ arc_value self.service }
         ensures client { result.0.idle.joined.client ≡ self.idle.joined.client }

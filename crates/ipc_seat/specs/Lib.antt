@@ -1,4 +1,5 @@
 pub mod Codes
+pub mod Journals
 pub mod Openings
 pub mod Raw
 pub mod Seats

@@ -1,5 +1,5 @@
 -- What posting and going on do in numbers.
-use Rattle.std.specs.Prelude.{◌≡◌, ℕ, ℤ, List, length, None, Some, Result, Ok, Err}
+use Rattle.std.specs.Prelude.{◌≡◌, ℕ, ℤ, pos, List, length, None, Some, Result, Ok, Err}
 use Rattle.ipc_call.specs.declared.calls.Call.{Call}
 use Rattle.ipc_call.specs.declared.replies.Reply.{Reply}
 use Rattle.ipc_abi.specs.Replies.{FitsIn, objects_in, put_in, reply_in_numbers, text_in, values_in}
@@ -9,7 +9,7 @@ use Rattle.ipc_abi.specs.declared.replies.RawReply.{RawReply}
 use Rattle.ipc_abi.specs.declared.requests.BadRequest.{BadRequest}
 use Rattle.ipc_abi.specs.declared.requests.BadRequest.TheVariants.{Unknown}
 use Rattle.ipc_abi.specs.declared.requests.RawRequest.{RawRequest}
-use Rattle.ipc_seat.specs.Codes.{code_of_advance, code_of_post, error_of_request}
+use Rattle.ipc_seat.specs.Codes.{code_of_advance, code_of_error, code_of_post, error_of_request}
 use Rattle.ipc_seat.specs.Seats.{Advances, Posts, State, Idle, InFlight, Answered, Left, state_of}
 use Rattle.ipc_seat.specs.declared.calls.Progress.{Progress}
 use Rattle.ipc_seat.specs.declared.calls.Progress.TheVariants as progress
@@ -86,3 +86,10 @@ PostsInNumbers before r g after code =
 abbrev pub AdvancesInNumbers : Seat → Seat → Room → Room → ℤ → Type 0
 AdvancesInNumbers old new before after code =
     (result : Result Progress SeatError) × GoesOnRaw (state_of old) (state_of new) before after result × (code ≡ code_of_advance result)
+
+-- how far a client was that is ended: it asked nothing, its call was in flight, or its reply wasn't taken
+abbrev pub code_of_end : State → ℤ
+code_of_end (Idle m) = pos 0
+code_of_end (InFlight p) = pos 1
+code_of_end (Answered m reply) = pos 2
+code_of_end Left = code_of_error errors.Left

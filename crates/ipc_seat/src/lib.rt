@@ -3,11 +3,12 @@
 #![tactic(auto)]
 
 mod calls;
+mod journal;
 mod opening;
 mod raw;
 mod seat;
 
 pub use calls::Progress;
 pub use opening::{NotOpened, open};
-pub use raw::{advance_code, post_code};
+pub use raw::{advance_code, post_code, read_code};
 pub use seat::{Seat, SeatError};

@@ -2,8 +2,8 @@
 
 ghost use Rattle.std.specs.Prelude.{◌≡◌};
 ghost use Rattle.ipc_abi.specs.Requests.{lists_in};
-ghost use Rattle.ipc_seat.specs.Codes.{code_of_advance, code_of_post};
-ghost use Rattle.ipc_seat.specs.Raw.{GoesOnRaw, HandsOut, PostsRaw, room};
+ghost use Rattle.ipc_seat.specs.Codes.{code_of_advance, code_of_post, code_of_read};
+ghost use Rattle.ipc_seat.specs.Raw.{GoesOnRaw, HandsOut, PostsRaw, code_of_end, room};
 ghost use Rattle.ipc_seat.specs.Seats.{Answered, state_of};
 
 use crate::calls::Progress;
@@ -93,6 +93,19 @@ impl Seat {
         let reply = mem::replace(&mut self.reply, Reply::Memory);
         self.hand_out(member, reply, out, bytes, values, objects)
     }
+
+    /// Ends the client, and tells how far it was: 0 where it asked nothing, 1 where its call was in flight, and 2 where its
+    /// reply wasn't taken.
+    pub fn end_raw(self) -> i32
+        ensures { result ≡ code_of_end (state_of self) }
+    {
+        match &self.phase {
+            Phase::Idle(_) => 0,
+            Phase::InFlight(_) => 1,
+            Phase::Answered(_) => 2,
+            Phase::Left => SeatError::Left.code(),
+        }
+    }
 }
 
 /// The code of a post: 0 where the call is posted.
@@ -101,6 +114,16 @@ pub fn post_code(posted: Result<(), SeatError>) -> i32
 {
     match posted {
         Ok(()) => 0,
+        Err(error) => error.code(),
+    }
+}
+
+/// The code of a read of the journal: 0 where it was read.
+pub fn read_code(read: Result<usize, SeatError>) -> i32
+    ensures { result ≡ code_of_read read }
+{
+    match read {
+        Ok(_) => 0,
         Err(error) => error.code(),
     }
 }

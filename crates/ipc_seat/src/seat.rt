@@ -6,6 +6,7 @@ ghost use Rattle.ipc_seat.specs.Codes.{code_of_error};
 use ipc_abi::BadRequest;
 use ipc_call::Reply;
 use ipc_member::{Member, Posted};
+use journal_reader::{Reader, Unread};
 use std::alloc::Global;
 
 /// A client of a service. The reply counts where its call is answered alone, and stands beside the phase, so that this is
@@ -15,6 +16,8 @@ pub struct Seat {
     pub(crate) alloc: Global,
     pub(crate) phase: Phase,
     pub(crate) reply: Reply,
+    /// The text of the service's journal, where this client reads it.
+    pub(crate) journal: Option<Box<Reader>>,
 }
 
 /// How far it is.
@@ -47,6 +50,10 @@ pub enum SeatError {
     NoRoom,
     /// An allocation fails (ENOMEM).
     Memory,
+    /// Another client combines, or takes rows of the journal.
+    Combining,
+    /// The client reads no journal, or another one has taken rows of it.
+    NoJournal,
 }
 
 impl SeatError {
@@ -62,6 +69,8 @@ impl SeatError {
             SeatError::Unknown => -5,
             SeatError::NoRoom => -6,
             SeatError::Memory => -7,
+            SeatError::Combining => -11,
+            SeatError::NoJournal => -12,
         }
     }
 }
@@ -75,6 +84,20 @@ impl From<BadRequest> for SeatError {
         match bad {
             BadRequest::Unknown => SeatError::Unknown,
             BadRequest::Memory => SeatError::Memory,
+        }
+    }
+}
+
+impl From<Unread> for SeatError {
+    ghost use Rattle.ipc_seat.specs.Codes.{error_of_unread};
+
+    ghost from_gives = { λ unread error. error ≡ error_of_unread unread };
+
+    fn from(unread: Unread) -> SeatError {
+        match unread {
+            Unread::Busy(_) => SeatError::Combining,
+            Unread::NoJournal => SeatError::NoJournal,
+            Unread::Memory => SeatError::Memory,
         }
     }
 }

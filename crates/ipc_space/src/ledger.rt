@@ -183,8 +183,19 @@ impl Ledger {
         ensures rows { result.items ≡ drop self.old.given (rows_of self.old.history) }
         ensures history { self.new.history ≡ self.old.history }
         ensures given { self.new.given ≡ length (rows_of self.old.history) }
+        ensures count { self.old.given + vec_len result ≡ length (rows_of self.old.history) }
+        ensures fits { length (rows_of self.old.history) < 2 ^ 64 }
     {
         self.journal.take_rows()
+    }
+
+    /// Hands out to nobody the rows of the journal that it holds, and holds none until more come.
+    #[inline(always)]
+    pub fn forget_rows(&mut self)
+        ensures history { self.new.history ≡ self.old.history }
+        ensures given { self.new.given ≡ length (rows_of self.old.history) }
+    {
+        self.journal.forget_rows();
     }
 
     /// What allocates for it.

@@ -1,20 +1,21 @@
 //! A service whose journal goes to a file while it runs. Each of four clients, in a thread of its own, sends to a queue and
-//! receives from it. After every 1,000 of their calls one of them takes the rows of the journal and prints them, as the text
+//! receives from it. After every 1,000 of their calls one of them reads on in the journal and prints it, the text
 //! that `ipcsh_journal --replay` reads. Its word is how often.
 #![tactic(auto)]
 
-mod taking;
+mod printing;
 
-use crate::taking::Taker;
+use crate::printing::print_part;
 use ipc_call::{Call, IPC_CREAT, IPC_NOWAIT, Items};
-use ipc_member::Member;
+use ipc_member::{Keeping, Member};
+use journal_reader::Reader;
 use std::alloc::AllocError;
 use std::process::ExitCode;
 use std::sync::Wait;
 use std::thread::Threads;
 use std::{env, io, thread};
 use test_support::clients::few_users;
-use test_support::measuring::{unanswered, widest_limits};
+use test_support::measuring::widest_limits;
 
 const CLIENTS: u32 = 4;
 
@@ -82,15 +83,12 @@ fn main(rt: HostRuntime) -> io::Result<ExitCode> {
     let parts = asked(&rt)?;
     let clients = few_users(rt.alloc(), CLIENTS)?;
     let limits = widest_limits();
-    let mut taker = Taker::new(rt.alloc());
-    taker.print_head(&rt, &limits, clients.as_slice())?;
-    let mut members = ipc_member::open(rt.alloc(), limits, clients)?;
+    let mut reader = Reader::new(rt.alloc(), &limits, clients.as_slice())?;
+    let mut members = ipc_member::open_keeping(rt.alloc(), limits, clients, Keeping::UntilTaken)?;
+    print_part(&rt, &mut reader, &mut members)?;
     for _ in 0..parts {
         members = worked(&rt, members)?;
-        let Some(first) = members.first_mut() else {
-            return Err(unanswered());
-        };
-        taker.take(&rt, first)?;
+        print_part(&rt, &mut reader, &mut members)?;
     }
     Ok(ExitCode::SUCCESS)
 }

@@ -5,6 +5,8 @@
 #[cfg(test)]
 mod counting;
 #[cfg(test)]
+mod sleeping;
+#[cfg(test)]
 mod swapping;
 #[cfg(test)]
 mod walking;

@@ -9,7 +9,7 @@ use std::process::Abort;
 use std::test::Fail;
 
 /// What a client is told.
-fn told(joined: &mut Joined<Swap>, list: &List<Swap>) -> Result<u64, WordState>
+pub(crate) fn told(joined: &mut Joined<Swap>, list: &List<Swap>) -> Result<u64, WordState>
     requires list { BelongsTo list.now joined.old }
     requires unheld { (work joined.old).holds ≡ false }
     ensures list { BelongsTo list.now joined.new }
@@ -23,7 +23,7 @@ fn told(joined: &mut Joined<Swap>, list: &List<Swap>) -> Result<u64, WordState>
 }
 
 /// A client posts, and serves what there is.
-fn ask(joined: &mut Joined<Swap>, list: &List<Swap>, amount: u64) -> bool
+pub(crate) fn ask(joined: &mut Joined<Swap>, list: &List<Swap>, amount: u64) -> bool
     requires list { BelongsTo list.now joined.old }
     requires idle { IsResting joined.old.client (view joined.old) }
     ensures list { BelongsTo list.now joined.new }

@@ -9,86 +9,84 @@ use std::sync::Wait;
 use std::test::Fail;
 use std::thread;
 use std::thread::Threads;
-use std::time::{Clock, CpuClock, Duration, Instant};
+use std::time::{Clock, Duration};
 use test_support::calls::{get, receive, send};
 
+/// How many messages are sent. Each wakes the receiver at most once.
 const ROUNDS: u32 = 60;
 
-/// How long the receiver waits for each message: it sleeps by the time that the message is sent.
-const WAIT: u64 = 5;
+/// How often the receiver is to be woken. A message to a client that is seen asleep doesn't wake it where its sleep of a
+/// millisecond ends by itself right then.
+const WAKES: u64 = 5;
 
-/// Sends message after message, each after a while, and gives when it sent each. `None` where memory or the clock fails.
+/// How often the sender looks whether the receiver sleeps, before it gives up.
+const LOOKS: u32 = 50_000;
+
+/// Waits until a client sleeps, for `LOOKS` looks at most. Whether one did.
+fn sees_a_sleeper<R: Clock>(rt: &R, service: &Service) -> bool {
+    for _ in 0..LOOKS {
+        if service.asleep() == 1 {
+            return true;
+        }
+        thread::sleep(rt, Duration::from_micros(100));
+    }
+    false
+}
+
+/// Sends message after message. Until the receiver was woken so often, each waits until it sleeps. Whether it always did.
 fn send_all<R: Wait + Clock + Abort + AllocGlobal>(
     rt: &R,
     service: &Service,
     mut idle: Idle,
-) -> Option<Vec<Instant>>
+) -> bool
     requires { IsOf service.now.list idle.joined }
 {
-    let mut at = Vec::new(rt.alloc());
+    let mut slept = true;
     for _ in 0..ROUNDS {
-        thread::sleep(rt, Duration::from_millis(WAIT));
-        let message = send(rt.alloc(), 1).ok()?;
-        at.push(Instant::now(rt).ok()?).ok()?;
+        if slept && service.wakes() < WAKES {
+            slept = sees_a_sleeper(rt, service);
+        }
+        let Ok(message) = send(rt.alloc(), 1) else {
+            panic!(rt; "no memory for a message");
+        };
         let (next, reply) = idle.call(rt, service, 0, message);
         assert!(rt; is_granted(reply));
         idle = next;
     }
-    Some(at)
+    slept
 }
 
-/// Receives as many, waits for each, and gives when each had come.
-fn receive_all<R: Wait + Clock + Abort + AllocGlobal>(
-    rt: &R,
-    service: &Service,
-    mut idle: Idle,
-) -> Option<Vec<Instant>>
+/// Receives as many, and waits for each.
+fn receive_all<R: Wait + Abort>(rt: &R, service: &Service, mut idle: Idle)
     requires { IsOf service.now.list idle.joined }
 {
-    let mut at = Vec::new(rt.alloc());
     for _ in 0..ROUNDS {
         let (next, reply) = idle.call(rt, service, 0, receive(0, 0));
-        at.push(Instant::now(rt).ok()?).ok()?;
         assert!(rt; is_granted(reply));
         idle = next;
     }
-    Some(at)
 }
 
-/// Both at once.
+/// Both at once. Whether the receiver slept each time that the sender waited for it.
 fn at_once<R: Threads + Sync + Wait + Clock + Abort + AllocGlobal>(
     rt: &R,
     service: &Service,
     sender: Idle,
     receiver: Idle,
-) -> (Option<Vec<Instant>>, Option<Vec<Instant>>)
+) -> bool
     requires sender { IsOf service.now.list sender.joined }
     requires receiver { IsOf service.now.list receiver.joined }
 {
-    thread::join(
+    let (slept, _) = thread::join(
         rt,
-        move || -> Option<Vec<Instant>>
+        move || -> bool
             requires { IsOf service.now.list sender.joined }
         { send_all(rt, service, sender) },
-        move || -> Option<Vec<Instant>>
+        move ||
             requires { IsOf service.now.list receiver.joined }
         { receive_all(rt, service, receiver) },
-    )
-}
-
-/// How many messages had come within 200 microseconds. A sleep that nobody ends takes a millisecond.
-fn count_soon(sent: &Option<Vec<Instant>>, received: &Option<Vec<Instant>>) -> u32 {
-    let (Some(sent), Some(received)) = (sent, received) else {
-        return 0;
-    };
-    let soon = Duration::from_micros(200);
-    let mut count: u32 = 0;
-    for (from, to) in sent.iter().zip(received.iter()) {
-        if to.duration_since(*from) < soon {
-            count = count.wrapping_add(1);
-        }
-    }
-    count
+    );
+    slept
 }
 
 #[test]
@@ -98,11 +96,9 @@ fn who_waits_for_long_sleeps_and_is_woken(rt: HostRuntime) -> Result<(), Fail> {
     let receiver = one_of(&rt, &service, &mut idles);
     let sender = one_of(&rt, &service, &mut idles);
     let sender = replied(&rt, &service, sender, get(5), Ok(Answer::Id(0)));
-    let start = Instant::now(&rt)?;
-    let before = rt.process_cpu_time()?;
-    let (sent, received) = at_once(&rt, &service, sender, receiver);
-    let used = rt.process_cpu_time()?.saturating_sub(before);
-    assert!(rt; used < start.elapsed(&rt)? / 2);
-    assert!(rt; count_soon(&sent, &received) >= 25);
+    assert!(rt; at_once(&rt, &service, sender, receiver));
+    let wakes = service.wakes();
+    assert!(rt; wakes >= WAKES && wakes <= u64::from(ROUNDS));
+    assert_eq!(rt; service.asleep(), 0);
     Ok(())
 }

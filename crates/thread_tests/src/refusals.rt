@@ -1,8 +1,9 @@
 // A pass in which an allocation fails. Here none does; `./check memory` refuses each between the two lines that the test writes to
 // standard error.
-ghost use Rattle.std.specs.Prelude.{◌≡◌, true, All, IfOk, length, vec_len};
+ghost use Rattle.std.specs.Prelude.{◌≡◌, All, IfOk, length, vec_len};
 ghost use Rattle.ipc_combiner.specs.Closing.{IsClientOf};
-ghost use Rattle.ipc_combiner.specs.States.{IsOf, keeps};
+ghost use Rattle.ipc_combiner.specs.States.{IsOf, keeping};
+ghost use Rattle.ipc_combiner.specs.declared.entries.Keeping.TheVariants.{Whole};
 
 use crate::passes::{Told, all_posted, all_told, handed_in, pass, put_back};
 use crate::services::{ended, joined, one_of, parked, replied, service_for, waiting};
@@ -103,7 +104,7 @@ fn pass_of<R: Abort + AllocGlobal + Eprint>(
     third: InFlight,
     fourth: InFlight,
 ) -> Result<(), Fail>
-    requires keeps { keeps service.list ≡ true }
+    requires keeping { keeping service.list ≡ Whole }
     requires count { service.list.clients ≡ 10 }
     requires flights { All (λ f. IsOf service.list f.joined) flights.items }
     requires third { IsOf service.list third.joined }

@@ -1,7 +1,8 @@
 // Clients of one service, alone and in threads.
-ghost use Rattle.std.specs.Prelude.{◌≡◌, ◌≤◌, ⊤, true, vec_len, All, IfOk};
+ghost use Rattle.std.specs.Prelude.{◌≡◌, ◌≤◌, ⊤, vec_len, All, IfOk};
 ghost use Rattle.ipc_combiner.specs.Closing.{IsClientOf};
-ghost use Rattle.ipc_combiner.specs.States.{IsOf, IsUnjoinedOf, keeps};
+ghost use Rattle.ipc_combiner.specs.States.{IsOf, IsUnjoinedOf, keeping};
+ghost use Rattle.ipc_combiner.specs.declared.entries.Keeping.TheVariants.{Whole};
 
 use ipc_call::{Answer, Call, IPC_NOWAIT, JournalRow, Kind, Limits, Outcome, Reply, Rule};
 use ipc_combiner::{Client, Idle, InFlight, Pass, PassGate, Polled, Seen, Service, Unjoined};
@@ -26,7 +27,7 @@ pub(crate) fn service_for(
 ) -> Result<(Service, Vec<Unjoined>), Fail>
     requires { (1 ≤ count) × (count ≤ 64) }
     ensures service { IfOk result (λ m. All (λ u. IsUnjoinedOf m.0.list u.fresh) m.1.items) }
-    ensures keeps { IfOk result (λ m. keeps m.0.list ≡ true) }
+    ensures keeping { IfOk result (λ m. keeping m.0.list ≡ Whole) }
     ensures count { IfOk result (λ m. (vec_len m.1 ≡ count) × (m.0.list.clients ≡ count)) }
 {
     let alloc = rt.alloc();
@@ -395,7 +396,7 @@ fn closed(
     service: Service,
     asked: Vec<Asked>,
 ) -> Result<Space, Fail>
-    requires keeps { keeps service.list ≡ true }
+    requires keeping { keeping service.list ≡ Whole }
     requires count { vec_len asked ≡ service.list.clients }
     requires service { All (λ a. IsOf service.list a.idle.joined) asked.items }
 {

@@ -1,19 +1,21 @@
--- `ipcsh_raw_close` makes the box again, and hands it to `ended`.
-use Rattle.std.proofs.Common.{◌≡◌, List, [], ◌∷◌, ◌++◌, refl, sym, ap, subst}
+-- `ipcsh_raw_close` makes the box again, and hands it to `ended`, whose answer it gives.
+use Rattle.std.proofs.Common.{◌≡◌, ℤ, List, [], ◌∷◌, ◌++◌, refl, sym, ap, ◌∙◌, subst, w32}
 use Rattle.std.proofs.raw_atomic.Walks.{proved_at}
 use base.Fraction.{full_share}
 use base.Logic.{SProp, ent, emp, id⊢}
 use base.Fml.{ftrue, flft}
 use contract.BorrowLft.{◌⊑◌, ⊑_refl}
 use mir.Syntax.{Dict, impl, tcons, tnil, dnil}
-use mir.Val.{Val, vunit}
+use mir.Val.{Val}
 use prog.Wp.{WpFn}
 use contract.Monad.{fact, fact_i}
 use contract.Running.{tables}
-use types.Kit.{‵, raw, ◌⊛◌, some, later, ◌$◌, ◌∵◌, !, qed, done, move, drop, use0, use1, use2, split, join, fsplit, fjoin, feq_i, feq_l, pick, await, rewrite, suffices, group}
-use types.Run.{enter, of_opd, unit_lit, no_more, and_then, returns}
+use types.Kit.{‵, raw, ◌⊛◌, some, later, ◌$◌, ◌∵◌, !, qed, done, move, drop, use0, use1, use2, split, join, fsplit, fjoin, feq_i, feq_l, pick, await, rewrite, suffices}
+use types.Run.{enter, of_opd, no_more, and_then, returns}
 use types.ByLocal.{alloc_all, pass_all, free_all, look_at, get, sets, lands_as}
-use denote.Builtin.{unit}
+use denote.Builtin.{i32}
+use denote.Laws.{Is, shows}
+use denote.Signed.{sint_Lawful}
 use denote.Exit.{yes, no}
 use denote.Param.{layout, arg}
 use denote.Param.Laws.{Laws, arg_laws}
@@ -22,11 +24,11 @@ use denote.Param.NoDrop as nodrop
 use denote.RattleType.{RattleType, owns}
 use denote.RawPtr.{RawPtr, ptr_val, rawptr_Lawful}
 use denote.Signature.{types_at, plain}
-use denote.Steps.{nothing, only}
+use denote.Steps.{nothing, heard, only, peeks}
 use denote.Triple.Call.{calls_at}
 use denote.Triple.Clauses.{Lasts, lasts}
 use denote.Triple.Spec.{triple_of}
-use denote.Triple.Walked.{Stays, walk_of, stay_dropped, Goes-dropped, ends_at}
+use denote.Triple.Walked.{says, Stays, walk_of, stay_dropped, Goes-dropped, ends_at}
 use denote.Triple.Table.{framed}
 use Rattle.std.proofs.alloc.Calls.{handle_tells}
 use Rattle.std.proofs.cell.Inside.{Good}
@@ -39,7 +41,10 @@ use Rattle.std.specs.contracts.alloc.Global as heap
 use Rattle.std.proofs.alloc.Global.TheLaws as heap_laws
 use Rattle.std.specs.contracts.impls.GlobalAllocator.TheImpl.{ghosts, dict}
 use Rattle.std.proofs.impls.GlobalAllocator.TheImpl.Met as allocator
+use Rattle.ipc_seat.specs.Raw.{code_of_end}
+use Rattle.ipc_seat.specs.Seats.{state_of}
 use Rattle.ipc_seat.specs.contracts.seat.Seat.{the_row}
+use Rattle.ipc_seat.specs.declared.seat.Seat.{Seat}
 use Rattle.ipc_seat.proofs.seat.Seat.TheLaws as laws
 use Rattle.ipcsh_c.specs.contracts.ended as g
 use Rattle.ipcsh_c.proofs.ended.Met.{met}
@@ -65,6 +70,10 @@ drops = impl ("ipcsh_c::Destruct++none::drop" ∷ []) (tcons (layout Z) tnil) dn
 
 abbrev E : box.Bx
 E = record { row = R; laws = L; al = record { row = Z; laws = LZ; g = ghosts; d = dict; drops = drops } }
+
+-- what is answered
+abbrev Ends : Seat → ℤ
+Ends seat = code_of_end (state_of seat)
 
 abbrev stayed : Stays f.ended.signature.params f.ended.kept
 stayed = (stay_dropped _ yes, (stay_dropped _ yes, tt))
@@ -95,15 +104,16 @@ ipcsh_raw_close_spec 𝓤 𝓛 𝓜 𝓡 wired =
     (allocator.passed 𝓡.env (code.calls-std_heap::GlobalAllocator::allocate 𝓡.env wired) (code.calls-std_heap::GlobalAllocator::deallocate 𝓡.env wired) (code.calls-std_heap::GlobalAllocator::grow 𝓡.env wired) (code.calls-std_heap::GlobalAllocator::shrink 𝓡.env wired) _ 𝓤 𝓛 𝓜 𝓡)
     (nodrop.glues "ipcsh_c::Destruct++none::drop" 𝓡.env (code.calls-ipcsh_c::Destruct++none::drop 𝓡.env wired) Z LZ _ 𝓤 𝓛 𝓜 𝓡)) y (and_then ! (get ! refl) (and_then ! (get ! refl) (no_more !))) (λ u.
     use1 𝓛 (later (some (λ (r : B.Denot). (toks ⊛ ‵ (B.own_val r (u ∷ []))) ⊛ some (λ (ls : Lasts (callee.ended R Z ghosts dict drops) y.0.0 y.0.3). ‵ (lasts (callee.ended R Z ghosts dict drops) y.0.0 y.0.3 ls) ⊛ (raw (fact 𝓤 (r.value ≡ v)) ⊛ raw (fact 𝓤 (r.alloc ≡ a))))))) (id⊢ 𝓤 (k.post y u)) $
-    await ! tt $ pick ! (λ r. split ! $ move ! (1 ∷ []) $ drop ! $ split ! $ drop ! $
+    await ! tt $ pick ! (λ r. split ! $ move ! (1 ∷ []) $ pick ! (λ ls. split ! $ drop ! $ split ! $ heard ! (r.value ≡ v) (λ same. drop ! $ split ! $ drop ! $
     box_out E ! r (u ∷ []) (λ b o h' e us fits'. box_in E ! r b o r.value e refl $ rewrite ! 0 (λ (xs : List Val). ‵ (B.own_val r xs)) (sym us) refl $
     let good : Good (layout B) u = subst (Good (layout B)) (sym (ap only us)) (box.box_typed E h' b o fits') in lands_as ! refl refl good $
     let G = triple_of 𝓛 g.signature (g.spec 𝓛 𝓜.mem 𝓡.returns) in
     let x : G.Ghost = ((tt, tt, tt, (r, tt), (u ∷ [], tt)), tt) in
     nothing ! $ move ! (1 ∷ 0 ∷ []) $ join ! $ nothing ! $ join ! $ nothing ! $ move ! (1 ∷ 0 ∷ []) $ use2 𝓛 (raw (G.pre x)) (id⊢ 𝓤 _) $
     calls_at ! (framed 𝓤 H 𝓜 (tables 𝓤 H 𝓜 𝓡 𝓡.env)) G (met 𝓤 𝓛 𝓜 𝓡 (code.calls-ipcsh_c::ended 𝓡.env wired)) x (and_then ! (get ! refl) (no_more !)) (λ w.
-    use1 𝓛 (later (some (λ (n : Unit {0}). (‵ ftrue ⊛ ‵ (unit.own_val n (w ∷ []))) ⊛ some (λ (ls : Lasts g.ended tt x.0.3). ‵ (lasts g.ended tt x.0.3 ls) ⊛ ‵ ftrue)))) (id⊢ 𝓤 _) $
-    await ! tt $ pick ! (λ n. split ! $ split ! $ drop ! $ feq_l ! (λ is_unit. drop ! $ lands_as ! (ap only is_unit) refl (tt, tt) $
-    sets ! (of_opd ! (unit_lit !)) refl (tt, tt) $ returns ! (look_at ! 0 refl) $ free_all ! refl $
-    suffices ! _ (ends_at 𝓛 f.ended stayed c z vunit tt (tt, (tt, tt)) (tt, (tt, tt))) $
-    nothing ! $ feq_i ! _ (vunit ∷ []) _ refl $ nothing ! $ nothing ! $ join ! $ nothing ! $ join ! $ nothing ! $ group ! 3 $ done !))))))))))
+    use1 𝓛 (later (some (λ (n : ℤ). (‵ ftrue ⊛ ‵ (i32.own_val n (w ∷ []))) ⊛ some (λ (ls : Lasts g.ended tt x.0.3). ‵ (lasts g.ended tt x.0.3 ls) ⊛ raw (fact 𝓤 (n ≡ Ends r.value)))))) (id⊢ 𝓤 _) $
+    await ! tt $ pick ! (λ n. split ! $ split ! $ drop ! $ move ! (1 ∷ []) $ pick ! (λ ls. split ! $ drop ! $ heard ! (n ≡ Ends r.value) (λ is.
+    peeks ! i32 (Is i32) (shows 𝓛 i32) n (w ∷ []) (λ is_w. lands_as ! refl refl ((sint_Lawful 𝓛 w32).typed n (w ∷ []) is_w).0 $
+    returns ! (look_at ! 0 refl) $ free_all ! refl $
+    suffices ! _ (ends_at 𝓛 f.ended stayed c z w n (tt, (tt, tt)) (tt, (tt, tt))) $ says ! (is ∙ ap Ends same) $
+    nothing ! $ nothing ! $ join ! $ nothing ! $ join ! $ nothing ! $ done !))))))))))))))

@@ -1,8 +1,9 @@
-use Rattle.std.proofs.Common.{◌≡◌, true, List, length, sym, ap, ◌∙◌, subst, arith, All}
+use Rattle.std.proofs.Common.{◌≡◌, List, length, sym, ap, ◌∙◌, subst, arith, All}
 use Rattle.std.specs.Prelude.{count_by, map}
 use Rattle.std.proofs.lemmas.List.{length-map}
 use Rattle.std.proofs.lemmas.Result.{IfOk-weaker}
 use Rattle.ipc_combiner.specs.declared.closing.Client.{Client}
+use Rattle.ipc_combiner.specs.declared.entries.Keeping.TheVariants.{Whole}
 use Rattle.ipc_combiner.specs.Closing.{IsClientOf, IsTold}
 use Rattle.ipc_combiner.specs.Entries.{entries_of}
 use Rattle.ipc_combiner.specs.States.{IsUnjoinedOf}
@@ -59,7 +60,7 @@ returns-clause-courses g c = let list = c.in_ok-service.service.list in let us =
     let es = c.in_ok-ended.ended.items in let all = c.in_ok-clients_of.field-0.items in let h = c.close-space.result in
     let alike : length us ≡ length js = (let count = c.in_ok-service.ensures.count in let jobs = c.requires.jobs in let size = c.args.jobs.ok.0 in omega (arith, count, jobs, size)) in
     let went = gone holds tells h list all 0 us js es alike (subst (λ (ws : List Worker). AreEnds holds tells list ws es) c.in_ok-workers.ensures c.in_ok-ended.ensures)
-    (numbered us c.in_ok-service.ensures.numbers) (subst (λ (cs : List Client). All (λ x. IsTold (entries_of true h) all x) cs) c.in_ok-clients_of.ensures c.close-space.ensures.told) in
+    (numbered us c.in_ok-service.ensures.numbers) (subst (λ (cs : List Client). All (λ x. IsTold (entries_of Whole h) all x) cs) c.in_ok-clients_of.ensures c.close-space.ensures.told) in
     let held = c.count_held-held.ensures ∙ ap (count_by (λ (e : Ended). e.held)) c.deref.ensures.value ∙ went.2 in
     let failed = c.as_slice.ensures.value ∙ c.in_ok-memory.ensures ∙ ap (map (λ (e : Ended). e.caller.memory)) c.deref-2.ensures.value ∙ went.3 in
     both c.counted.result _ _ _ c.counted.ensures.same c.counted.ensures.memory

@@ -4,14 +4,14 @@ use Rattle.std.specs.List.{slice_get}
 use Rattle.ipc_combiner.specs.Serving.{entries_in}
 use Rattle.ipc_combiner.specs.States.{IsUnjoinedOf}
 use Rattle.ipc_combiner.proofs.Opened.{placed, all_of}
-use Rattle.ipc_combiner.proofs.opening.open.Goals as goal
+use Rattle.ipc_combiner.proofs.states.Service.start_keeping.Goals as goal
 
 pub returns : goal.returns
 returns c =
     let list = c.in_ok-list.list in let unjoined = c.in_ok-unjoined.unjoined.items in
     let same = ap entries_in (sym c.in_ok-list.ensures.opening) in record {
       opening = search rules;
-      keeps = ap (λ s. s.keeps) c.in_ok-list.ensures.opening;
+      keeps = ap (λ s. s.keeping) c.in_ok-list.ensures.opening;
       count = let mapped = length-map unjoined (λ u. u.fresh) in let same = ap length c.in_ok-unjoined.ensures in let all = c.in_ok-list.ensures.clients.1 in let size = c.args.clients.ok.0 in let few = c.requires.few in
           omega (arith, mapped, same, all, size, few, c.len-count.ensures);
       numbers = placed (λ u. u.fresh) (λ k f. f.client ≡ k) unjoined

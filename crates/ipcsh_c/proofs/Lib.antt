@@ -1,0 +1,4 @@
+mod HandedSteps
+mod LooseSteps
+mod More
+mod Placed
