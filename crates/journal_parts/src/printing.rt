@@ -25,14 +25,16 @@ pub(crate) fn print_part<R: Wait + Print + AllocGlobal>(
     for _ in rt.forever() {
         match reader.read(member, &mut piece) {
             Ok(0) => return Ok(()),
-            Ok(count) => {
-                let count = min(count, piece.len());
-                io::writer(rt).write_all(&piece[..count])?;
-            }
+            Ok(count) => print_bytes(rt, piece.as_slice(), count)?,
             Err(Unread::Busy(_)) => backoff.snooze(),
             Err(Unread::NoJournal) => return Err(io::Error::from(io::ErrorKind::InvalidData)),
             Err(Unread::Memory) => return Err(io::Error::from(io::ErrorKind::OutOfMemory)),
         }
     }
     unreachable!()
+}
+
+/// Prints so many of these bytes, which there are.
+fn print_bytes<R: Print>(rt: &R, bytes: &[u8], count: usize) -> io::Result<()> {
+    io::writer(rt).write_all(&bytes[..min(count, bytes.len())])
 }
