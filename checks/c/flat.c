@@ -43,7 +43,7 @@ static void four_calls(ipcsh *alice, ipcsh *bob, unsigned long n)
 static void write_journal(ipcsh *reader, FILE *file)
 {
     static char text[65536];
-    size_t len;
+    size_t len = 0;
     do {
         must(ipcsh_read_journal(reader, text, sizeof text, &len), "read_journal");
         if (fwrite(text, 1, len, file) != len)
