@@ -1,6 +1,6 @@
 # ./ipcsh_trace: each trace of examples/traces has its stored script and verdict, an answer that is altered in it is told,
 # and what is no trace, or none that can be taken whole, has its clear reason. A damaged line is a call that isn't taken, and the other lines
-# keep their verdict: those of checks/damaged, and random ones (lib/damaged_traces.py).
+# keep their verdict: those of checks/damaged, and random ones (lib/damaged_traces.py). A long trace is judged in time (lib/long_trace.py).
 
 check_traces() { with_program trace_checks; }
 
@@ -15,9 +15,20 @@ trace_checks() {
         attempt "$base.script by ./ipcsh" script_has_no_bad_line "$base.script"
         attempt "$verdict, an answer altered" tells_an_altered_answer "$base.verdict" "$@"
     done
+    attempt '8,003 calls of four threads' is_told_in_time
     bad_traces
     broken_streams
     random_damage
+}
+
+# A long trace of calls that overlap, which has an order as defined.
+is_told_in_time() {
+    python3 lib/long_trace.py 1 4 1000 >"$scratch/long.strace"
+    why='it takes more than five minutes'
+    timeout 300 ./ipcsh_trace "$scratch/long.strace" >"$scratch/out" 2>"$scratch/shown" || return 1
+    why='its last line is another one:'
+    tail -n 1 "$scratch/out" >"$scratch/shown"
+    [ "$(cat "$scratch/shown")" = '8003 calls: 8003 as defined, 0 otherwise, 0 not taken' ]
 }
 
 # random_damage: traces of which one line is damaged. Longer ones take longer.
@@ -152,6 +163,8 @@ bad_traces() {
     attempt 'several files without times' says 2 'its lines have no times' examples/traces/wait.strace examples/traces/stderr.strace
     attempt 'an unknown word' says 3 'unrecognized arguments: --foo' --foo
     attempt 'an unknown capability' says 3 'argument --caps' --caps=KILL README.md
+    attempt 'a time that is none' says 3 'argument --seconds' --seconds=soon README.md
+    attempt 'no time' says 0 '^14 calls: 14 as defined' --seconds=0 examples/traces/perl.strace
     attempt 'a limit out of its range' says 3 "'limit msgmax 0' isn't taken by the language" --limit=msgmax=0 examples/traces/wait.strace
     printf 'msgget(0x5, IPC_CREAT|0600) = 0\nmsgsnd(0, {mtype=1, mtext="hel' >"$bad"
     attempt 'a line that is cut' says 0 '^line 2 msgsnd(0, {mtype=1, mtext="hel: not taken: the line is cut$' "$bad"
@@ -172,7 +185,7 @@ open_calls() {
     attempt 'a wait at the end' says 0 '^line 2 .*: as defined, it waits at the end of the trace$' -- "$(written \
         'semget(0x5, 1, IPC_CREAT|0600) = 0
 semop(0, [{0, -1, SEM_UNDO}], 1 <unfinished ...>')"
-    attempt 'no wait at the end' says 1 '^line 2 .* but the definitions answer ok$' -- "$(written \
+    attempt 'no wait at the end' says 0 "^line 2 .*: its answer isn't in the trace; the definitions answer ok\$" -- "$(written \
         'semget(0x5, 1, IPC_CREAT|0600) = 0
 semop(0, [{0, 1, SEM_UNDO}], 1 <unfinished ...>')"
     attempt 'a receive at the end' says 0 "^line 2 .*: not taken: it has no end, so strace didn't write what it asks for$" -- "$(written \

@@ -16,7 +16,7 @@ sys.path[:0] = [str(pathlib.Path(__file__).resolve().parent), str(pathlib.Path(_
 import creds
 import lines
 import main
-import runs
+import sessions
 
 WITNESS = """geteuid() = 777
 msgget(0x7e57aaaa, IPC_CREAT|0600) = 1900000001
@@ -34,7 +34,7 @@ SIGNS = "0123456789abcdefx(){}[]\"\\|=<>-+?!.,:;/*& \t\r\x00\x0b\x0c\x85\xff"
 NUMBERS = ["0", "-1", "00", "08", "0x", "4294967295", "4294967296", "04294967296", "-2147483649", "9223372036854775808", "-9223372036854775809",
            "18446744073709551616", "0x1ffffffffffffffff", "9" * 30, "9" * 5000, "1.5", "NULL", "1<<5", "IPC_CREAT|99999999999"]
 TOLD = re.compile(r"line (\d+) ")
-VERDICT = re.compile(r": as defined| but the definitions |: not taken: ")
+VERDICT = re.compile(r": as defined| but the definitions |: not taken: |: its answer isn't in the trace")
 
 
 def with_witness(trace):
@@ -93,7 +93,7 @@ def told_of(program, text):
     """What ipcsh_trace says of a trace, by the number of the line. The last line, which counts, is made too."""
     given = main.words([])
     records = lines.numbered(lines.records_of("", text.encode("utf-8", "surrogateescape"), None))
-    plan, run = main.run_of(program, records, *main.opening_of(given), main.LIMITS)
+    plan, run = main.run_of(program, records, *main.opening_of(given), main.LIMITS, main.Progress(given))
     main.check_whole(program.path, run)
     told = {}
     for line in main.verdict_lines(plan, run):
@@ -156,7 +156,7 @@ class Traces:
 
 
 def run(path, seed, count, paths):
-    chance, traces, failed = random.Random(int(seed)), Traces(runs.Program(path), paths), 0
+    chance, traces, failed = random.Random(int(seed)), Traces(sessions.Program(path), paths), 0
     for _ in range(int(count)):
         wrong = traces.damage(chance)
         if wrong:

@@ -1,6 +1,7 @@
 """A call of a trace as a line of the script, and what the program answers beside what the kernel answered."""
 
 import re
+from copy import copy
 
 import kernel
 from plan import has_timeout, was_interrupted
@@ -50,6 +51,13 @@ class Objects:
     def __init__(self):
         self.own, self.kernels, self.removed, self.untaken = {}, {}, set(), {}
         self.keys, self.sizes, self.unsure = {}, {}, {}
+
+    def copy(self):
+        """The same, to be changed apart."""
+        found = copy(self)
+        for name, it in vars(self).items():
+            setattr(found, name, copy(it))
+        return found
 
     def ident(self, record):
         """The script's identifier of the object that a call names."""

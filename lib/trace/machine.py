@@ -9,7 +9,7 @@ import subprocess
 import tempfile
 
 from creds import BITS, Creds
-from runs import Stopped
+from sessions import Stopped
 
 CALLS = "trace=%ipc,%creds,execve,?clone,?clone3,?fork,?vfork"
 # Of structures all is written, but of execve, whose environment is nobody's concern.

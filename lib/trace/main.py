@@ -6,6 +6,7 @@ import os
 import pathlib
 import subprocess
 import sys
+import time
 
 sys.path.append(str(pathlib.Path(__file__).resolve().parent.parent))
 
@@ -14,6 +15,7 @@ import machine
 import orders
 import plan as plans
 import runs
+import sessions
 from creds import CAPABILITIES, Creds
 
 LIMITS = {"slots": 32000, "shmmax": 2**30}
@@ -56,6 +58,7 @@ def words(given=None):
     it.add_argument("--caps", type=listed(capability))
     it.add_argument("--limit", type=limit, action="append", default=[])
     it.add_argument("--output")
+    it.add_argument("--seconds", type=seconds)
     it.add_argument("--record", nargs=argparse.REMAINDER)
     it.add_argument("files", nargs="*")
     given = it.parse_args(given)
@@ -85,6 +88,14 @@ def capability(word):
     return word
 
 
+def seconds(word):
+    """A time, which is no less than 0."""
+    found = float(word)
+    if not 0 <= found < 2**31:
+        raise ValueError(word)
+    return found
+
+
 def limit(word):
     """A pair of a limit's name and its number."""
     name, _, number = word.partition("=")
@@ -103,12 +114,38 @@ def opening_of(given):
     return Creds(user, group, given.groups, caps), "by default" if is_default else "by options"
 
 
-def run_of(program, records, opening, source, limits):
+class Progress:
+    """How far the search is, on a terminal."""
+
+    def __init__(self, given):
+        self.began, self.told, self.is_shown = time.monotonic(), 0, sys.stderr is not None and sys.stderr.isatty()
+        self.ends_at, self.was_cut = None if given.seconds is None else self.began + given.seconds, False
+
+    def goes_on(self):
+        self.was_cut = self.ends_at is not None and time.monotonic() >= self.ends_at
+        return not self.was_cut
+
+    def tell(self, done, all_of_them, tried):
+        if self.is_shown and time.monotonic() > self.told + 0.5:
+            self.told = time.monotonic()
+            self.write(f"\ripcsh_trace: {100 * done // max(all_of_them, 1)} % of the trace, {tried} orders tried")
+
+    def end(self):
+        if self.told:
+            self.write("\r\033[K")
+
+    def write(self, text):
+        with contextlib.suppress(OSError):
+            sys.stderr.write(text)
+            sys.stderr.flush()
+
+
+def run_of(program, records, opening, source, limits, progress):
     """The run of the plan whose order fits best."""
     with_system = any(plans.needs_system(it) for it in records)
     while True:
         plan = plans.Plan(records, opening, source, with_system)
-        orders.ordered(program, plan, limits)
+        orders.ordered(program, plan, limits, progress)
         plan.needs_system = False
         run = runs.Run(program, plan, limits).carry_out()
         if with_system or not plan.needs_system:
@@ -133,6 +170,8 @@ def verdict_lines(plan, run):
 def joined(is_so, text):
     if is_so is None:
         return f": not taken: {text}"
+    if is_so == runs.OPEN:
+        return f": {text}"
     return f": as defined{'' if text.startswith('(') else ','} {text}" if is_so else f" but {text}"
 
 
@@ -140,7 +179,8 @@ def last_line(plan, run):
     kinds = [it[0] for it in run.verdicts.values()]
     other = sum(text.startswith("not taken") for _, text in plan.notes + run.notes)
     counts = f"{len(kinds)} call{'s' * (len(kinds) != 1)}: {kinds.count(True)} as defined, {kinds.count(False)} otherwise, {kinds.count(None)} not taken"
-    more = [f"{other} other line{'s' * (other != 1)} not taken"] if other else []
+    more = [f"{kinds.count(runs.OPEN)} without an answer in the trace"] if runs.OPEN in kinds else []
+    more += [f"{other} other line{'s' * (other != 1)} not taken"] if other else []
     if plan.clients.left_out:
         count = len(plan.clients.left_out)
         more.append(f"{count} process{'es' * (count != 1)} left out, since a script has at most 64 clients")
@@ -155,7 +195,7 @@ def check_whole(path, run):
     script = "".join(f"{it}\n" for it in run.script)
     it = subprocess.run([path], input=script.encode(), stdout=subprocess.PIPE, stderr=subprocess.PIPE, check=False)
     if it.stdout.decode().splitlines() != run.rows:
-        raise runs.Stopped("ipcsh answers the whole script otherwise than line by line")
+        raise sessions.Stopped("ipcsh answers the whole script otherwise than line by line")
 
 
 def judge(given):
@@ -165,7 +205,13 @@ def judge(given):
     with machine.trace(given.record, given.output) as file:
         records = lines.read([file] if file else given.files, sys.stdin)
     limits = {**LIMITS, **(machine.limits() if given.record else {}), **dict(given.limit)}
-    plan, run = run_of(runs.Program(path), records, opening, source, limits)
+    progress = Progress(given)
+    try:
+        plan, run = run_of(sessions.Program(path), records, opening, source, limits, progress)
+    finally:
+        progress.end()
+    if progress.was_cut:
+        complain(f"after {given.seconds:g} s no further orders of the calls were tried")
     check_whole(path, run)
     return plan, run
 
@@ -174,9 +220,9 @@ def main():
     given = words()
     try:
         plan, run = judge(given)
-    except (lines.BadFile, runs.BadLine, runs.Stopped) as why:
+    except (lines.BadFile, runs.BadLine, sessions.Stopped) as why:
         complain(why)
-        return {lines.BadFile: 2, runs.BadLine: 3, runs.Stopped: 70}[type(why)]
+        return {lines.BadFile: 2, runs.BadLine: 3, sessions.Stopped: 70}[type(why)]
     told = run.script if given.script else [*verdict_lines(plan, run), last_line(plan, run)]
     if not write_out("".join(f"{it}\n" for it in told)):
         complain("write failed")

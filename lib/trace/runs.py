@@ -1,93 +1,21 @@
 """A run of a plan's steps by the program, line by line, since the identifiers of later lines are those that it answers."""
 
-import os
-import subprocess
-import threading
+from copy import copy
 
 from calls import Objects, judged, octal, remark, timeout_of, words_of
 from plan import has_timeout, was_interrupted
 from processes import SYSTEM
+from sessions import Session
 from values import DAMAGED, reason
 
-# A line that the program answers without an event: so all rows of the line before it are read.
-MARK = "?"
+# The verdict on a call whose answer isn't in the trace.
+OPEN = "open"
 # Limits of the language where no line sets them.
 DEFAULTS = {"msgmax": 8192, "semopm": 500}
 
 
-class Stopped(Exception):
-    """The program can't be run, or has ended; its text says why."""
-
-
 class BadLine(Exception):
     """A limit or a client that the language doesn't take."""
-
-
-class Program:
-    """./ipcsh, and what it has answered so far: `known` has for each first line its rows and what is known of the lines after it. The program
-    answers the same lines the same, so a run that begins as an earlier one asks it from the first other line on."""
-
-    def __init__(self, path):
-        self.path, self.known = path, {}
-
-
-class Session:
-    """A run of the program, which is given a line and answers its rows."""
-
-    def __init__(self, program):
-        self.program, self.known, self.lines = program, program.known, []
-        self.process, self.count, self.text = None, 0, b""
-
-    def ask(self, line):
-        """The rows of a line."""
-        if line not in self.known:
-            if self.process is None:
-                self.start()
-            self.known[line] = (self.answer([line])[-1], {})
-        rows, self.known = self.known[line]
-        self.lines.append(line)
-        return rows
-
-    def start(self):
-        """Starts the program, and lets it answer the lines that it has answered before."""
-        self.process = subprocess.Popen([self.program.path], stdin=subprocess.PIPE, stdout=subprocess.PIPE, stderr=subprocess.DEVNULL, bufsize=0)
-        self.answer(self.lines)
-
-    def answer(self, lines):
-        """The rows of each of these lines. They are written beside, as the program may wait until its rows are read."""
-        writer = threading.Thread(target=self.write, args=("".join(f"{it}\n{MARK}\n" for it in lines).encode(),))
-        writer.start()
-        found = []
-        for _ in lines:
-            self.count += 2
-            end, rows = f"line {self.count}: ".encode(), []
-            while not rows or not rows[-1].startswith(end):
-                rows.append(self.row())
-            found.append([it.decode() for it in rows[:-1]])
-        writer.join()
-        return found
-
-    def write(self, text):
-        try:
-            while text:
-                text = text[self.process.stdin.write(text) :]
-        except BrokenPipeError:
-            return
-
-    def row(self):
-        while b"\n" not in self.text:
-            more = os.read(self.process.stdout.fileno(), 1 << 16)
-            if not more:
-                raise Stopped(f"ipcsh ended with status {self.process.wait()}; try ./ipcsh < examples/first-run.ipcsh")
-            self.text += more
-        row, self.text = self.text.split(b"\n", 1)
-        return row
-
-    def end(self):
-        if self.process:
-            self.process.stdin.close()
-            self.process.stdout.close()
-            self.process.wait()
 
 
 class Otherwise(Exception):
@@ -99,7 +27,8 @@ class Otherwise(Exception):
 
 
 class Run:
-    """One run. `verdicts` has for each step whether it is as defined, None where it isn't taken, and the text that says so."""
+    """One run. `verdicts` has for each step whether it is as defined, None where it isn't taken, OPEN where it can't be told, and the text that says
+    so."""
 
     def __init__(self, program, plan, limits, stops_at=None):
         self.plan, self.limits, self.session = plan, limits, Session(program)
@@ -112,11 +41,33 @@ class Run:
     def carry_out(self):
         try:
             self.head()
-            for step, is_end in schedule(self.plan.steps):
-                (self.finish if is_end else self.begin)(step)
+            for _, is_end, _, step in events(self.plan.steps):
+                self.do(step, is_end)
         finally:
             self.session.end()
         return self
+
+    def do(self, step, is_end):
+        (self.finish if is_end else self.begin)(step)
+
+    def place(self):
+        """What has come of the run so far, to go back to."""
+        grown = [len(it) for it in (self.answers, self.verdicts, self.script, self.rows, self.notes)]
+        own = {name: copy(getattr(self, name)) for name in ("numbers", "waiting", "deadlines", "ended_by_exit", "now")}
+        return self.session.place(), grown, own, self.objects.copy()
+
+    def back(self, place):
+        """Goes back to where it was, from where it may go on in another order."""
+        session, grown, own, objects = place
+        self.session.back(session)
+        for it, count in zip((self.answers, self.verdicts), grown):
+            while len(it) > count:
+                it.popitem()
+        for it, count in zip((self.script, self.rows, self.notes), grown[2:]):
+            del it[count:]
+        for name, it in own.items():
+            setattr(self, name, copy(it))
+        self.objects = objects.copy()
 
     def head(self):
         for name, value in self.limits.items():
@@ -238,6 +189,8 @@ class Run:
         row, ended_by = self.answers[step]
         if step in self.ended_by_exit or record.result in (None, "?") and row.endswith(" interrupted"):
             return True, "it waits until its process ends"
+        if record.result in (None, "?"):
+            return OPEN, f"its answer isn't in the trace; the definitions answer {row}"
         try:
             is_so, text = judged(record, row, self.objects)
             more = remark(record) if is_so and not record.error else ""
@@ -282,10 +235,11 @@ def cause(step):
     return f"{step.record.place}{f' [pid {step.record.pid}]' if step.record.pid else ''} {name}"
 
 
-def schedule(steps):
-    """The steps in their order, each call twice: where it is made, and where it has ended."""
-    found = []
-    for at, step in enumerate(steps):
-        found.append((step.position, 0, at, step))
-        found.append((max(step.until + 0.4, step.position), 1, at, step))
-    return [(step, is_end == 1) for _, is_end, _, step in sorted(found, key=lambda it: it[:3])]
+def event(at, step, is_end):
+    """An event of a step, which is made where its place is, and has ended when the trace says so, at the earliest then. Events are in order."""
+    return (max(step.until + 0.4, step.position) if is_end else step.position), is_end, at, step
+
+
+def events(steps):
+    """The events of all steps in their order, two for each."""
+    return sorted(event(at, step, is_end) for at, step in enumerate(steps) for is_end in (0, 1))
