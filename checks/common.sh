@@ -44,10 +44,16 @@ end_group() {
     [ -z "$group" ] || kill -s TERM -- "-$group" 2>/dev/null || :
 }
 
-# built CRATE: its program is current, after a build where need be, of which a run makes one at most.
+# built CRATE: its program is current, after a build where need be, of which a run makes one at most; none where rt ci has run, which would have
+# built it.
 tried=
+has_run_ci=
 built() {
     ! is_current "$1" || return 0
+    if [ -n "$has_run_ci" ]; then
+        why='rt ci has not proved and built it'
+        return 1
+    fi
     why="it is not proved and built; the whole log is out/$1.failed.log"
     case " $tried " in
     *" $1 "*) ;;

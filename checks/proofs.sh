@@ -77,6 +77,7 @@ check_proofs() {
     status=0
     in_group rt ci </dev/null >"$scratch/ci.pipe" || status=$?
     wait
+    has_run_ci=yes
     count_of 'rt ci' "$(tail -n 1 "$scratch/ci")" "$status"
     [ "$status" != 0 ] || attempt 'library for C' builds_the_library
     [ "$before" != "$(programs_made)" ] || note_programs
