@@ -11,8 +11,8 @@ import sys
 
 CALL = "semop(0, [{sem_num=0, sem_op=%d, sem_flg=0}], 1"
 FIRST = 100
-# How much less time than 1 goes by before these, on average.
-FASTER = {"arrives": 50}
+# How long a call is on its way to its place, on average, where between its lines and before it 1 goes by.
+ON_ITS_WAY = 0.02
 
 
 class Threads:
@@ -23,8 +23,8 @@ class Threads:
         for thread in self.left:
             self.later(thread, self.begins, 0)
 
-    def later(self, thread, what, now):
-        heapq.heappush(self.events, (now + random.expovariate(FASTER.get(what.__name__, 1)), thread, what))
+    def later(self, thread, what, now, mean=1):
+        heapq.heappush(self.events, (now + random.expovariate(1) * mean, thread, what))
 
     def change(self, thread):
         """What the thread's next operation adds: it takes and gives back in turn."""
@@ -32,7 +32,7 @@ class Threads:
 
     def begins(self, thread, now):
         print(f"{thread} {CALL % self.change(thread)} <unfinished ...>")
-        self.later(thread, self.arrives, now)
+        self.later(thread, self.arrives, now, ON_ITS_WAY)
 
     def arrives(self, thread, now):
         if self.change(thread) < 0:

@@ -30,11 +30,15 @@ class Words(argparse.ArgumentParser):
         sys.exit(3)
 
 
-def complain(text):
-    """A line on standard error, where that can be written."""
+def write_error(text):
+    """Writes to standard error, where that can be written."""
     with contextlib.suppress(OSError, AttributeError):
-        sys.stderr.write(f"ipcsh_trace: {text}\n")
+        sys.stderr.write(text)
         sys.stderr.flush()
+
+
+def complain(text):
+    write_error(f"ipcsh_trace: {text}\n")
 
 
 def write_out(text):
@@ -128,16 +132,11 @@ class Progress:
     def tell(self, done, all_of_them, tried):
         if self.is_shown and time.monotonic() > self.told + 0.5:
             self.told = time.monotonic()
-            self.write(f"\ripcsh_trace: {100 * done // max(all_of_them, 1)} % of the trace, {tried} orders tried")
+            write_error(f"\ripcsh_trace: {100 * done // max(all_of_them, 1)} % of the trace, {tried} orders tried")
 
     def end(self):
         if self.told:
-            self.write("\r\033[K")
-
-    def write(self, text):
-        with contextlib.suppress(OSError):
-            sys.stderr.write(text)
-            sys.stderr.flush()
+            write_error("\r\033[K")
 
 
 def run_of(program, records, opening, source, limits, progress):

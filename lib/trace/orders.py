@@ -18,8 +18,8 @@ PATIENCE = 60
 NEAR = 16
 # In how many places, nearest and last, each of them is tried before the next of them.
 FEW = 8
-# A run keeps a place to go back to each time after so many events, and so many places.
-EVERY, PLACES = 64, 48
+# A run is kept, to go back to, each time after so many events, and so often.
+EVERY, KEPT = 64, 48
 
 
 class Order:
@@ -53,15 +53,16 @@ class Order:
 
 
 class KeptRun:
-    """A run that goes on, where its order has changed, from a place that it kept before."""
+    """A run that goes on, where its order has changed, from where it was kept before that. `kept` has each time how many events were done."""
 
     def __init__(self, program, plan, limits, accepted):
-        self.run, self.order, self.at = Run(program, plan, limits, accepted), Order(plan.steps), 0
-        self.run.head()
-        self.places = [(0, self.run.place())]
+        self.program, self.run, self.order = program, Run(program, plan, limits, accepted), Order(plan.steps)
+        self.at, self.kept = 0, []
 
     def first_otherwise(self):
         """The first call that is answered otherwise, but for those that are accepted so; None where there is none."""
+        if not self.kept:
+            self.run.head()
         try:
             while self.at < len(self.order.events):
                 self.keep()
@@ -73,25 +74,25 @@ class KeptRun:
         return None
 
     def keep(self):
-        """Keeps a place; of those that are long behind fewer and fewer."""
-        if self.at < self.places[-1][0] + EVERY:
+        """Keeps the run; of what is long behind less and less."""
+        if self.kept and self.at < self.kept[-1][0] + EVERY:
             return
-        self.places.append((self.at, self.run.place()))
-        if len(self.places) > PLACES:
-            self.places[: PLACES // 2] = self.places[: PLACES // 2 : 2]
+        self.kept.append((self.at, self.run.place()))
+        if len(self.kept) > KEPT:
+            self.kept[: KEPT // 2] = self.kept[: KEPT // 2 : 2]
 
     def move(self, step, position):
         first = self.order.move(step, position)
         if first >= self.at:
             return
-        while self.places[-1][0] > first:
-            self.places.pop()
-        self.at, place = self.places[-1]
+        while self.kept[-1][0] > first:
+            self.kept.pop()
+        self.at, place = self.kept[-1]
         self.run.back(place)
 
     def end(self):
         self.run.session.end()
-        self.run.session.program.end()
+        self.program.end()
 
 
 def object_of(step):

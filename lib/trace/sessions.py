@@ -52,9 +52,8 @@ class Process:
     """A process of the program, and the lines that it was given. The first are given to it by a thread of their own."""
 
     def __init__(self, path, lines):
-        self.lines, self.count, self.text, self.is_ended = [], 0, b"", False
-        self.child = subprocess.Popen([path], stdin=subprocess.PIPE, stdout=subprocess.PIPE, stderr=subprocess.DEVNULL, bufsize=0)
-        self.lines, self.failure = list(lines), None
+        self.lines, self.count, self.failure, self.is_ended = list(lines), 0, None, False
+        self.child = subprocess.Popen([path], stdin=subprocess.PIPE, stdout=subprocess.PIPE, stderr=subprocess.DEVNULL)
         self.feeder = threading.Thread(target=self.skip, args=(self.lines,), daemon=True)
         self.feeder.start()
 
@@ -63,9 +62,8 @@ class Process:
         self.feeder.join()
         if self.failure:
             raise self.failure
-        if lines:
-            self.lines += lines
-            self.skip(lines)
+        self.lines += lines
+        self.skip(lines)
 
     def skip(self, lines):
         """Its rows for these lines aren't looked at."""
@@ -101,23 +99,21 @@ class Process:
 
     def write_all(self, text):
         with contextlib.suppress(OSError, ValueError):
-            while text:
-                text = text[self.child.stdin.write(text) :]
+            self.child.stdin.write(text)
+            self.child.stdin.flush()
 
     def row(self):
-        while b"\n" not in self.text:
-            more = os.read(self.child.stdout.fileno(), 1 << 16)
-            if not more:
-                raise Stopped(f"ipcsh ended with status {self.child.wait()}; try ./ipcsh < examples/first-run.ipcsh")
-            self.text += more
-        row, self.text = self.text.split(b"\n", 1)
-        return row
+        row = self.child.stdout.readline()
+        if not row.endswith(b"\n"):
+            raise Stopped(f"ipcsh ended with status {self.child.wait()}; try ./ipcsh < examples/first-run.ipcsh")
+        return row[:-1]
 
     def end(self):
         self.is_ended = True
         self.child.kill()
         self.feeder.join()
-        self.child.stdin.close()
+        with contextlib.suppress(OSError):
+            self.child.stdin.close()
         self.child.stdout.close()
         self.child.wait()
 

@@ -12,7 +12,7 @@ const DONE: i32 = 0;
 const IN_FLIGHT: i32 = 1;
 const WAITING: i32 = 2;
 const NO_ROOM: i32 = -6;
-const NO_MEMORY: i32 = -7;
+pub(crate) const NO_MEMORY: i32 = -7;
 
 /// How often a client looks for its answer before it gives up the processor in between.
 const LOOKS: u32 = 16;

@@ -1,12 +1,11 @@
 //! The journal of a service, read while the service goes on.
 
-use crate::client::Client;
+use crate::client::{Client, NO_MEMORY};
 use crate::error::{EINVAL, Error};
 use std::io;
 use std::thread;
 
 // What the library says of a read.
-const NO_MEMORY: i32 = -7;
 const COMBINING: i32 = -11;
 const NO_JOURNAL: i32 = -12;
 
