@@ -3,8 +3,9 @@ use Rattle.std.proofs.Common.{◌≡◌, ◌∙◌, ℕ, ◌+◌, ◌<◌, ◌�
 use Rattle.std.specs.Prelude.{◌&&◌, Some, None, IsSome}
 use Rattle.std.specs.declared.cmp.Ordering.{Ordering}
 use Rattle.std.specs.declared.cmp.Ordering.TheVariants.{Less, Equal, Greater}
-use Rattle.std.specs.declared.ops.Bound.TheVariants.{Included, Unbounded}
-use Rattle.std.specs.Ordering.{is_eq, is_gt, is_le, nat_cmp, ordering_then}
+use Rattle.std.specs.declared.ops.Bound.{Bound}
+use Rattle.std.specs.declared.ops.Bound.TheVariants.{Excluded, Included, Unbounded}
+use Rattle.std.specs.Ordering.{is_eq, is_gt, is_le, is_lt, nat_cmp, ordering_then}
 use Rattle.std.specs.Cmp.{nat_cmp_is, ranked}
 use Rattle.std.specs.List.{filter}
 use Rattle.std.specs.List.Sorted.{IsStrictlySortedBy}
@@ -28,6 +29,9 @@ not_above n m h = grind (arith, nat_tests)
 
 not_below : (n : ℕ) → is_gt (nat_cmp 0 n) ≡ false
 not_below n = grind (arith, nat_tests)
+
+not_gt : (n m : ℕ) → is_gt (nat_cmp n m) ≡ false → n ≤ m
+not_gt n m h = grind (arith, nat_tests, h)
 
 next : (r : Ordering) (n m : ℕ) → ordering_then r (nat_cmp n m) ≡ Less → is_gt (ordering_then r (nat_cmp (n + 1) m)) ≡ false
 next Less n m e = refl
@@ -59,49 +63,74 @@ pub record Walk {X : Type 0} (m : finite.FinMap key_cmp X) (client n : ℕ) (es 
   pub low : IsFrom client n es
   pub rest : (k : ℕ) → n ≤ k → finite.get m (key client k) ≡ entry_at es (key client k)
 
--- the keys from a client's least one on
-abbrev within : ℕ → Key → Bool
-within client k = range_contains key_cmp (Included (key client 0)) Unbounded k
+-- the keys from a bound on
+abbrev within : Bound Key → Key → Bool
+within bound k = range_contains key_cmp bound Unbounded k
+
+-- the entries from a bound on
+abbrev pub entries_from : {X : Type 0} → Bound Key → List (Key × X) → List (Key × X)
+entries_from bound es = entries_between key_cmp bound Unbounded es
 
 le_within : (r : Ordering) → is_gt r ≡ false → (is_le r && true) ≡ true
 le_within Less h = refl
 le_within Equal h = refl
 le_within Greater h = absurd (true≢false h)
 
-module _ {X : Type 0} (client : ℕ) where
-  -- the entries from there on
-  abbrev pub from_client : List (Key × X) → List (Key × X)
-  from_client es = entries_between key_cmp (Included (key client 0)) Unbounded es
+at_or_after : (r : Ordering) → (is_le r && true) ≡ true → is_gt r ≡ false
+at_or_after Less h = refl
+at_or_after Equal h = refl
+at_or_after Greater h = absurd (true≢false (sym h))
 
-  keys_from : (es : List (Key × X)) → keys_of (from_client es) ≡ filter (within client) (keys_of es)
+after : (r : Ordering) → (is_lt r && true) ≡ true → r ≡ Less
+after Less h = refl
+after Equal h = absurd (true≢false (sym h))
+after Greater h = absurd (true≢false (sym h))
+
+-- a bound that lets in no key before a number of a client, and its keys from that number on
+module _ {X : Type 0} (bound : Bound Key) (client n : ℕ) (low : (k : Key) → within bound k ≡ true → is_gt (key_cmp (key client n) k) ≡ false) (inside : (k : ℕ) → n ≤ k → within bound (key client k) ≡ true) where
+  keys_from : (es : List (Key × X)) → keys_of (entries_from bound es) ≡ filter (within bound) (keys_of es)
   keys_from [] = refl
-  keys_from (e ∷ es) = step (within client e.0) (keys_from es)
+  keys_from (e ∷ es) = step (within bound e.0) (keys_from es)
     where
-      step : (b : Bool) → keys_of (from_client es) ≡ filter (within client) (keys_of es) → keys_of (cond b (e ∷ from_client es) (from_client es)) ≡ cond b (e.0 ∷ filter (within client) (keys_of es)) (filter (within client) (keys_of es))
+      step : (b : Bool) → keys_of (entries_from bound es) ≡ filter (within bound) (keys_of es) → keys_of (cond b (e ∷ entries_from bound es) (entries_from bound es)) ≡ cond b (e.0 ∷ filter (within bound) (keys_of es)) (filter (within bound) (keys_of es))
       step true rest = ap (λ ks. e.0 ∷ ks) rest
       step false rest = rest
 
-  first_low : (es : List (Key × X)) → IsFrom client 0 (from_client es)
+  first_low : (es : List (Key × X)) → IsFrom client n (entries_from bound es)
   first_low [] = tt
-  first_low (e ∷ es) = step (key_cmp (key client 0) e.0) refl (first_low es)
+  first_low (e ∷ es) = step (within bound e.0) refl (first_low es)
     where
-      step : (r : Ordering) → key_cmp (key client 0) e.0 ≡ r → IsFrom client 0 (from_client es) → IsFrom client 0 (cond (is_le r && true) (e ∷ from_client es) (from_client es))
-      step Less is rest = ap is_gt is
-      step Equal is rest = ap is_gt is
-      step Greater is rest = rest
+      step : (b : Bool) → within bound e.0 ≡ b → IsFrom client n (entries_from bound es) → IsFrom client n (cond b (e ∷ entries_from bound es) (entries_from bound es))
+      step true is rest = low e.0 is
+      step false is rest = rest
 
-  walk_first : (es : List (Key × X)) → IsStrictlySortedBy key_cmp (keys_of es) → Walk (map_of es) client 0 (from_client es)
-  walk_first es sorted = record {
-    sorted = subst (λ ks. IsStrictlySortedBy key_cmp ks) (sym (keys_from es)) (IsStrictlySortedBy-filter key_cmp (within client) (keys_of es) sorted);
+  walk_own : (es : List (Key × X)) → IsStrictlySortedBy key_cmp (keys_of es) → Walk (map_of es) client n (entries_from bound es)
+  walk_own es sorted = record {
+    sorted = subst (λ ks. IsStrictlySortedBy key_cmp ks) (sym (keys_from es)) (IsStrictlySortedBy-filter key_cmp (within bound) (keys_of es) sorted);
     low = first_low es;
     rest = λ k l.
         get_map es (key client k)
-        ∙ sym (lookup-filter-keys (tree.is_at (key_cmp (key client k))) (within client) true (λ h is. ap (within client) (sym (equal_keys key_total key_same (key client k) h is)) ∙ le_within _ (le_first client k)) es);
+        ∙ sym (lookup-filter-keys (tree.is_at (key_cmp (key client k))) (within bound) true (λ h is. ap (within bound) (sym (equal_keys key_total key_same (key client k) h is)) ∙ inside k l) es);
   }
 
-  pub walk_from : (es fs : List (Key × X)) (m : finite.FinMap key_cmp X) → map_of es ≡ m → IsStrictlySortedBy key_cmp (keys_of es) → fs ≡ from_client es → Walk m client 0 fs
-  walk_from es fs m is sorted from =
-      subst (λ gs. Walk m client 0 gs) (sym from) (subst (λ n. Walk n client 0 (from_client es)) is (walk_first es sorted))
+  walk_of : (es fs : List (Key × X)) (m : finite.FinMap key_cmp X) → map_of es ≡ m → IsStrictlySortedBy key_cmp (keys_of es) → fs ≡ entries_from bound es → Walk m client n fs
+  walk_of es fs m is sorted from =
+      subst (λ gs. Walk m client n gs) (sym from) (subst (λ o. Walk o client n (entries_from bound es)) is (walk_own es sorted))
+
+lt_later : (client n k : ℕ) → n + 1 ≤ k → (is_lt (key_cmp (key client n) (key client k)) && true) ≡ true
+lt_later client n k l =
+    ap (λ r. is_lt (ordering_then r (nat_cmp n k)) && true) (sym (nat_cmp_is client client Equal refl))
+    ∙ ap (λ r. is_lt r && true) (sym (nat_cmp_is n k Less (omega (arith, l))))
+
+module _ {X : Type 0} (client : ℕ) (es fs : List (Key × X)) (m : finite.FinMap key_cmp X) (is : map_of es ≡ m) (sorted : IsStrictlySortedBy key_cmp (keys_of es)) where
+  pub walk_from : fs ≡ entries_from (Included (key client 0)) es → Walk m client 0 fs
+  walk_from from = walk_of (Included (key client 0)) client 0 (λ k h. at_or_after (key_cmp (key client 0) k) h) (λ k l. le_within _ (le_first client k)) es fs m is sorted from
+
+  pub walk_after : (n : ℕ) → fs ≡ entries_from (Excluded (key client n)) es → Walk m client (n + 1) fs
+  walk_after n from =
+      walk_of (Excluded (key client n)) client (n + 1)
+      (λ k h. next (nat_cmp client k.client) n k.number (after (key_cmp (key client n) k) h))
+      (λ k l. lt_later client n k l) es fs m is sorted from
 
 module _ {X : Type 0} (m : finite.FinMap key_cmp X) (client n : ℕ) (e : Key × X) (es : List (Key × X)) (walk : Walk m client n (e ∷ es)) where
   -- nothing is below the head
@@ -120,6 +149,11 @@ module _ {X : Type 0} (m : finite.FinMap key_cmp X) (client n : ℕ) (e : Key ×
   pub none_at : (e.0.client ≡ client → e.0.number ≡ n → ⊥) → finite.get m (key client n) ≡ None
   none_at apart =
       below n (omega arith) (less_of _ (keys_differ key_total key_same (key client n) e.0 (λ is. apart (sym (ap (λ (k : Key). k.client) is)) (sym (ap (λ (k : Key). k.number) is)))) walk.low)
+
+  -- a head of this client is no less than the number
+  pub head_from : e.0.client ≡ client → n ≤ e.0.number
+  head_from same =
+      not_gt n e.0.number (ap (λ r. is_gt (ordering_then r (nat_cmp n e.0.number))) (nat_cmp_is client e.0.client Equal (sym same)) ∙ walk.low)
 
   -- the head is there
   pub head_there : e.0.client ≡ client → n ≤ e.0.number → IsSome (finite.get m (key client e.0.number))

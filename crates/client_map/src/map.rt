@@ -9,6 +9,7 @@ ghost use Rattle.client_map.specs.Keys.{key};
 use std::alloc::{AllocError, Global};
 use std::collections::BTreeMap;
 use std::marker::Model;
+use std::ops::Bound;
 
 /// Where a value stands: a number of a client.
 #[derive(Clone, Copy, Debug, PartialEq, Eq, PartialOrd, Ord)]
@@ -86,6 +87,27 @@ impl<V> ClientMap<V> {
             → finite.get self.now (key client n) ≡ None) }
     {
         match self.tree.range(Key { client, number: 0 }..).next() {
+            None => None,
+            Some((key, _)) => {
+                if key.client == client {
+                    Some(key.number)
+                } else {
+                    None
+                }
+            }
+        }
+    }
+
+    /// The least number above this one under which a client has something.
+    pub fn next(&self, client: u32, number: u32) -> Option<u32>
+        ensures none { IfNone result ((n : ℕ) → number < n → finite.get self.now (key client n) ≡ None) }
+        ensures there { IfSome result (λ next. IsSome (finite.get self.now (key client next))) }
+        ensures above { IfSome result (λ next. number < next) }
+        ensures least { IfSome result (λ next. (n : ℕ) → number < n → n < next
+            → finite.get self.now (key client n) ≡ None) }
+    {
+        let after = Bound::Excluded(Key { client, number });
+        match self.tree.range((after, Bound::Unbounded)).next() {
             None => None,
             Some((key, _)) => {
                 if key.client == client {

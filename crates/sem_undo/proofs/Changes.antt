@@ -8,7 +8,7 @@ use Rattle.client_map.specs.declared.map.Key.{Key}
 use Rattle.client_map.specs.Keys.{key as row_key}
 use Rattle.client_map.proofs.Orders.{itself, key_same, key_total, keys_differ}
 use Rattle.sem_undo.specs.Entries.{Adjusted, Entries, Place, place_cmp, with_adj}
-use Rattle.sem_undo.specs.Rows.{AreOfClients, RowMap, adj_in, entries_in, is_here, lens_in, row_in}
+use Rattle.sem_undo.specs.Rows.{RowMap, adj_in, entries_in, is_here, lens_in, row_in}
 use Rattle.sem_undo.proofs.Entries.{entry_of, get_entries, get_lens, get_with_apart, get_with_here, key, place, same_entries}
 use Rattle.sem_undo.proofs.Keys.{place_same, place_total}
 
@@ -78,9 +78,6 @@ module _ (es es' : RowMap) (client set : ℕ) (new : Option (List ℤ)) (is : (c
       ∙ ap size (row_apart p.client p.set ne)
       ∙ sym (get_lens es p.client p.set)
       ∙ apart p ne))
-
-  pub clients_are : client < 64 → AreOfClients es → AreOfClients es'
-  clients_are few of c s h = row_apart c s (λ e _. absurd (omega arith)) ∙ of c s h
 
 -- a semadj is written into a row
 module _ (es es' : RowMap) (client at num : ℕ) (adj : ℤ) (within : num < length (unwrap_or (row_in es client at) [])) (is : (c s : ℕ) → row_in es' c s ≡ (if is_here client at c s then Some (set (unwrap_or (row_in es client at) []) num adj) else row_in es c s)) where

@@ -1,11 +1,11 @@
 -- What entries and lengths become where the rows at a set change.
 use Rattle.std.proofs.Common.{◌≡◌, ◌∙◌, ℕ, ◌<◌, ◌≤◌, ap, arith, cond, refl, sym, Bool, true, false, List, [], length, length-set, set, ⊎_elim}
-use Rattle.std.specs.Prelude.{◌==◌, ◌&&◌, not, nat_lt, ℤ, pos, Option, Some, None, if◌then◌else◌, unwrap_or}
+use Rattle.std.specs.Prelude.{◌==◌, ◌&&◌, not, ℤ, pos, Option, Some, None, if◌then◌else◌, unwrap_or}
 use Rattle.std.specs.FinMap as finite
 use Rattle.std.proofs.lemmas.Bool.{cases_eq, cases_lt}
 use Rattle.std.proofs.lemmas.List.{get_or_past, get_or-set_same, get_or-set_other, length-replicate}
 use Rattle.sem_undo.specs.Entries.{Place, Undone, cleared}
-use Rattle.sem_undo.specs.Rows.{AreOfClients, RowMap, adj_in, entries_in, lens_in, removed, row_in, undone_in, with_each, zeroed, zeroed_at}
+use Rattle.sem_undo.specs.Rows.{RowMap, adj_in, each_at, entries_in, lens_in, removed, row_in, undone_in, zeroed, zeroed_at}
 use Rattle.sem_undo.proofs.Changes.{same_lens, size}
 use Rattle.sem_undo.proofs.Entries.{entry_of, get_entries, get_kept, get_lens, same_entries}
 use Rattle.sem_undo.proofs.Keys.{place_same}
@@ -20,26 +20,12 @@ cleared_entry true true change o n is = ap entry_of is
 cleared_entry true false change o n is = ap entry_of is
 cleared_entry false which change o n is = refl
 
-none_either : (here : Bool) (x y : Option (List ℤ)) → x ≡ None → y ≡ None → (if here then x else y) ≡ None
-none_either true x y e f = e
-none_either false x y e f = f
-
-module _ (es es' : RowMap) (at : ℕ) (change : Option (List ℤ) → Option (List ℤ)) (none : change None ≡ None) (of : AreOfClients es) (is : (c s : ℕ) → row_in es' c s ≡ with_each 64 at change (row_in es) c s) where
-  each_row : (c s : ℕ) → row_in es' c s ≡ (if s == at then change (row_in es c s) else row_in es c s)
-  each_row c s =
-      ⊎_elim
-      (λ (l : c < 64). let t : (nat_lt c 64 && s == at) ≡ (s == at) = grind arith in is c s ∙ ap (λ (b : Bool). if b then change (row_in es c s) else row_in es c s) t)
-      (λ (g : 64 ≤ c). let t : (nat_lt c 64 && s == at) ≡ false = grind arith in is c s ∙ ap (λ (b : Bool). if b then change (row_in es c s) else row_in es c s) t ∙ of c s g ∙ sym (none_either (s == at) (change (row_in es c s)) (row_in es c s) (ap change (of c s g) ∙ none) (of c s g)))
-      (cases_lt c 64)
-
-  pub clients_after : AreOfClients es'
-  clients_after c s g = each_row c s ∙ none_either (s == at) (change (row_in es c s)) (row_in es c s) (ap change (of c s g) ∙ none) (of c s g)
-
+module _ (es es' : RowMap) (at : ℕ) (change : Option (List ℤ) → Option (List ℤ)) (is : (c s : ℕ) → row_in es' c s ≡ each_at at change (row_in es) c s) where
   pub entries_after : (which : ℕ → Bool) → Clears change which → entries_in es' ≡ cleared (entries_in es) at which
   entries_after which clears =
       same_entries (entries_in es') (cleared (entries_in es) at which) (λ q.
       get_entries es' q.client q.set q.num
-      ∙ ap (λ (o : Option (List ℤ)). entry_of (adj_in (unwrap_or o []) q.num)) (each_row q.client q.set)
+      ∙ ap (λ (o : Option (List ℤ)). entry_of (adj_in (unwrap_or o []) q.num)) (is q.client q.set)
       ∙ cleared_entry (q.set == at) (which q.num) change (row_in es q.client q.set) q.num (clears (row_in es q.client q.set) q.num)
       ∙ ap (λ (o : Option ℤ). cond (not (q.set == at && which q.num)) o None) (sym (get_entries es q.client q.set q.num))
       ∙ sym (get_kept (entries_in es) (λ k. not (k.set == at && which k.num)) q))
@@ -52,7 +38,7 @@ module _ (es es' : RowMap) (at : ℕ) (change : Option (List ℤ) → Option (Li
   lens_after sizes =
       same_lens (lens_in es') (lens_in es) (λ p.
       get_lens es' p.client p.set
-      ∙ ap size (each_row p.client p.set)
+      ∙ ap size (is p.client p.set)
       ∙ size_either (p.set == at) (row_in es p.client p.set) (sizes (row_in es p.client p.set))
       ∙ sym (get_lens es p.client p.set))
 
@@ -97,36 +83,36 @@ pub size_all : (o : Option (List ℤ)) → size (zeroed o) ≡ size o
 size_all None = refl
 size_all (Some r) = ap (λ n. Some n) (length-replicate (length r) (pos 0))
 
-module _ (es es' : RowMap) (u : Undone) (e : undone_in es ≡ u) (at : ℕ) (of : AreOfClients es) where
-  pub clear_value : (num : ℕ) → ((c s : ℕ) → row_in es' c s ≡ with_each 64 at (zeroed_at num) (row_in es) c s) → undone_in es' ≡ record u { entries = cleared u.entries at (λ n. n == num) }
+module _ (es es' : RowMap) (u : Undone) (e : undone_in es ≡ u) (at : ℕ) where
+  pub clear_value : (num : ℕ) → ((c s : ℕ) → row_in es' c s ≡ each_at at (zeroed_at num) (row_in es) c s) → undone_in es' ≡ record u { entries = cleared u.entries at (λ n. n == num) }
   clear_value num is =
       λ i. record {
-        entries = (entries_after es es' at (zeroed_at num) refl of is (λ n. n == num) (clears_at num) ∙ ap (λ (v : Undone). cleared v.entries at (λ n. n == num)) e) i;
-        rows = (lens_after es es' at (zeroed_at num) refl of is (size_at num) ∙ ap (λ (v : Undone). v.rows) e) i;
+        entries = (entries_after es es' at (zeroed_at num) is (λ n. n == num) (clears_at num) ∙ ap (λ (v : Undone). cleared v.entries at (λ n. n == num)) e) i;
+        rows = (lens_after es es' at (zeroed_at num) is (size_at num) ∙ ap (λ (v : Undone). v.rows) e) i;
       }
 
-  pub clear_set_value : ((c s : ℕ) → row_in es' c s ≡ with_each 64 at zeroed (row_in es) c s) → undone_in es' ≡ record u { entries = cleared u.entries at (λ _. true) }
+  pub clear_set_value : ((c s : ℕ) → row_in es' c s ≡ each_at at zeroed (row_in es) c s) → undone_in es' ≡ record u { entries = cleared u.entries at (λ _. true) }
   clear_set_value is =
       λ i. record {
-        entries = (entries_after es es' at zeroed refl of is (λ _. true) clears_all ∙ ap (λ (v : Undone). cleared v.entries at (λ _. true)) e) i;
-        rows = (lens_after es es' at zeroed refl of is size_all ∙ ap (λ (v : Undone). v.rows) e) i;
+        entries = (entries_after es es' at zeroed is (λ _. true) clears_all ∙ ap (λ (v : Undone). cleared v.entries at (λ _. true)) e) i;
+        rows = (lens_after es es' at zeroed is size_all ∙ ap (λ (v : Undone). v.rows) e) i;
       }
 
 gone_len : (here : Bool) (o : Option (List ℤ)) → size (if here then None else o) ≡ cond (not here) (size o) None
 gone_len true o = refl
 gone_len false o = refl
 
-module _ (es es' : RowMap) (u : Undone) (e : undone_in es ≡ u) (at : ℕ) (of : AreOfClients es) where
-  pub remove_set_value : ((c s : ℕ) → row_in es' c s ≡ with_each 64 at removed (row_in es) c s) → undone_in es' ≡ record { entries = cleared u.entries at (λ _. true); rows = finite.retain_keys u.rows (λ p. not (p.set == at)) }
+module _ (es es' : RowMap) (u : Undone) (e : undone_in es ≡ u) (at : ℕ) where
+  pub remove_set_value : ((c s : ℕ) → row_in es' c s ≡ each_at at removed (row_in es) c s) → undone_in es' ≡ record { entries = cleared u.entries at (λ _. true); rows = finite.retain_keys u.rows (λ p. not (p.set == at)) }
   remove_set_value is =
       let lens : lens_in es' ≡ finite.retain_keys (lens_in es) (λ p. not (p.set == at)) =
       same_lens (lens_in es') (finite.retain_keys (lens_in es) (λ p. not (p.set == at))) (λ p.
       get_lens es' p.client p.set
-      ∙ ap size (each_row es es' at removed refl of is p.client p.set)
+      ∙ ap size (is p.client p.set)
       ∙ gone_len (p.set == at) (row_in es p.client p.set)
       ∙ ap (λ (o : Option ℕ). cond (not (p.set == at)) o None) (sym (get_lens es p.client p.set))
       ∙ sym (finite.get-retain_keys (lens_in es) (λ p. not (p.set == at)) p (λ x tied. ap (λ (q : Place). not (q.set == at)) (sym (place_same p x tied))))) in
       λ i. record {
-        entries = (entries_after es es' at removed refl of is (λ _. true) clears_removed ∙ ap (λ (v : Undone). cleared v.entries at (λ _. true)) e) i;
+        entries = (entries_after es es' at removed is (λ _. true) clears_removed ∙ ap (λ (v : Undone). cleared v.entries at (λ _. true)) e) i;
         rows = (lens ∙ ap (λ (v : Undone). finite.retain_keys v.rows (λ p. not (p.set == at))) e) i;
       }

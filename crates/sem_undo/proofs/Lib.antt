@@ -1,7 +1,9 @@
 pub mod Changes
+pub mod Each
 pub mod Clears
 pub mod Entries
 pub mod Keys
+pub mod Noted
 pub mod Places
 pub mod Takes
 pub mod Values

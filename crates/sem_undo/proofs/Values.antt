@@ -4,13 +4,13 @@ use Rattle.std.specs.Prelude.{ℤ, pos, Option, Some, None, unwrap_or, if◌then
 use Rattle.std.specs.Ordering.{int_eq}
 use Rattle.std.specs.FinMap as finite
 use Rattle.std.specs.Global.{Vec}
-use Rattle.std.proofs.lemmas.Bool.{cases_Bool, cases_lt}
+use Rattle.std.proofs.lemmas.Bool.{cases_Bool}
 use Rattle.std.proofs.lemmas.Int.{ints}
 use Rattle.std.proofs.lemmas.List.{length-replicate}
 use Rattle.client_map.specs.Keys.{key as row_key, key_cmp}
 use Rattle.client_map.proofs.Orders.{get_put, get_put_apart}
 use Rattle.sem_undo.specs.Entries.{Place, adjusted_cmp, place_cmp, Undone, adj_of, nothing_undone, row_len, with_adj}
-use Rattle.sem_undo.specs.Rows.{AreOfClients, RowMap, items_of, adj_in, entries_in, grown, is_here, lens_in, row_in, undone_in}
+use Rattle.sem_undo.specs.Rows.{RowMap, items_of, adj_in, entries_in, grown, is_here, lens_in, row_in, undone_in}
 use Rattle.sem_undo.proofs.Changes.{entries_are, entries_written, lens_are, lens_place, lens_written, same_lens, size}
 use Rattle.sem_undo.proofs.Entries.{entry_of, get_entries, get_lens, key, place, same_entries}
 use Rattle.sem_undo.proofs.Keys.{place_same, place_total}
@@ -48,13 +48,6 @@ grown_adj row nsems k = grown_adj_by row (nsems - length row) k
 grown_len : (row : List ℤ) (nsems : ℕ) → length row ≤ nsems → length (grown nsems row) ≡ nsems
 grown_len row nsems within =
     length-append row (replicate (nsems - length row) (pos 0)) ∙ ap (λ n. length row + n) (length-replicate (nsems - length row) (pos 0)) ∙ (let e : length row + (nsems - length row) ≡ nsems = omega arith in e)
-
-pub few_of : (es : RowMap) (client at num : ℕ) → AreOfClients es → num < length (unwrap_or (row_in es client at) []) → client < 64
-few_of es client at num of h =
-    ⊎_elim
-    (λ (l : client < 64). l)
-    (λ (g : 64 ≤ client). absurd (let e : length (unwrap_or (row_in es client at) []) ≡ 0 = ap (λ (o : Option (List ℤ)). length (unwrap_or o [])) (of client at g) in omega arith))
-    (cases_lt client 64)
 
 module _ (es : RowMap) (u : Undone) (e : undone_in es ≡ u) (client at : ℕ) where
   pub row_lens : length (unwrap_or (row_in es client at) []) ≡ row_len u client at

@@ -1,7 +1,7 @@
 -- The rows that entries are kept in.
-use Rattle.std.specs.Prelude.{◌≡◌, ◌≤◌, ◌==◌, ◌&&◌, nat_lt, ℕ, ◌+◌, ◌-◌, ℤ, pos, Bool, if◌then◌else◌}
+use Rattle.std.specs.Prelude.{◌≡◌, ◌==◌, nat_lt, ℕ, ◌+◌, ◌-◌, ℤ, pos, Bool, true, if◌then◌else◌}
 use Rattle.std.specs.Prelude.{List, [], ◌∷◌, ◌++◌, length, replicate, slice_set, slice_index_or}
-use Rattle.std.specs.Prelude.{Option, None, option_map, unwrap_or}
+use Rattle.std.specs.Prelude.{Option, None, Some, option_map, unwrap_or}
 use Rattle.std.specs.FinMap as finite
 use Rattle.std.specs.Global.{Vec}
 use Rattle.std.specs.Ordering.{eq_by_cmp}
@@ -64,14 +64,18 @@ lens_in m = lens_of (finite.entries m)
 abbrev pub undone_in : RowMap → Undone
 undone_in m = record { entries = entries_in m; rows = lens_in m }
 
--- there are at most 64 clients
-abbrev pub AreOfClients : RowMap → Type 0
-AreOfClients m = (c s : ℕ) → 64 ≤ c → row_in m c s ≡ None
+-- a client with a row at a set is noted there
+abbrev pub IsNoted : Rows → Type 0
+IsNoted u = (c s : ℕ) → finite.get u.clients (key s c) ≡ None → row_of u c s ≡ None
 
--- what the rows at a set become, those of the clients below a number; where no row is there, there is none afterwards
-abbrev pub with_each : ℕ → ℕ → (Option (List ℤ) → Option (List ℤ)) → (ℕ → ℕ → Option (List ℤ)) → ℕ → ℕ
-    → Option (List ℤ)
-with_each clients set change rows c s = if nat_lt c clients && s == set then change (rows c s) else rows c s
+-- what the rows at a set become; where no row is there, there is none afterwards
+abbrev pub each_at : ℕ → (Option (List ℤ) → Option (List ℤ)) → (ℕ → ℕ → Option (List ℤ)) → ℕ → ℕ → Option (List ℤ)
+each_at set change rows c s = if s == set then change (rows c s) else rows c s
+
+-- a client comes before this one; each comes before none
+abbrev pub is_before : Option ℕ → ℕ → Bool
+is_before None c = true
+is_before (Some n) c = nat_lt c n
 
 abbrev pub zeroed_at : ℕ → Option (List ℤ) → Option (List ℤ)
 zeroed_at num row = option_map (λ r. slice_set r num (pos 0)) row

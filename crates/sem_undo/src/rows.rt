@@ -1,30 +1,32 @@
 //! Rows of semadj by client and set.
 
 ghost use Rattle.std.specs.FinMap as finite;
-ghost use Rattle.std.specs.Prelude.{◌≡◌, ◌<◌, ◌≤◌, ℕ, length, pos, replicate};
+ghost use Rattle.std.specs.Prelude.{◌≡◌, ◌<◌, ◌≤◌, ◌^◌, ℕ, length, pos, replicate, true};
 ghost use Rattle.std.specs.Prelude.{if◌then◌else◌, slice_set, IfNone, IfOk, IfSome, OnErr, OnOk};
-ghost use Rattle.sem_undo.specs.Rows.{grown, is_here, removed, row_at, row_of, with_each, zeroed, zeroed_at};
+ghost use Rattle.client_map.specs.Keys.{key};
+ghost use Rattle.sem_undo.specs.Rows.{each_at, grown, is_before, is_here, removed, row_at, row_of, zeroed, zeroed_at, IsNoted};
 
 use client_map::ClientMap;
 use ipc_call::Memory;
 use std::alloc::Global;
 
-/// The most clients.
-const CLIENTS: u32 = 64;
-
 /// The rows by client and set, each of the semadj by semaphore number.
 #[derive(Debug, Drop)]
 pub(crate) struct Rows {
     rows: ClientMap<Vec<i32>>,
+    /// Each set's clients that have a row there, so that a set is cleared without a look at all clients.
+    clients: ClientMap<()>,
     alloc: Global,
 }
 
 impl Rows {
     pub(crate) fn new(alloc: Global) -> Rows
-        ensures { result.rows ≡ finite.empty }
+        ensures rows { result.rows ≡ finite.empty }
+        ensures noted { IsNoted result }
     {
         Rows {
             rows: ClientMap::new(alloc),
+            clients: ClientMap::new(alloc),
             alloc,
         }
     }
@@ -41,7 +43,9 @@ impl Rows {
 
     /// Makes the row of a client at a set as long as this, where it is no longer; the semadj that are new are 0.
     pub(crate) fn grow(&mut self, client: u32, set: u32, nsems: usize) -> Result<(), Memory>
-        requires { length (row_at self.old client set) ≤ nsems }
+        requires noted { IsNoted self.old }
+        requires longer { length (row_at self.old client set) ≤ nsems }
+        ensures noted { IsNoted self.new }
         ensures ok { OnOk result ((c s : ℕ) → row_of self.new c s
             ≡ (if is_here client set c s
             then Some (grown nsems (row_at self.old client set))
@@ -49,14 +53,25 @@ impl Rows {
         ensures err { OnErr result (self.new.rows ≡ self.old.rows) }
     {
         let row = grown_row(self.alloc, self.row(client, set), nsems)?;
-        self.rows.insert(client, set, row)?;
-        Ok(())
+        let is_new = self.rows.get(client, set).is_none();
+        self.clients.insert(set, client, ())?;
+        match self.rows.insert(client, set, row) {
+            Ok(()) => Ok(()),
+            Err(memory) => {
+                if is_new {
+                    self.clients.remove(set, client);
+                }
+                Err(memory.into())
+            }
+        }
     }
 
     /// Writes a semadj into a row that is there.
     pub(crate) fn write(&mut self, client: u32, set: u32, num: usize, adj: i32)
-        requires { num < length (row_at self.old client set) }
-        ensures { (c s : ℕ) → row_of self.new c s
+        requires noted { IsNoted self.old }
+        requires within { num < length (row_at self.old client set) }
+        ensures noted { IsNoted self.new }
+        ensures rows { (c s : ℕ) → row_of self.new c s
             ≡ (if is_here client set c s
             then Some (slice_set (row_at self.old client set) num adj)
             else row_of self.old c s) }
@@ -67,37 +82,79 @@ impl Rows {
 
     /// Sets a semadj of each client at a set to 0.
     pub(crate) fn clear(&mut self, set: u32, num: usize)
-        ensures { (c s : ℕ) → row_of self.new c s
-            ≡ with_each 64 set (zeroed_at num) (row_of self.old) c s }
+        requires noted { IsNoted self.old }
+        ensures noted { IsNoted self.new }
+        ensures rows { (c s : ℕ) → row_of self.new c s ≡ each_at set (zeroed_at num) (row_of self.old) c s }
     {
-        for client in 0..CLIENTS {
-            if num < self.row(client, set).len() {
-                self.write(client, set, num, 0);
-            }
+        let mut next = self.first_at(set);
+        while let Some(client) = next {
+            self.zero_at(client, set, num);
+            next = self.next_at(set, client);
         }
     }
 
     /// Sets each semadj at a set to 0.
     pub(crate) fn clear_set(&mut self, set: u32)
-        ensures { (c s : ℕ) → row_of self.new c s ≡ with_each 64 set zeroed (row_of self.old) c s }
+        requires noted { IsNoted self.old }
+        ensures noted { IsNoted self.new }
+        ensures rows { (c s : ℕ) → row_of self.new c s ≡ each_at set zeroed (row_of self.old) c s }
     {
-        for client in 0..CLIENTS {
+        let mut next = self.first_at(set);
+        while let Some(client) = next {
             self.zero(client, set);
+            next = self.next_at(set, client);
         }
     }
 
     /// Takes out each row at a set.
     pub(crate) fn remove_set(&mut self, set: u32)
-        ensures { (c s : ℕ) → row_of self.new c s ≡ with_each 64 set removed (row_of self.old) c s }
+        requires noted { IsNoted self.old }
+        ensures noted { IsNoted self.new }
+        ensures rows { (c s : ℕ) → row_of self.new c s ≡ each_at set removed (row_of self.old) c s }
     {
-        for client in 0..CLIENTS {
+        let mut next = self.first_at(set);
+        while let Some(client) = next {
             self.remove(client, set);
+            next = self.next_at(set, client);
+        }
+    }
+
+    /// The least client that may have a row at a set. None before it has one.
+    fn first_at(&self, set: u32) -> Option<u32>
+        ensures none { (c : ℕ) → is_before result c ≡ true → finite.get self.now.clients (key set c) ≡ None }
+        ensures fits { IfSome result (λ client. client < 2 ^ 32) }
+    {
+        self.clients.first(set)
+    }
+
+    /// The least client above this one that may have a row at a set. None between them has one.
+    fn next_at(&self, set: u32, client: u32) -> Option<u32>
+        ensures none { (c : ℕ) → client < c → is_before result c ≡ true → finite.get self.now.clients (key set c) ≡ None }
+        ensures above { IfSome result (λ next. client < next) }
+        ensures fits { IfSome result (λ next. next < 2 ^ 32) }
+    {
+        self.clients.next(set, client)
+    }
+
+    /// Sets a semadj of a row to 0, where there is one.
+    fn zero_at(&mut self, client: u32, set: u32, num: usize)
+        requires noted { IsNoted self.old }
+        ensures noted { IsNoted self.new }
+        ensures rows { (c s : ℕ) → row_of self.new c s
+            ≡ (if is_here client set c s
+            then zeroed_at num (row_of self.old client set)
+            else row_of self.old c s) }
+    {
+        if let Some(row) = self.rows.get_mut(client, set) {
+            zero_one(row, num);
         }
     }
 
     /// Sets each semadj of a row to 0, where there is one.
     fn zero(&mut self, client: u32, set: u32)
-        ensures { (c s : ℕ) → row_of self.new c s
+        requires noted { IsNoted self.old }
+        ensures noted { IsNoted self.new }
+        ensures rows { (c s : ℕ) → row_of self.new c s
             ≡ (if is_here client set c s
             then zeroed (row_of self.old client set)
             else row_of self.old c s) }
@@ -109,6 +166,8 @@ impl Rows {
 
     /// Takes out the row of a client at the least set where it has one.
     pub(crate) fn take_first(&mut self, client: u32) -> Option<(u32, Vec<i32>)>
+        requires noted { IsNoted self.old }
+        ensures noted { IsNoted self.new }
         ensures none { IfNone result ((s : ℕ) → row_of self.old client s ≡ None) }
         ensures same { IfNone result (self.new ≡ self.old) }
         ensures row { IfSome result (λ r. row_of self.old client r.0 ≡ Some r.1.items) }
@@ -120,6 +179,7 @@ impl Rows {
             None => None,
             Some(set) => {
                 let row = self.rows.remove(client, set).unwrap();
+                self.clients.remove(set, client);
                 Some((set, row))
             }
         }
@@ -127,10 +187,13 @@ impl Rows {
 
     /// Takes out the row of a client at a set.
     pub(crate) fn remove(&mut self, client: u32, set: u32)
-        ensures { (c s : ℕ) → row_of self.new c s
+        requires noted { IsNoted self.old }
+        ensures noted { IsNoted self.new }
+        ensures rows { (c s : ℕ) → row_of self.new c s
             ≡ (if is_here client set c s then None else row_of self.old c s) }
     {
         self.rows.remove(client, set);
+        self.clients.remove(set, client);
     }
 }
 
@@ -143,6 +206,15 @@ fn grown_row(alloc: Global, row: &[i32], nsems: usize) -> Result<Vec<i32>, Memor
     longer.extend_from_slice(row)?;
     longer.resize(nsems, 0)?;
     Ok(longer)
+}
+
+/// Sets a semadj to 0, where the row is that long.
+fn zero_one(row: &mut Vec<i32>, num: usize)
+    ensures { row.new.items ≡ slice_set row.old.items num (pos 0) }
+{
+    if num < row.len() {
+        row[num] = 0;
+    }
 }
 
 /// Sets each semadj to 0.

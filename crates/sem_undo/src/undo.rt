@@ -14,7 +14,6 @@ use std::marker::Model;
 
 /// What exit undoes (semop(2), SEM_UNDO). Contracts see the entries by client, set and semaphore number, each a semadj
 /// that isn't 0; and for which clients at which sets there is a row, memory for the entries to come, with its length.
-/// A client is a number below 64.
 #[derive(Debug, Drop)]
 pub struct Undo {
     rows: Rows,
@@ -28,11 +27,11 @@ impl Model for Undo {
 
     ghost coded = { undone_code };
 
-    ghost use Rattle.sem_undo.specs.Rows.{AreOfClients, undone_in};
+    ghost use Rattle.sem_undo.specs.Rows.{undone_in, IsNoted};
 
     ghost view = { λ u. undone_in u.rows.rows };
 
-    ghost invariant = { λ u. AreOfClients u.rows.rows };
+    ghost invariant = { λ u. IsNoted u.rows };
 }
 
 impl Undo {
@@ -66,7 +65,6 @@ impl Undo {
     /// Makes a row for the semaphores of a set, where the client has none that is as long there. The error comes only
     /// where an allocation fails.
     pub fn ensure_row(&mut self, client: u32, set: u32, nsems: usize) -> Result<(), Memory>
-        requires { client < 64 }
         ensures ok { OnOk result (self.new ≡ (if nat_lt (row_len self.old client set) nsems
             then record self.old {
               rows = finite.insert self.old.rows (record { client = client; set = set }) nsems;

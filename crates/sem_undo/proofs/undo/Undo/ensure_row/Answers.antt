@@ -7,8 +7,8 @@ use Rattle.sem_undo.proofs.Entries.{place}
 use Rattle.sem_undo.proofs.Values.{grown_value, row_lens}
 use Rattle.sem_undo.proofs.undo.Undo.ensure_row.Goals as goal
 
-pub grow-requires : goal.grow-requires
-grow-requires c =
+pub grow-requires-clause-longer : goal.grow-requires-clause-longer
+grow-requires-clause-longer c =
     let lens = row_lens c.self.inside.rows.rows c.args.self.now c.self.view_is c.args.client c.args.set in
     omega (arith, c.if-row-nsems.true, c.row.ensures.len, lens)
 
