@@ -226,8 +226,21 @@ fn reserve(
     ensures fits { OnOk result (length journal.new.rows + most + 2 < 2 ^ 64) }
 {
     journal.reserve(most + 2)?;
-    ended.reserve(most + 1)?;
-    others.reserve(most)
+    make_room(ended, most + 1)?;
+    make_room(others, most)
+}
+
+/// Makes room for so many in an empty list, of which all its capacity is room. Memory comes where a growth was refused.
+#[inline(always)]
+fn make_room<T>(list: &mut Vec<T>, count: usize) -> Result<(), Memory>
+    requires empty { list.old.items ≡ [] }
+    ensures empty { list.new.items ≡ [] }
+    ensures room { OnOk result (count ≤ vec_capacity list.new) }
+{
+    if count <= list.capacity() {
+        return Ok(());
+    }
+    list.reserve(count)
 }
 
 /// Enters how an event's own call ended, and gives the reply. A call that waits has none.

@@ -2,6 +2,7 @@
 use Rattle.std.proofs.Common.{◌≡◌, ℕ, true, false, ◌+◌, ◌-◌, ◌<◌, List, [], ◌∷◌, sym, ap, ◌∙◌, subst}
 use Rattle.std.proofs.lemmas.Bool.{false≢true}
 use Rattle.atomic_table.specs.Seated.{TableId}
+use Rattle.atomic_table.specs.Table.{Me}
 use Rattle.atomic_table.specs.declared.shared.Seat.{Seat}
 use Rattle.pub_rule.specs.declared.walk.Walk.{Walk}
 use Rattle.pub_rule.specs.declared.walk.View.{View}
@@ -37,6 +38,10 @@ module _ {C R S : Type 0} where
   -- a slot in front that is known to be empty
   pub empty_there : (r : ℕ) (hands others more : List (ℕ × Slot C R S)) (x : Slot C R S) → hands ≡ (r, slots.Empty) ∷ others → hands ≡ (r, x) ∷ more → x ≡ slots.Empty
   empty_there r hands others more x empty was = ap slot_in (sym was ∙ empty)
+
+  -- what was put in front, and is known to be empty
+  pub empty_put : {V : Type 0} (now : Me (Slot C R S) V) (v : V) (r : ℕ) (others : List (ℕ × Slot C R S)) (x : Slot C R S) → x ≡ slots.Empty → now ≡ (v, (r, x) ∷ others) → now ≡ (v, (r, slots.Empty) ∷ others)
+  empty_put now v r others x empty put = put ∙ ap (λ (z : Slot C R S). (v, (r, z) ∷ others)) empty
 
   -- the call in it, else d
   abbrev pub call_of : C → Slot C R S → C

@@ -4,7 +4,7 @@ ghost use Rattle.pub_list.specs.Clients.{view, work, BelongsTo, IsSame};
 ghost use Rattle.pub_list.specs.Asking.{IsIdle, IsPosted, IsCollected};
 
 use crate::joined::Joined;
-use crate::list::{List, drop_empty};
+use crate::list::{List, drop_empty, empty};
 use crate::records::{WordState, state_of};
 use pub_rule::{ANSWERED, CollectReply, FREE, POSTED, PostCall, Served, Slot, state_word};
 
@@ -45,7 +45,7 @@ impl<S: Served> Joined<S> {
         if found != ANSWERED {
             return Err(state_of(found));
         }
-        match table.exchange(&mut self.seat, self.client as usize, Slot::Empty) {
+        match table.exchange(&mut self.seat, self.client as usize, empty::<S>()) {
             Slot::Reply(reply) => Ok(Answer::Reply(reply)),
             Slot::Memory => Ok(Answer::Memory),
             _ => unreachable!(),

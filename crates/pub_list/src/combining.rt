@@ -23,7 +23,7 @@ ghost use Rattle.pub_list.specs.Combining.{
 
 use crate::asking::Answer;
 use crate::joined::Joined;
-use crate::list::{List, Record, drop_empty};
+use crate::list::{List, Record, drop_empty, empty};
 use crate::records::WordState;
 use pub_rule::{
     ANSWERED, AnswerCall, PARKED, POSTED, ParkCall, PeekAt, PeekLock, RefuseCall, ReleaseState,
@@ -86,7 +86,7 @@ impl<S: Served> Joined<S> {
         if found != 0 {
             return Err((found - 1) as u32);
         }
-        match table.exchange(&mut self.seat, list.clients as usize, Slot::Empty) {
+        match table.exchange(&mut self.seat, list.clients as usize, empty::<S>()) {
             Slot::State(state) => Ok(state),
             _ => unreachable!(),
         }
@@ -141,7 +141,7 @@ impl<S: Served> Joined<S> {
         if found != POSTED {
             return Took::Not;
         }
-        match table.exchange(&mut self.seat, client as usize, Slot::Empty) {
+        match table.exchange(&mut self.seat, client as usize, empty::<S>()) {
             Slot::Call(call) => Took::FromPosted(call),
             _ => unreachable!(),
         }

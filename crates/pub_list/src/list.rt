@@ -42,6 +42,15 @@ impl<S: Served> List<S> {
     }
 }
 
+// An empty slot. It is made by a function of its own, so that its bytes are cleared in their place, behind the atomic step that
+// comes before: a function that makes both clears them ahead of the step, and copies them then.
+#[inline(always)]
+pub(crate) fn empty<S: Served>() -> Record<S>
+    ensures { result ≡ slots.Empty }
+{
+    Slot::Empty
+}
+
 // Drops what an empty slot had, which is nothing. That it is known to be empty spares its reading.
 pub(crate) fn drop_empty<S: Served>(before: Record<S>)
     requires { before ≡ slots.Empty }

@@ -1,6 +1,6 @@
 use Rattle.std.proofs.Common.{◌∙◌, ap, arith}
 use Rattle.pub_rule.proofs.Numbers.{state_within}
-use Rattle.pub_list.proofs.Working.{is_client}
+use Rattle.pub_list.proofs.Working.{empty_put, is_client}
 use Rattle.pub_list.proofs.Posting.{reply_collects, still_asks, holds_one, collected_joined}
 use Rattle.pub_list.proofs.joined.Joined.collect.Goals as goal
 
@@ -20,5 +20,5 @@ exchange-requires g c = let self = c.args.self.now in let did = c.compare_exchan
 
 pub invariant_of-self-2 : goal.invariant_of-self-2
 invariant_of-self-2 g c = let self = c.args.self.now in let did = c.compare_exchange-found.ensures in let put = c.exchange.ensures in record {
-  own = collected_joined g.S.Served self.client c.compare_exchange-found.result self.seat c.compare_exchange-found.new.seat self.own c.requires.unheld did.2 c.if-found-ne-ANSWERED.false c.exchange.new.seat _ put.2 put.3 (put.0 ∙ did.0);
+  own = collected_joined g.S.Served self.client c.compare_exchange-found.result self.seat c.compare_exchange-found.new.seat self.own c.requires.unheld did.2 c.if-found-ne-ANSWERED.false c.exchange.new.seat _ put.2 (empty_put _ _ _ _ _ c.empty.ensures put.3) (put.0 ∙ did.0);
 }
