@@ -1,4 +1,4 @@
-# The program ipcsh: its start, a dialogue, its faults, refused memory and a full table.
+# The program ipcsh: its start, a dialogue, its faults, a full table and large segments.
 
 check_program() {
     attempt ipcsh built ipcsh_cli
@@ -116,7 +116,12 @@ reads_no_byte_more() {
     same 'its output' /dev/null "$scratch/out"
 }
 
-check_table() { with_program attempt 'full table' fills_a_table; }
+check_table() { with_program table_checks; }
+
+table_checks() {
+    attempt 'full table' fills_a_table
+    attempt 'segments of 1 GiB' serves_large_segments
+}
 
 # A table of 32768 slots is filled; then slots 32767 and 5 are freed, and taken again from the lowest on.
 table_script() {
@@ -136,5 +141,27 @@ fills_a_table() {
     why='it fails'
     table_script | ./ipcsh >"$scratch/out" || return 1
     table_rows >"$scratch/wanted"
+    same 'its output' "$scratch/wanted" "$scratch/out"
+}
+
+# In 512 MiB, 100 segments of 1 GiB each: nobody has written to them, and they take no memory. A read is of zeros. The first write
+# to one is refused its memory, but not one of no bytes; and nothing has changed then.
+large_script() {
+    printf 'limit shmmax 1073741824\nclient a 100 10\n'
+    yes 'a shmget 0 1073741824 0600' | head -n 100
+    printf 'a %s\n' 'shmat 99 0' 'shmwrite 0 1073741823 t:a' 'shmwrite 0 1073741824 t:' 'shmread 0 1073741822 2' \
+        'shmdt 0' 'rmid m 99' 'shmget 0 1073741824 0600'
+}
+
+large_rows() {
+    seq 1 100 | awk '{ print $1 ".0 a id " $1 - 1 }'
+    printf '101.0 a attached 0\n- a error 12 ENOMEM memory\n102.0 a ok\n103.0 a bytes x:0000\n'
+    printf '104.0 a ok\n105.0 a ok\n106.0 a id 32867\n'
+}
+
+serves_large_segments() {
+    why='it fails'
+    large_script | (ulimit -v 524288 && exec "$(the_program)") >"$scratch/out" || return 1
+    large_rows >"$scratch/wanted"
     same 'its output' "$scratch/wanted" "$scratch/out"
 }

@@ -35,10 +35,8 @@ impl Namespace {
             Call::ShmDt { att } => Ok(self.segments.shmdt(&who, *att)),
             Call::ShmRead { att, offset, len } => self.segments.shmread(&who, *att, *offset, *len),
             Call::ShmWrite { att, offset, bytes } => {
-                Ok(
-                    self.segments
-                        .shmwrite(&who, *att, *offset, bytes.as_slice()),
-                )
+                self.segments
+                    .shmwrite(&who, *att, *offset, bytes.as_slice())
             }
             _ => unreachable!(),
         }

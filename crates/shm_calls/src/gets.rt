@@ -63,7 +63,7 @@ impl Segments {
             return Ok(Err(Rule::NoSlot));
         }
         let Get { key, flags } = asked.get;
-        let segment = Segment::new(self.alloc, who, asked.size)?;
+        let segment = Segment::new(who, asked.size);
         let id = self.segments.insert(new_object(who, key, flags, segment))?;
         Ok(Ok(Answer::Id(id)))
     }

@@ -1,13 +1,12 @@
 //! What a segment holds.
 
-ghost use Rattle.std.specs.Prelude.{◌≡◌, IfOk};
+ghost use Rattle.std.specs.Prelude.{◌≡◌};
 ghost use Rattle.ipc_model.specs.Controls.{status_of_segment};
 ghost use Rattle.ipc_model.specs.Gets.{new_segment};
 
-use ipc_call::{Memory, SegmentStatus, Status};
+use ipc_call::{SegmentStatus, Status};
 use ipc_objects::Object;
 use object_calls::Caller;
-use std::alloc::Global;
 use std::marker::Model;
 
 /// The contents of a segment: its shmid_ds (shmctl(2)) without permissions and shm_ctime, and its bytes.
@@ -41,17 +40,17 @@ impl Model for Segment {
 }
 
 impl Segment {
-    /// A segment of `size` bytes that are 0, which the caller creates. The error comes only where an allocation fails.
-    pub fn new(alloc: Global, who: &Caller, size: u64) -> Result<Segment, Memory>
-        ensures { IfOk result (λ segment. segment ≡ new_segment who.entry.now.client size) }
+    /// A segment of `size` bytes that are 0, which the caller creates. It takes no memory for them.
+    pub fn new(who: &Caller, size: u64) -> Segment
+        ensures { result ≡ new_segment who.entry.now.client size }
     {
-        Ok(Segment {
-            memory: shm_seg::Segment::new(alloc, size)?,
+        Segment {
+            memory: shm_seg::Segment::new(size),
             creator: who.pid(),
             last: 0,
             attach_time: 0,
             detach_time: 0,
-        })
+        }
     }
 }
 

@@ -1,4 +1,5 @@
 pub mod Attachments
+pub mod Bytes
 pub mod Codes
 pub mod Faults
 pub mod Inside

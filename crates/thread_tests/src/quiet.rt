@@ -43,11 +43,22 @@ fn gets(alloc: Global, count: usize) -> Result<Vec<Call>, AllocError> {
     Ok(calls)
 }
 
-/// What is done before the pass, the last first: a queue with a message, a set and a segment are made.
+/// A client writes to what it has attached.
+fn write(alloc: Global) -> Result<Call, AllocError> {
+    Ok(Call::ShmWrite {
+        att: 0,
+        offset: 3,
+        bytes: text(alloc)?,
+    })
+}
+
+/// What is done before the pass, the last first: a queue with a message, a set and a segment are made. The segment is written
+/// to, since the first write to it takes its memory.
 fn made_before(alloc: Global) -> Result<Vec<Call>, AllocError> {
     let (key, flags) = (5, IPC_CREAT | 0o600);
-    let mut calls = gets(alloc, 30)?;
+    let mut calls = gets(alloc, 29)?;
     calls.push(send(alloc, 1)?)?;
+    calls.push(write(alloc)?)?;
     calls.push(attach())?;
     calls.push(Call::ShmGet {
         key,
@@ -89,14 +100,9 @@ fn before_exit(alloc: Global) -> Result<Vec<Call>, AllocError> {
 /// list of those that an event ended is handed out, and the next event would need a new one. The removal ends two calls that wait.
 fn quiet_calls(alloc: Global) -> Result<Vec<Call>, AllocError> {
     let (id, kind) = (0, Kind::Queue);
-    let written = Call::ShmWrite {
-        att: 0,
-        offset: 3,
-        bytes: text(alloc)?,
-    };
     let values = Items::new(vec![in alloc; 1, 2]?);
     let mut calls = Vec::new(alloc);
-    calls.push(written)?;
+    calls.push(write(alloc)?)?;
     calls.push(Call::ShmDt { att: 0 })?;
     calls.push(Call::Exit)?;
     calls.push(Call::Interrupt { pid: 1 })?;

@@ -97,7 +97,7 @@ returns-in-ShmWrite-clause-outcome c =
     let b = (goal.at.returns-in-ShmWrite-clause-outcome c).After-caller_of-who in
     let n = c.in-ShmWrite in
     let bytes = c.as_slice.result.now in
-    sym (outcome b (ShmWrite n.att n.offset bytes) (n.is ∙ ap (λ (bs : List ℕ). ShmWrite n.att n.offset bs) (sym c.as_slice.ensures)) (λ t w. write_bytes t.shared w n.att n.offset bytes) (λ t. refl)) ∙ c.shmwrite.ensures.outcome
+    told b (ShmWrite n.att n.offset bytes) (n.is ∙ ap (λ (bs : List ℕ). ShmWrite n.att n.offset bs) (sym c.as_slice.ensures)) (λ t w. write_bytes t.shared w n.att n.offset bytes) (λ t. refl) c.shmwrite.result c.shmwrite.ensures.outcome
 
 pub returns-in-ShmWrite-clause-state : goal.returns-in-ShmWrite-clause-state
 unfolding part_plan
@@ -105,4 +105,4 @@ returns-in-ShmWrite-clause-state c =
     let b = (goal.at.returns-in-ShmWrite-clause-state c).After-caller_of-who in
     let n = c.in-ShmWrite in
     let bytes = c.as_slice.result.now in
-    left b (ShmWrite n.att n.offset bytes) (n.is ∙ ap (λ (bs : List ℕ). ShmWrite n.att n.offset bs) (sym c.as_slice.ensures)) (λ t w. write_bytes t.shared w n.att n.offset bytes) (λ t. refl) c.shmwrite.new.self c.shmwrite.ensures.shared
+    on_ok_weaker c.shmwrite.result (λ so. left b (ShmWrite n.att n.offset bytes) (n.is ∙ ap (λ (bs : List ℕ). ShmWrite n.att n.offset bs) (sym c.as_slice.ensures)) (λ t w. write_bytes t.shared w n.att n.offset bytes) (λ t. refl) c.shmwrite.new.self so) c.shmwrite.ensures.shared
