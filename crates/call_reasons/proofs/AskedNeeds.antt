@@ -19,7 +19,7 @@ use Rattle.ipc_ids.specs.Table.{Table, next_id}
 use Rattle.ipc_objects.specs.declared.object.Object.{Object}
 use Rattle.sem_set.specs.declared.set.Semaphore.{Semaphore}
 use Rattle.shm_seg.specs.Attachments.{free_number}
-use Rattle.ipc_model.specs.State.{Caller, Queue, Queues, Segment, SemSet, Sems, Shared, State, caller}
+use Rattle.ipc_model.specs.State.{Caller, Queue, Queues, Segment, SemSet, Sems, Shared, State, caller, pid_at}
 use Rattle.ipc_model.specs.Plan.{IsPlain, Plan, found, in_order, needs_in, on_part}
 use Rattle.ipc_model.specs.Controls.{perm_of, stat_object, status_of}
 use Rattle.ipc_model.specs.Decide.{get_waiting, is_negative, is_zero, needs, part_plan}
@@ -72,7 +72,7 @@ set-needs : (sets : Table (Object SemSet)) (who : Caller) (asked : Get) (nsems :
 set-needs sets who asked nsems None = made-needs sets _
 set-needs sets who asked nsems (Some there) = refl
 
-segment-needs : (segments : Table (Object Segment)) (who : Caller) (asked : Get) (limits : Limits) (size : ℕ) (at : Option (ℕ × Object Segment)) → ByKey kinds.Segment segments who asked (getting_segment limits who.client size) at
+segment-needs : (segments : Table (Object Segment)) (who : Caller) (asked : Get) (limits : Limits) (size : ℕ) (at : Option (ℕ × Object Segment)) → ByKey kinds.Segment segments who asked (getting_segment limits who.pid size) at
 segment-needs segments who asked limits size None = made-needs segments _
 segment-needs segments who asked limits size (Some there) = refl
 
@@ -124,7 +124,7 @@ module _ (s : State) (client : ℕ) where
   needed (ShmGet key size flags) =
       let asked : Get = record { key = key; flags = flags } in
       needs-on (λ shared. record s { shared = shared }) (get_segment s.limits s.shared (caller s client) asked size)
-      ∙ needs-on (λ segments. record s.shared { segments = segments }) (get s.shared.segments (caller s client) asked (getting_segment s.limits client size))
+      ∙ needs-on (λ segments. record s.shared { segments = segments }) (get s.shared.segments (caller s client) asked (getting_segment s.limits (pid_at s client) size))
       ∙ segment-needs s.shared.segments (caller s client) asked s.limits size (object_of_key s.shared.segments key)
   needed (ShmAt id flags) =
       needs-on (λ shared. record s { shared = shared }) (attach s.shared (caller s client) id flags)

@@ -13,7 +13,7 @@ use Rattle.ipc_call.specs.declared.rules.Rule.TheVariants.{NoSlot}
 use Rattle.ipc_ids.specs.Table.{IsSound, Table, WasUsed, next_id, with_object}
 use Rattle.ipc_ids.proofs.Sound.{IsFresh, IsSound-empty, WasUsed-there, fresh-unused, get-insert-same, next_id-fresh}
 use Rattle.ipc_objects.specs.declared.object.Object.{Object}
-use Rattle.ipc_model.specs.State.{Caller, Queues, Segment, SemSet, Sems, Shared, State, caller, creds_at, opening}
+use Rattle.ipc_model.specs.State.{Caller, Queues, Segment, SemSet, Sems, Shared, State, caller, creds_at, opening, pid_at}
 use Rattle.ipc_model.specs.Decision.{Decision, Granted, Outcome, outcome_of}
 use Rattle.ipc_model.specs.Plan.{found}
 use Rattle.ipc_model.specs.Plan as plans
@@ -80,7 +80,7 @@ Names-segment s client key size flags few absent =
     let who = caller s client in
     let t = s.shared.segments in
     let asked : Get = record { key = key; flags = flags } in
-    let getting = getting_segment s.limits client size in
+    let getting = getting_segment s.limits (pid_at s client) size in
     Ends-decision (creds_at s client) (λ answer new. IsNew t answer new.shared.segments) (plan s client (ShmGet key size flags))
     (Ends-on put (λ answer new. IsNew t answer new.shared.segments) (get_segment s.limits s.shared who asked size)
     (Ends-on put_segments (λ answer u. IsNew t answer u.segments) (get t who asked getting) (Ends-get t few who asked getting (object_of_key t key) absent)))

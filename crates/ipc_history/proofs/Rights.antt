@@ -29,7 +29,7 @@ use Rattle.ipc_objects.specs.Objects.{with_contents, with_perm}
 use Rattle.msg_queue.specs.declared.messages.Message.{Message}
 use Rattle.sem_set.specs.Trials.{committed}
 use Rattle.sem_undo.specs.Entries.{Entries, adj_of}
-use Rattle.ipc_model.specs.State.{Caller, Queue, SemSet, Sems, State, caller, creds_at, nobody, pid_of}
+use Rattle.ipc_model.specs.State.{Caller, Queue, SemSet, Sems, State, caller, creds_at, nobody, pid_at}
 use Rattle.ipc_model.specs.Decision.{Outcome, outcome_of, proceeds}
 use Rattle.ipc_model.specs.Decision as decisions
 use Rattle.ipc_model.specs.Plan.{Check, IsPlain, Needs, Passes, Plan, Proceeds, Refuse, Grant, checks_in, decision, in_order, needs_among, needs_in, unless, is_denial, on_part, ◌⨾◌}
@@ -153,8 +153,8 @@ module _ (s : State) (who : Caller) (id : ℕ) where
   operates : (ops : List SemOper) (set : Option (Object SemSet)) → AsksFor (wanted_by ops) (option_map (λ o. o.perm) set) (on_part (λ sems. record s { sems = sems }) (operate_found s.sems who id ops set))
   operates ops None = refl
   operates ops (Some set) =
-      let tried = in_order (trial_checks set.contents.semaphores (adj_of s.sems.undo who.client id) [] ops) (Grant Done (operated s.sems who id ops set.contents)) in
-      (_, refl, needs-on (λ sems. record s { sems = sems }) tried ∙ tried-needs set.contents.semaphores (adj_of s.sems.undo who.client id) [] ops (Grant Done (operated s.sems who id ops set.contents)))
+      let tried = in_order (trial_checks set.contents.semaphores (adj_of s.sems.undo who.process id) [] ops) (Grant Done (operated s.sems who id ops set.contents)) in
+      (_, refl, needs-on (λ sems. record s { sems = sems }) tried ∙ tried-needs set.contents.semaphores (adj_of s.sems.undo who.process id) [] ops (Grant Done (operated s.sems who id ops set.contents)))
 
 shape : (s : State) (client : ℕ) (call : Call) → can_wait call ≡ true → Shape s client call
 unfolding part_plan
@@ -298,7 +298,7 @@ module _ (s : State) where
       let keeps : Answer → Sems → Type 0 = λ answer sems. KeepsRights s answer (record s { sems = sems }) in
       Ends-on (λ sems. record s { sems = sems }) (KeepsRights s) (operate s.limits s.sems who id ops)
       (Ends-found keeps (set_at s.sems id) BadId tt _ (λ (set : Object SemSet) is.
-      Ends-order keeps (trial_checks set.contents.semaphores (adj_of s.sems.undo client id) [] ops) (Grant Done (operated s.sems who id ops set.contents)) (set-kept id (record { semaphores = committed ops (pid_of client) set.contents.semaphores; op_time = s.clock }) (lowered s.sems.undo client id ops))))
+      Ends-order keeps (trial_checks set.contents.semaphores (adj_of s.sems.undo client id) [] ops) (Grant Done (operated s.sems who id ops set.contents)) (set-kept id (record { semaphores = committed ops (pid_at s client) set.contents.semaphores; op_time = s.clock }) (lowered s.sems.undo client id ops))))
 
 kept-plan : (s : State) (client : ℕ) (call : Call) → can_wait call ≡ true → Ends (KeepsRights s) (plan s client call)
 unfolding part_plan
@@ -353,5 +353,5 @@ module _ (s new : State) (client : ℕ) (answer : Answer) (w : Waiting) (can : c
       (Ends-decision (creds_at s client) (KeepsLimits s) (plan s client call) (limits-plan s client kind id uid gid mode qbytes))) in
       waited-denied new w.client w.call rule can s (sym kept.0) (sym kept.1) waits (told-first (waits_on kind id w.call) (first_denial (creds_at new w.client) (needs new w.client w.call)) is)
   cancelled-lacks (IpcRmid kind id) granted is = absurd (told-plain (waits_on kind id w.call) Removed tt is)
-  cancelled-lacks (Interrupt pid) granted is = absurd (told-plain (pid == pid_of w.client) Interrupted tt is)
+  cancelled-lacks (Interrupt pid) granted is = absurd (told-plain (pid == pid_at s w.client) Interrupted tt is)
   cancelled-lacks call granted is = absurd (none-some rule is)

@@ -121,7 +121,7 @@ module _ (client : ℕ) (c : Credentials) where
     own-get limits who asked size =
         both-on (Alike (mask a.attached) (λ t q. is_hidden_in (hides_segment client c a.attached) t q) a.segments) IsAlike (λ segments. record a { segments = segments }) (λ segments. record blurred { segments = segments })
         (λ segments others alike. alike-shared segments others a.attached alike) c
-        (both-get blank_segment (hides_segment client c a.attached) a.segments segment-twice c (getting_segment limits who.client size)
+        (both-get blank_segment (hides_segment client c a.attached) a.segments segment-twice c (getting_segment limits who.pid size)
         (λ x. ap (λ n. Passes (nat_le size n) BadSize tt ∷ []) (length-replicate (length x.bytes) 0)) who asked)
 
     -- a segment in sight changes, and what is attached to another stays
@@ -148,7 +148,7 @@ module _ (client : ℕ) (c : Credentials) where
 
     module _ (creds : Credentials) (now : ℕ) where
       abbrev who : Caller
-      who = record { client = client; creds = creds; now = now }
+      who = record { client = client; process = client; pid = client + 1; creds = creds; now = now }
 
       -- shmat
       alike-attached : (id flags number : ℕ) (o : Object Segment) → finite.get a.segments.objects id ≡ Some o → hides_segment client c a.attached id o.perm ≡ false → free_number a.attached client ≡ Some number
@@ -241,15 +241,15 @@ module _ (client : ℕ) (c : Credentials) where
 
     -- of any caller: what only reads
     pub same-read : (d : Credentials) (who : Caller) (number offset len : ℕ) → Grants d IsSame (read_bytes a who number offset len)
-    same-read d who number offset len = grants-found IsSame d (behind a who.client number) NotAttached tt (λ there is.
+    same-read d who number offset len = grants-found IsSame d (behind a who.process number) NotAttached tt (λ there is.
         grants-check IsSame d (Passes (lies_within offset len there.1.contents.bytes) OutOfSegment tt) (grants-grant IsSame d (Bytes (part_of offset len there.1.contents.bytes)) a refl))
 
     -- of any caller, behind whose attachment a segment is hidden
-    module _ (d : Credentials) (who : Caller) (number : ℕ) (hidden : (of : Attachment) → attachment_at a.attached who.client number ≡ Some of → hid a of.segment ≡ true) where
-      same-written : (offset : ℕ) (new : List ℕ) (there : Attachment × Object Segment) → behind a who.client number ≡ Some there → lies_within offset (length new) there.1.contents.bytes ≡ true
+    module _ (d : Credentials) (who : Caller) (number : ℕ) (hidden : (of : Attachment) → attachment_at a.attached who.process number ≡ Some of → hid a of.segment ≡ true) where
+      same-written : (offset : ℕ) (new : List ℕ) (there : Attachment × Object Segment) → behind a who.process number ≡ Some there → lies_within offset (length new) there.1.contents.bytes ≡ true
           → IsSame (with_bytes a there.0.segment there.1.contents offset new)
       same-written offset new there is fits =
-          let parts = behind-parts a who.client number there.0 there.1 is in
+          let parts = behind-parts a who.process number there.0 there.1 is in
           let id = there.0.segment in
           let o = there.1 in
           let contents : Segment = record o.contents { bytes = overwritten offset new o.contents.bytes } in
@@ -258,14 +258,14 @@ module _ (client : ℕ) (c : Credentials) where
           (λ (y : Object Segment). record y { contents = contents }) refl (blank-same contents o.contents (written-long offset new o.contents.bytes fits)))
 
       pub same-write : (offset : ℕ) (new : List ℕ) → Grants d IsSame (write_bytes a who number offset new)
-      same-write offset new = grants-found IsSame d (behind a who.client number) NotAttached tt (λ there is.
+      same-write offset new = grants-found IsSame d (behind a who.process number) NotAttached tt (λ there is.
           grants-check IsSame d (Needs (Writable there.0.is_read_only)) (grants-passes IsSame d (lies_within offset (length new) there.1.contents.bytes) OutOfSegment tt (λ fits.
           grants-grant IsSame d Done _ (same-written offset new there is fits))))
 
   -- exit
   module _ (creds : Credentials) (now : ℕ) where
     abbrev caller : Caller
-    caller = record { client = client; creds = creds; now = now }
+    caller = record { client = client; process = client; pid = client + 1; creds = creds; now = now }
 
     alike-each : (n number : ℕ) (a : Shared) → IsAlike a (detached_from n number caller a) (detached_from n number caller (blur_shared client c a))
     unfolding detached_from

@@ -22,7 +22,7 @@ use Rattle.sem_set.specs.Exits.{undone_from}
 use Rattle.sem_set.specs.Sets.{is_value, set_to, zeroed}
 use Rattle.sem_set.specs.Trials.{are_in, committed, left_from}
 use Rattle.sem_undo.specs.Entries.{Adjusted, Entries, adj_of, cleared, without_client}
-use Rattle.ipc_model.specs.State.{Caller, SemSet, Sems, pid_of}
+use Rattle.ipc_model.specs.State.{Caller, SemSet, Sems}
 use Rattle.ipc_model.specs.Plan.{Needs, Passes, Grant, in_order}
 use Rattle.ipc_model.specs.Controls.{without_set}
 use Rattle.ipc_model.specs.Gets.{Get, get_set, getting_set}
@@ -154,7 +154,7 @@ module _ (client : ℕ) (c : Credentials) where
           both-check IsAlike c (Passes (is_value value) ValueRange tt)
           (own-found blank_set (hides_closed client c) sems.sets id IsAlike c BadId tt
           (λ o there isnt. both-check IsAlike c (Needs (Permission o.perm to_alter)) (both-check IsAlike c (Passes (nat_lt num (length o.contents.semaphores)) BadSem tt)
-          (both-grant IsAlike c Done _ _ (alike-values o there isnt who.now (slice_set o.contents.semaphores num (set_to (pid_of who.client) value)) (λ n. n == num)))))
+          (both-grant IsAlike c Done _ _ (alike-values o there isnt who.now (slice_set o.contents.semaphores num (set_to who.pid value)) (λ n. n == num)))))
           (λ o is. both-denied IsAlike c (Permission o.perm to_alter) (rule_of (class_of c o.perm)) (denied-permission c o.perm to_alter is refl)))
 
       pub own-set_all : (who : Caller) (values : List ℤ) → Both c IsAlike (set_all sems who id values) (set_all blurred who id values)
@@ -162,7 +162,7 @@ module _ (client : ℕ) (c : Credentials) where
           both-check IsAlike c (Passes (list_all is_value values) ValueRange tt)
           (own-found blank_set (hides_closed client c) sems.sets id IsAlike c BadId tt
           (λ o there isnt. both-check IsAlike c (Needs (Permission o.perm to_alter)) (both-check IsAlike c (Passes (length values == length o.contents.semaphores) BadSize tt)
-          (both-grant IsAlike c Done _ _ (alike-values o there isnt who.now (map (set_to (pid_of who.client)) values) (λ n. true)))))
+          (both-grant IsAlike c Done _ _ (alike-values o there isnt who.now (map (set_to who.pid) values) (λ n. true)))))
           (λ o is. both-denied IsAlike c (Permission o.perm to_alter) (rule_of (class_of c o.perm)) (denied-permission c o.perm to_alter is refl)))
 
       -- semop: of any caller, on a set in sight
@@ -170,16 +170,16 @@ module _ (client : ℕ) (c : Credentials) where
         exact-operated : (o : Object SemSet) → finite.get sems.sets.objects id ≡ Some o → is_closed c o.perm ≡ false → IsExact (operated sems who id ops o.contents) (operated blurred who id ops o.contents)
         exact-operated o there seen =
             let new = operated sems who id ops o.contents in
-            let sets = exact-sets o there seen (λ (y : Object SemSet). record y { contents = record { semaphores = committed ops (pid_of who.client) o.contents.semaphores; op_time = who.now } }) refl in
-            let undo = lowered-kept who.client id (hid sems) (hidden-at (hides_closed client c) sems.sets id (Some o) there ∙ seen) ops sems.undo (hid new) sets.1 in
+            let sets = exact-sets o there seen (λ (y : Object SemSet). record y { contents = record { semaphores = committed ops who.pid o.contents.semaphores; op_time = who.now } }) refl in
+            let undo = lowered-kept who.process id (hid sems) (hidden-at (hides_closed client c) sems.sets id (Some o) there ∙ seen) ops sems.undo (hid new) sets.1 in
             (λ i. record { sets = sets.0 i; undo = undo i }, sets.1)
 
         exact-found : (d : Credentials) (o : Object SemSet) → finite.get sems.sets.objects id ≡ Some o → is_closed c o.perm ≡ false → Both d IsExact (operate_found sems who id ops (Some o)) (operate_found blurred who id ops (Some o))
         exact-found d o there seen =
             both-check IsExact d (Needs (Permission o.perm (wanted_by ops))) (both-check IsExact d (Passes (are_in o.contents.semaphores ops) SemOutOfSet tt)
-            (subst (λ adj. Both d IsExact (in_order (trial_checks o.contents.semaphores (adj_of sems.undo who.client id) [] ops) (Grant Done (operated sems who id ops o.contents)))
-            (in_order (trial_checks o.contents.semaphores adj [] ops) (Grant Done (operated blurred who id ops o.contents)))) (same-adj who.client id (hidden-at (hides_closed client c) sems.sets id (Some o) there ∙ seen))
-            (both-order IsExact d (trial_checks o.contents.semaphores (adj_of sems.undo who.client id) [] ops) (both-grant IsExact d Done _ _ (exact-operated o there seen)))))
+            (subst (λ adj. Both d IsExact (in_order (trial_checks o.contents.semaphores (adj_of sems.undo who.process id) [] ops) (Grant Done (operated sems who id ops o.contents)))
+            (in_order (trial_checks o.contents.semaphores adj [] ops) (Grant Done (operated blurred who id ops o.contents)))) (same-adj who.process id (hidden-at (hides_closed client c) sems.sets id (Some o) there ∙ seen))
+            (both-order IsExact d (trial_checks o.contents.semaphores (adj_of sems.undo who.process id) [] ops) (both-grant IsExact d Done _ _ (exact-operated o there seen)))))
 
         pub exact-operate : (d : Credentials) → hid sems id ≡ false → (limits : Limits) → Both d IsExact (operate limits sems who id ops) (operate limits blurred who id ops)
         exact-operate d seen limits =
@@ -214,23 +214,23 @@ module _ (client : ℕ) (c : Credentials) where
         pub same-set : (who : Caller) (num : ℕ) (value : ℤ) → Grants d IsSame (set_value sems who id num value)
         same-set who num value = grants-check IsSame d (Passes (is_value value) ValueRange tt) (grants-found IsSame d (set_at sems id) BadId tt (λ o there.
             grants-check IsSame d (Needs (Permission o.perm to_alter)) (grants-check IsSame d (Passes (nat_lt num (length o.contents.semaphores)) BadSem tt)
-            (let new = slice_set o.contents.semaphores num (set_to (pid_of who.client) value) in
-            grants-grant IsSame d Done _ (same-changed o there (renewed who.now new) (cleared sems.undo id (λ n. n == num)) refl (length-set o.contents.semaphores num (set_to (pid_of who.client) value)) (cleared-apart sems.undo id (λ n. n == num)))))))
+            (let new = slice_set o.contents.semaphores num (set_to who.pid value) in
+            grants-grant IsSame d Done _ (same-changed o there (renewed who.now new) (cleared sems.undo id (λ n. n == num)) refl (length-set o.contents.semaphores num (set_to who.pid value)) (cleared-apart sems.undo id (λ n. n == num)))))))
 
         pub same-set_all : (who : Caller) (values : List ℤ) → Grants d IsSame (set_all sems who id values)
         same-set_all who values = grants-check IsSame d (Passes (list_all is_value values) ValueRange tt) (grants-found IsSame d (set_at sems id) BadId tt (λ o there.
             grants-check IsSame d (Needs (Permission o.perm to_alter)) (grants-passes IsSame d (length values == length o.contents.semaphores) BadSize tt (λ many.
-            grants-grant IsSame d Done _ (same-changed o there (renewed who.now (map (set_to (pid_of who.client)) values)) (cleared sems.undo id (λ n. true)) refl
-            (length-map values (set_to (pid_of who.client)) ∙ eqb-true (length values) (length o.contents.semaphores) many) (cleared-apart sems.undo id (λ n. true)))))))
+            grants-grant IsSame d Done _ (same-changed o there (renewed who.now (map (set_to who.pid) values)) (cleared sems.undo id (λ n. true)) refl
+            (length-map values (set_to who.pid) ∙ eqb-true (length values) (length o.contents.semaphores) many) (cleared-apart sems.undo id (λ n. true)))))))
 
         pub same-operate : (who : Caller) (ops : List SemOper) (limits : Limits) → Grants d IsSame (operate limits sems who id ops)
         same-operate who ops limits =
             grants-check IsSame d (Passes (nat_lt 0 (length ops)) NoOperations tt) (grants-check IsSame d (Passes (nat_le (length ops) limits.sem_opm) TooManyOperations tt)
             (grants-found IsSame d (set_at sems id) BadId tt (λ o there.
             grants-check IsSame d (Needs (Permission o.perm (wanted_by ops))) (grants-check IsSame d (Passes (are_in o.contents.semaphores ops) SemOutOfSet tt)
-            (grants-order IsSame d (trial_checks o.contents.semaphores (adj_of sems.undo who.client id) [] ops)
-            (grants-grant IsSame d Done _ (same-changed o there (λ (y : Object SemSet). record y { contents = record { semaphores = committed ops (pid_of who.client) o.contents.semaphores; op_time = who.now } })
-            (lowered sems.undo who.client id ops) refl (left-long 0 ops (pid_of who.client) o.contents.semaphores) (lowered-apart who.client id ops sems.undo))))))))
+            (grants-order IsSame d (trial_checks o.contents.semaphores (adj_of sems.undo who.process id) [] ops)
+            (grants-grant IsSame d Done _ (same-changed o there (λ (y : Object SemSet). record y { contents = record { semaphores = committed ops who.pid o.contents.semaphores; op_time = who.now } })
+            (lowered sems.undo who.process id ops) refl (left-long 0 ops who.pid o.contents.semaphores) (lowered-apart who.process id ops sems.undo))))))))
 
       -- IPC_SET and IPC_RMID of a set in sight
       module _ (o : Object SemSet) (there : finite.get sems.sets.objects id ≡ Some o) (seen : is_closed c o.perm ≡ false) where
@@ -250,11 +250,11 @@ module _ (client : ℕ) (c : Credentials) where
       exited-one q o there true is =
           masked-hidden blank_set (hides_closed client c) q (set_after_exit sems who q o) is
           ∙ blank-like blank_set (set_after_exit sems who q o) (set_after_exit blurred who q (blank blank_set o)) refl (blank-same (set_after_exit sems who q o).contents (set_after_exit blurred who q (blank blank_set o)).contents
-          (undone-long (adj_of sems.undo who.client q) (pid_of who.client) 0 o.contents.semaphores ∙ sym (undone-long (adj_of blurred.undo who.client q) (pid_of who.client) 0 (blank_set o.contents).semaphores ∙ length-replicate (length o.contents.semaphores) zeroed)))
+          (undone-long (adj_of sems.undo who.process q) who.pid 0 o.contents.semaphores ∙ sym (undone-long (adj_of blurred.undo who.process q) who.pid 0 (blank_set o.contents).semaphores ∙ length-replicate (length o.contents.semaphores) zeroed)))
           ∙ sym (masked-hidden blank_set (hides_closed client c) q (set_after_exit blurred who q (blank blank_set o)) is)
           ∙ ap (λ x. masked blank_set (hides_closed client c) q (set_after_exit blurred who q x)) (sym (masked-hidden blank_set (hides_closed client c) q o is))
       exited-one q o there false isnt =
-          ap (λ adj. masked blank_set (hides_closed client c) q (record o { contents = undone_set adj (pid_of who.client) who.now o.contents })) (same-adj who.client q (hidden-at (hides_closed client c) sems.sets q (Some o) there ∙ isnt))
+          ap (λ adj. masked blank_set (hides_closed client c) q (record o { contents = undone_set adj who.pid who.now o.contents })) (same-adj who.process q (hidden-at (hides_closed client c) sems.sets q (Some o) there ∙ isnt))
           ∙ ap (λ x. masked blank_set (hides_closed client c) q (set_after_exit blurred who q x)) (sym (masked-seen blank_set (hides_closed client c) q o isnt))
 
       exited-at : (q : ℕ) (o : Option (Object SemSet)) → finite.get sems.sets.objects q ≡ o
@@ -271,7 +271,7 @@ module _ (client : ℕ) (c : Credentials) where
           let t = sems.sets in
           let new = map_entries (set_after_exit sems who) t in
           let later = map_entries (set_after_exit blurred who) blurred.sets in
-          alike-sems new later (without_client sems.undo who.client) (without_client blurred.undo who.client) (
+          alike-sems new later (without_client sems.undo who.process) (without_client blurred.undo who.process) (
             same-tables (mask new) (mask later) refl refl refl (λ q.
                 get-masked blank_set (hides_closed client c) new q ∙ ap (option_map (masked blank_set (hides_closed client c) q)) (get-entries (set_after_exit sems who) t q)
                 ∙ exited-at q (finite.get t.objects q) refl

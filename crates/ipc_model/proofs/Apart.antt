@@ -17,7 +17,7 @@ use Rattle.sem_set.specs.Exits.{any_from, undone_from}
 use Rattle.sem_set.specs.Trials.{sum_of, undoes, undoes_on}
 use Rattle.sem_undo.specs.Entries.{Adjusted, Entries, adj_of, cleared, without_client}
 use Rattle.sem_undo.proofs.Entries.{get_kept, get_with_apart, key}
-use Rattle.ipc_model.specs.State.{Caller, SemSet, Sems, pid_of}
+use Rattle.ipc_model.specs.State.{Caller, SemSet, Sems}
 use Rattle.ipc_model.specs.Semaphores.{set_after_exit, lowered, with_adjs}
 
 -- an object at another identifier
@@ -70,10 +70,10 @@ undone-none adj pid num (s ∷ ss) none =
     (λ (some : int_eq (adj num) (pos 0) ≡ false). let e : true ≡ false = rw some at none in absurd (true≢false e))
     (cases_Bool (int_eq (adj num) (pos 0)))
 
-pub exited-none : (sems : Sems) (who : Caller) (id : ℕ) (set : Object SemSet) → any_from (adj_of sems.undo who.client id) 0 set.contents.semaphores ≡ false → set_after_exit sems who id set ≡ set
+pub exited-none : (sems : Sems) (who : Caller) (id : ℕ) (set : Object SemSet) → any_from (adj_of sems.undo who.process id) 0 set.contents.semaphores ≡ false → set_after_exit sems who id set ≡ set
 exited-none sems who id set none =
     ap (λ (contents : SemSet). record set { contents = contents }) (λ i. record {
-      semaphores = undone-none (adj_of sems.undo who.client id) (pid_of who.client) 0 set.contents.semaphores none i;
+      semaphores = undone-none (adj_of sems.undo who.process id) who.pid 0 set.contents.semaphores none i;
       op_time = cond (none i) who.now set.contents.op_time;
     })
 

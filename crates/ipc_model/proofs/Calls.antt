@@ -18,7 +18,7 @@ use Rattle.ipc_perm.specs.Access.{Permission, Resource, SetGroups, to_read}
 use Rattle.ipc_ids.specs.Table.{Table, next_id, with_object, without_object}
 use Rattle.ipc_objects.specs.declared.object.Object.{Object}
 use Rattle.msg_queue.specs.declared.messages.Message.{Message}
-use Rattle.ipc_model.specs.State.{Caller, Queue, Queues, Segment, SemSet, Sems, Shared, State, caller, creds_at, has_exited}
+use Rattle.ipc_model.specs.State.{Caller, Queue, Queues, Segment, SemSet, Sems, Shared, State, caller, creds_at, has_exited, pid_at}
 use Rattle.ipc_model.specs.Decision.{proceeds}
 use Rattle.ipc_model.specs.Plan.{Needs, Passes, Plan, decision, in_order, on_part, ◌⨾◌}
 use Rattle.ipc_model.specs.Plan as plans
@@ -146,7 +146,7 @@ never-plan s client (ShmGet key size flags) never =
     let asked : Get = record { key = key; flags = flags } in
     let who = caller s client in
     let segments = s.shared.segments in
-    let getting = getting_segment s.limits client size in
+    let getting = getting_segment s.limits (pid_at s client) size in
     never-shared s (get_segment s.limits s.shared who asked size)
     (never-on (λ segments. record s.shared { segments = segments }) (get segments who asked getting)
     (never-get segments getting (λ p waits. waits) (λ x p waits. waits) who asked (object_of_key segments key)))
@@ -308,7 +308,7 @@ Ends-plan s client (ShmGet key size flags) =
     let who = caller s client in
     let a = s.shared in
     let put : Table (Object Segment) → Shared = λ segments. record a { segments = segments } in
-    let getting = getting_segment s.limits client size in
+    let getting = getting_segment s.limits (pid_at s client) size in
     Ends-shared s (get_segment s.limits a who asked size)
     (Ends-on put (λ answer u. Leads a u) (get a.segments who asked getting)
     (Ends-getting a.segments who asked getting (λ t. Leads a (put t)) (Leads-same a) (λ id is. Leads-new a id (new_object who asked.key asked.flags getting.new) refl is) (object_of_key a.segments key)))

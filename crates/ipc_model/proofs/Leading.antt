@@ -68,11 +68,11 @@ Leads-new a id object new is = record {
 }
 
 -- shmat
-pub Leads-attached : (a : Shared) (who : Caller) (id flags number : ℕ) (segment : Object Segment) → segment_at a id ≡ Some segment → free_number a.attached who.client ≡ Some number → Leads a (with_attached a who number (attachment_to id flags) segment.contents)
+pub Leads-attached : (a : Shared) (who : Caller) (id flags number : ℕ) (segment : Object Segment) → segment_at a id ≡ Some segment → free_number a.attached who.process ≡ Some number → Leads a (with_attached a who number (attachment_to id flags) segment.contents)
 Leads-attached a who id flags number segment there free =
     Leads-kept a id (λ (o : Object Segment). record o { contents = attached_by who segment.contents }) (with_attached a who number (attachment_to id flags) segment.contents).attached
     (λ x is. ap (λ (o : Object Segment). o.contents.is_marked) (same_Some segment x (sym there ∙ is)))
-    (λ j was. let more = attached_count a.attached who.client number (attachment_to id flags) (free_there a.attached who.client number free) j in omega (arith, more, was))
+    (λ j was. let more = attached_count a.attached who.process number (attachment_to id flags) (free_there a.attached who.process number free) j in omega (arith, more, was))
 
 -- shmwrite
 pub Leads-written : (a : Shared) (id : ℕ) (segment : Object Segment) (offset : ℕ) (new : _) → segment_at a id ≡ Some segment → Leads a (with_bytes a id segment.contents offset new)
@@ -100,9 +100,9 @@ module _ (a : Shared) (id : ℕ) (segment : Object Segment) (there : segment_at 
   Leads-removed = removed-by (attach_count a.attached id == 0) refl
 
 -- shmdt: of the attachment of a number
-module _ (a : Shared) (who : Caller) (number : ℕ) (of : Attachment) (there : attachment_at a.attached who.client number ≡ Some of) where
+module _ (a : Shared) (who : Caller) (number : ℕ) (of : Attachment) (there : attachment_at a.attached who.process number ≡ Some of) where
   abbrev rest : Attached
-  rest = without_attachment a.attached who.client number
+  rest = without_attachment a.attached who.process number
 
   abbrev id : ℕ
   id = of.segment
@@ -112,7 +112,7 @@ module _ (a : Shared) (who : Caller) (number : ℕ) (of : Attachment) (there : a
 
   -- another segment has as many
   other-count : (j : ℕ) → (j ≡ id → ⊥) → 0 < attach_count a.attached j → 0 < attach_count rest j
-  other-count j ne some = subst (λ n. 0 < n) (sym (detached_count_other a.attached who.client number of there j (λ same. ne (sym same)))) some
+  other-count j ne some = subst (λ n. 0 < n) (sym (detached_count_other a.attached who.process number of there j (λ same. ne (sym same)))) some
 
   abbrev left-by : Bool → Bool → Object Segment → Table (Object Segment)
   left-by is none segment = cond (is && none) (without_object a.segments id) (changed a.segments id (λ (o : Object Segment). record o { contents = detached_by who segment.contents }))
@@ -149,7 +149,7 @@ module _ (a : Shared) (who : Caller) (number : ℕ) (of : Attachment) (there : a
   Leads-detached = left (segment_at a id) refl
 
 -- exit
-Leads-number : (a : Shared) (who : Caller) (number : ℕ) (o : Option Attachment) → attachment_at a.attached who.client number ≡ o → Leads a (without_number a who number o)
+Leads-number : (a : Shared) (who : Caller) (number : ℕ) (o : Option Attachment) → attachment_at a.attached who.process number ≡ o → Leads a (without_number a who number o)
 Leads-number a who number None is = Leads-same a
 Leads-number a who number (Some of) is = Leads-detached a who number of is
 
@@ -158,4 +158,4 @@ unfolding detached_from
 Leads-each zero number who a = Leads-same a
 Leads-each (suc left) number who a =
     let first = detached a who number in
-    Leads-on a first (detached_from left (number + 1) who first) (Leads-number a who number (attachment_at a.attached who.client number) refl) (Leads-each left (number + 1) who first)
+    Leads-on a first (detached_from left (number + 1) who first) (Leads-number a who number (attachment_at a.attached who.process number) refl) (Leads-each left (number + 1) who first)

@@ -47,7 +47,7 @@ tried-needs sems adj earlier (o ∷ os) p = tried-needs sems adj (earlier ++ o �
 pub operated-needs : (sems : Sems) (who : Caller) (id : ℕ) (ops : List SemOper) (set : Option (Object SemSet)) → needs_in (operate_found sems who id ops set) ≡ needs_for (wanted_by ops) (option_map (λ o. o.perm) set)
 operated-needs sems who id ops None = refl
 operated-needs sems who id ops (Some set) =
-    ap (λ ns. Permission set.perm (wanted_by ops) ∷ ns) (tried-needs set.contents.semaphores (adj_of sems.undo who.client id) [] ops (Grant Done (operated sems who id ops set.contents)))
+    ap (λ ns. Permission set.perm (wanted_by ops) ∷ ns) (tried-needs set.contents.semaphores (adj_of sems.undo who.process id) [] ops (Grant Done (operated sems who id ops set.contents)))
 
 -- each call that may wait
 module _ (s : State) (client id : ℕ) where

@@ -6,7 +6,7 @@ use Rattle.ipc_call.specs.declared.calls.Call.TheVariants.{MsgGet, MsgSnd, MsgRc
 use Rattle.ipc_call.specs.declared.rules.Rule.TheVariants.{Ended, TimedOut}
 use Rattle.ipc_call.specs.declared.calls.Kind.TheVariants as kinds
 use Rattle.ipc_perm.specs.Access.{Need}
-use Rattle.ipc_model.specs.State.{Call, Caller, Kind, Message, Queues, SemOper, Sems, Shared, State, caller, creds_at, has_exited}
+use Rattle.ipc_model.specs.State.{Call, Caller, Kind, Message, Queues, SemOper, Sems, Shared, State, caller, creds_at, has_exited, process_at}
 use Rattle.ipc_model.specs.Decision.{Decision}
 use Rattle.ipc_model.specs.Decision as decisions
 use Rattle.ipc_model.specs.Plan.{Passes, Plan, decision, needs_in, on_part, ◌⨾◌}
@@ -23,15 +23,15 @@ abbrev pub is_stopped_at : (SemOper → Bool) → Option SemOper → Bool
 is_stopped_at which None = false
 is_stopped_at which (Some o) = which o
 
--- a call of a client waits on the set for an operation that passes
+-- a call of a process waits on the set for an operation that passes
 abbrev pub waits_for : Sems → ℕ → (SemOper → Bool) → ℕ → Call → Bool
-waits_for sems id which client (SemOp other ops) = other == id && is_stopped_at which (stopping sems client id ops)
-waits_for sems id which client call = false
+waits_for sems id which process (SemOp other ops) = other == id && is_stopped_at which (stopping sems process id ops)
+waits_for sems id which process call = false
 
 -- GETNCNT and GETZCNT: each waiting semop is counted where it stops now
 abbrev pub get_waiting : State → ℕ → ℕ → (SemOper → Bool) → Plan Sems
 get_waiting s id num which =
-    look s.sems id num (λ _. count_by (λ w. waits_for s.sems id which w.client w.call) s.parked)
+    look s.sems id num (λ _. count_by (λ w. waits_for s.sems id which (process_at s w.client) w.call) s.parked)
 
 -- it waits for the value to rise, or to become 0
 abbrev pub is_negative : ℕ → SemOper → Bool

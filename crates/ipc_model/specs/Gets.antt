@@ -10,7 +10,7 @@ use Rattle.ipc_perm.specs.Access.{Permission, asked_of}
 use Rattle.ipc_ids.specs.Table.{Table, find_object, next_id, with_object}
 use Rattle.ipc_objects.specs.Objects.{has_key}
 use Rattle.sem_set.specs.Sets.{zeroed}
-use Rattle.ipc_model.specs.State.{Caller, Credentials, Limits, Object, Perm, Queue, Queues, Segment, SemSet, Sems, Shared, pid_of}
+use Rattle.ipc_model.specs.State.{Caller, Credentials, Limits, Object, Perm, Queue, Queues, Segment, SemSet, Sems, Shared}
 use Rattle.ipc_model.specs.Plan.{Check, Needs, Passes, Plan, Grant, found, in_order, on_part, ◌⨾◌}
 
 -- the caller is owner and creator
@@ -82,18 +82,18 @@ get_set limits sems who asked nsems =
 
 -- shmget: a new segment has at least one byte and at most SHMMAX, each 0, and one that is found has as many
 abbrev pub new_segment : ℕ → ℕ → Segment
-new_segment client size = record {
+new_segment pid size = record {
   bytes = replicate size 0;
   is_marked = false;
-  creator = pid_of client;
+  creator = pid;
   last = 0;
   attach_time = 0;
   detach_time = 0;
 }
 
 abbrev pub getting_segment : Limits → ℕ → ℕ → Getting Segment
-getting_segment limits client size = record {
-  new = new_segment client size;
+getting_segment limits pid size = record {
+  new = new_segment pid size;
   to_make = Passes (nat_lt 0 size && nat_le size limits.shm_max) BadSize _ ∷ [];
   to_find = λ segment. Passes (nat_le size (length segment.bytes)) BadSize _ ∷ [];
 }
@@ -101,4 +101,4 @@ getting_segment limits client size = record {
 abbrev pub get_segment : Limits → Shared → Caller → Get → ℕ → Plan Shared
 get_segment limits shared who asked size =
     on_part (λ segments. record shared { segments = segments })
-    (get shared.segments who asked (getting_segment limits who.client size))
+    (get shared.segments who asked (getting_segment limits who.pid size))

@@ -10,7 +10,7 @@ use Rattle.ipc_call.specs.declared.replies.Answer.TheVariants.{Done, Message as 
 use Rattle.ipc_perm.specs.Access.{Permission, to_alter, to_read}
 use Rattle.ipc_objects.specs.Objects.{with_contents}
 use Rattle.msg_queue.specs.Messages.{is_full, select}
-use Rattle.ipc_model.specs.State.{Caller, Limits, Message, Object, Queue, Queues, pid_of}
+use Rattle.ipc_model.specs.State.{Caller, Limits, Message, Object, Queue, Queues}
 use Rattle.ipc_model.specs.Plan.{Proceeds, Needs, Passes, Plan, Grant, awaited, found, on_part, ◌⨾◌}
 
 abbrev pub queue_at : Queues → ℕ → Option (Object Queue)
@@ -24,7 +24,7 @@ pub record Send : Type 0 where
 -- the message goes last, msg_lspid and msg_stime are set
 abbrev pub with_message : Caller → Message → Queue → Queue
 with_message who message queue =
-    record queue { messages = queue.messages ++ message ∷ []; last_sender = pid_of who.client; send_time = who.now }
+    record queue { messages = queue.messages ++ message ∷ []; last_sender = who.pid; send_time = who.now }
 
 abbrev pub has_room : Queue → Message → Bool
 has_room queue message = not (is_full queue.messages queue.qbytes (length message.text))
@@ -45,7 +45,7 @@ send_message limits queues who id asked =
 abbrev pub without_message : Caller → ℕ → Queue → Queue
 without_message who position queue = record queue {
   messages = remove queue.messages position;
-  last_receiver = pid_of who.client;
+  last_receiver = who.pid;
   receive_time = who.now;
 }
 

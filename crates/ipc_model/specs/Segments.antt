@@ -14,7 +14,7 @@ use Rattle.ipc_objects.specs.Objects.{with_contents}
 use Rattle.shm_seg.specs.declared.attachments.Attachment.{Attachment}
 use Rattle.shm_seg.specs.Attachments.{attach_count, attachment_at, free_number, shmseg, with_attachment, without_attachment}
 use Rattle.shm_seg.specs.Segments.{lies_within, overwritten, part_of}
-use Rattle.ipc_model.specs.State.{Caller, Object, Segment, Shared, pid_of}
+use Rattle.ipc_model.specs.State.{Caller, Object, Segment, Shared}
 use Rattle.ipc_model.specs.Plan.{Needs, Passes, Plan, Grant, found, ◌⨾◌}
 
 abbrev pub segment_at : Shared → ℕ → Option (Object Segment)
@@ -26,7 +26,7 @@ wanted_to_attach flags = record { read = true; alter = not (has_flag flags shm_r
 
 -- shm_lpid and shm_atime are set
 abbrev pub attached_by : Caller → Segment → Segment
-attached_by who segment = record segment { last = pid_of who.client; attach_time = who.now }
+attached_by who segment = record segment { last = who.pid; attach_time = who.now }
 
 abbrev pub attachment_to : ℕ → ℕ → Attachment
 attachment_to id flags = record { segment = id; is_read_only = has_flag flags shm_rdonly }
@@ -34,19 +34,19 @@ attachment_to id flags = record { segment = id; is_read_only = has_flag flags sh
 abbrev pub with_attached : Shared → Caller → ℕ → Attachment → Segment → Shared
 with_attached shared who number a segment = record {
   segments = with_contents shared.segments a.segment (attached_by who segment);
-  attached = with_attachment shared.attached who.client number a;
+  attached = with_attachment shared.attached who.process number a;
 }
 
 -- shmat: the least number that is free
 abbrev pub attach : Shared → Caller → ℕ → ℕ → Plan Shared
 attach shared who id flags = found (segment_at shared id) BadId _ (λ segment.
     Needs (Permission segment.perm (wanted_to_attach flags))
-    ⨾ found (free_number shared.attached who.client) TooManyAttached _ (λ number.
+    ⨾ found (free_number shared.attached who.process) TooManyAttached _ (λ number.
     Grant (AttachedAnswer number) (with_attached shared who number (attachment_to id flags) segment.contents)))
 
 -- shm_lpid and shm_dtime are set
 abbrev pub detached_by : Caller → Segment → Segment
-detached_by who segment = record segment { last = pid_of who.client; detach_time = who.now }
+detached_by who segment = record segment { last = who.pid; detach_time = who.now }
 
 -- after one of its attachments has gone: a marked segment goes with its last
 abbrev pub left_segment : Shared → Caller → ℕ → Option (Object Segment) → Shared
@@ -61,15 +61,15 @@ left_segment shared who id (Some segment) = record shared {
 abbrev pub without_number : Shared → Caller → ℕ → Option Attachment → Shared
 without_number shared who number None = shared
 without_number shared who number (Some a) =
-    let rest : Shared = record shared { attached = without_attachment shared.attached who.client number } in
+    let rest : Shared = record shared { attached = without_attachment shared.attached who.process number } in
     left_segment rest who a.segment (segment_at shared a.segment)
 
 abbrev pub detached : Shared → Caller → ℕ → Shared
-detached shared who number = without_number shared who number (attachment_at shared.attached who.client number)
+detached shared who number = without_number shared who number (attachment_at shared.attached who.process number)
 
 -- shmdt
 abbrev pub detach : Shared → Caller → ℕ → Plan Shared
-detach shared who number = found (attachment_at shared.attached who.client number) NotAttached _ (λ a.
+detach shared who number = found (attachment_at shared.attached who.process number) NotAttached _ (λ a.
     Grant Done (without_number shared who number (Some a)))
 
 -- so many numbers of the caller, from this one on
@@ -81,14 +81,14 @@ detached_from (suc left) number who shared = detached_from left (number + 1) who
 abbrev pub after_detaches : Shared → Caller → Shared
 after_detaches shared who = detached_from shmseg 0 who shared
 
--- what a client has attached under a number, with its segment
+-- what a process has attached under a number, with its segment
 abbrev pub behind : Shared → ℕ → ℕ → Option (Attachment × Object Segment)
-behind shared client number =
+behind shared process number =
     option_and_then (λ a. option_map (λ segment. (a, segment)) (segment_at shared a.segment))
-    (attachment_at shared.attached client number)
+    (attachment_at shared.attached process number)
 
 abbrev pub read_bytes : Shared → Caller → ℕ → ℕ → ℕ → Plan Shared
-read_bytes shared who number offset len = found (behind shared who.client number) NotAttached _ (λ there.
+read_bytes shared who number offset len = found (behind shared who.process number) NotAttached _ (λ there.
     Passes (lies_within offset len there.1.contents.bytes) OutOfSegment _
     ⨾ Grant (Bytes (part_of offset len there.1.contents.bytes)) shared)
 
@@ -98,7 +98,7 @@ with_bytes shared id segment offset new = record shared {
 }
 
 abbrev pub write_bytes : Shared → Caller → ℕ → ℕ → List ℕ → Plan Shared
-write_bytes shared who number offset new = found (behind shared who.client number) NotAttached _ (λ there.
+write_bytes shared who number offset new = found (behind shared who.process number) NotAttached _ (λ there.
     Needs (Writable there.0.is_read_only)
     ⨾ Passes (lies_within offset (length new) there.1.contents.bytes) OutOfSegment _
     ⨾ Grant Done (with_bytes shared there.0.segment there.1.contents offset new))

@@ -19,7 +19,7 @@ use Rattle.sem_set.specs.Met.{met_at}
 use Rattle.sem_set.specs.Sets.{is_value, pid_of as last_of, semvmx, set_to, value_of}
 use Rattle.sem_set.specs.Trials.{are_in, committed, is_semadj, must_wait, sum_of, undoes, undoes_on}
 use Rattle.sem_undo.specs.Entries.{Entries, adj_of, cleared, with_adj, without_client}
-use Rattle.ipc_model.specs.State.{Caller, Limits, Object, Rule, SemOper, SemSet, Semaphore, Sems, nobody, pid_of}
+use Rattle.ipc_model.specs.State.{Caller, Limits, Object, Rule, SemOper, SemSet, Semaphore, Sems, nobody}
 use Rattle.ipc_model.specs.Plan.{Check, Needs, Passes, Plan, Proceeds, Grant, found, in_order, passed, ◌⨾◌}
 
 abbrev pub set_at : Sems → ℕ → Option (Object SemSet)
@@ -70,7 +70,7 @@ set_value sems who id num value =
     Needs (Permission set.perm to_alter)
     ⨾ Passes (nat_lt num (length set.contents.semaphores)) BadSem _
     ⨾ Grant Done (with_values sems who.now id
-    (slice_set set.contents.semaphores num (set_to (pid_of who.client) value)) (λ n. n == num)))
+    (slice_set set.contents.semaphores num (set_to who.pid value)) (λ n. n == num)))
 
 abbrev pub set_all : Sems → Caller → ℕ → List ℤ → Plan Sems
 set_all sems who id values =
@@ -78,7 +78,7 @@ set_all sems who id values =
     ⨾ found (set_at sems id) BadId _ (λ set.
     Needs (Permission set.perm to_alter)
     ⨾ Passes (length values == length set.contents.semaphores) BadSize _
-    ⨾ Grant Done (with_values sems who.now id (map (set_to (pid_of who.client)) values) (λ _. true)))
+    ⨾ Grant Done (with_values sems who.now id (map (set_to who.pid) values) (λ _. true)))
 
 -- the trial of a semop: each operation in its order, at the value of its semaphore and the caller's semadj there after
 -- the earlier ones. A value doesn't rise above SEMVMX; the operation can go on, or the call waits; a semadj stays in
@@ -95,7 +95,7 @@ trial_checks sems adj earlier [] = []
 trial_checks sems adj earlier (o ∷ os) =
     oper_checks (met_at sems adj earlier o.num) o ++ trial_checks sems adj (earlier ++ o ∷ []) os
 
--- the semadj of a client at each of these semaphores of a set
+-- the semadj of a process at each of these semaphores of a set
 abbrev pub with_adjs : Entries → ℕ → ℕ → (ℕ → ℤ) → List ℕ → Entries
 with_adjs undo client id adj [] = undo
 with_adjs undo client id adj (num ∷ nums) =
@@ -112,8 +112,8 @@ lowered undo client id ops =
 abbrev pub operated : Sems → Caller → ℕ → List SemOper → SemSet → Sems
 operated sems who id ops set = record {
   sets = with_contents sems.sets id
-      (record { semaphores = committed ops (pid_of who.client) set.semaphores; op_time = who.now });
-  undo = lowered sems.undo who.client id ops;
+      (record { semaphores = committed ops who.pid set.semaphores; op_time = who.now });
+  undo = lowered sems.undo who.process id ops;
 }
 
 -- operations of 0 read, and others alter
@@ -127,7 +127,7 @@ abbrev pub operate_found : Sems → Caller → ℕ → List SemOper → Option (
 operate_found sems who id ops set = found set BadId _ (λ set.
     Needs (Permission set.perm (wanted_by ops))
     ⨾ Passes (are_in set.contents.semaphores ops) SemOutOfSet _
-    ⨾ in_order (trial_checks set.contents.semaphores (adj_of sems.undo who.client id) [] ops)
+    ⨾ in_order (trial_checks set.contents.semaphores (adj_of sems.undo who.process id) [] ops)
     (Grant Done (operated sems who id ops set.contents)))
 
 -- semop
@@ -168,9 +168,9 @@ undone_set adj pid now set = record {
 -- a set after the exit of the caller
 abbrev pub set_after_exit : Sems → Caller → ℕ → Object SemSet → Object SemSet
 set_after_exit sems who id set =
-    record set { contents = undone_set (adj_of sems.undo who.client id) (pid_of who.client) who.now set.contents }
+    record set { contents = undone_set (adj_of sems.undo who.process id) who.pid who.now set.contents }
 
 -- each set, and the caller's entries go
 abbrev pub after_exit : Sems → Caller → Sems
 after_exit sems who =
-    record { sets = map_entries (set_after_exit sems who) sems.sets; undo = without_client sems.undo who.client }
+    record { sets = map_entries (set_after_exit sems who) sems.sets; undo = without_client sems.undo who.process }

@@ -6,7 +6,7 @@ use Rattle.ipc_call.specs.declared.calls.Kind.TheVariants as kinds
 use Rattle.ipc_ids.specs.Table.{next_id}
 use Rattle.sem_set.specs.Exits.{any_from}
 use Rattle.sem_undo.specs.Entries.{adj_of}
-use Rattle.ipc_model.specs.State.{Call, Kind, Sems, State, Waiting}
+use Rattle.ipc_model.specs.State.{Call, Kind, Sems, State, Waiting, process_at}
 use Rattle.ipc_model.specs.Cancelled.{is_same}
 use Rattle.ipc_model.specs.Decide.{waits_at}
 use Rattle.ipc_model.specs.Semaphores.{set_at}
@@ -18,10 +18,10 @@ abbrev pub is_id : Option ℕ → ℕ → Bool
 is_id None i = false
 is_id (Some id) i = id == i
 
--- exit adds something to a semaphore of the set: a semadj of the client isn't 0
+-- exit adds something to a semaphore of the set: a semadj of the process isn't 0
 abbrev pub owes : Sems → ℕ → ℕ → Bool
-owes sems client id = unwrap_or
-    (option_map (λ set. any_from (adj_of sems.undo client id) 0 set.contents.semaphores) (set_at sems id)) false
+owes sems process id = unwrap_or
+    (option_map (λ set. any_from (adj_of sems.undo process id) 0 set.contents.semaphores) (set_at sems id)) false
 
 -- the grant of the client's call touches the object of this kind and identifier: a get the object that it creates, exit
 -- each set to which it adds something, and others the object that they name, where they change it
@@ -36,7 +36,7 @@ touches s client (SetVal id num value) kind i = is_object kinds.Sems id kind i
 touches s client (SetAll id values) kind i = is_object kinds.Sems id kind i
 touches s client (IpcSet at id uid gid mode qbytes) kind i = is_object at id kind i
 touches s client (IpcRmid at id) kind i = is_object at id kind i
-touches s client Exit kind i = is_same kinds.Sems kind && owes s.sems client i
+touches s client Exit kind i = is_same kinds.Sems kind && owes s.sems (process_at s client) i
 touches s client call kind i = false
 
 -- it touches the object on which a call waits

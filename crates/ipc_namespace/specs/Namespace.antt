@@ -13,7 +13,7 @@ use Rattle.msg_calls.specs.WithRoom.{QueueWithRoom, one_if, room}
 use Rattle.sem_calls.specs.WithRows.{SetsWithRows, HasRow}
 use Rattle.ipc_perm.specs.declared.access.Verdict.{Verdict}
 use Rattle.ipc_perm.specs.declared.access.Verdict.TheVariants.{Allowed, Denied}
-use Rattle.ipc_model.specs.State.{Sems, State, creds_at, pid_of}
+use Rattle.ipc_model.specs.State.{Sems, State, creds_at, pid_at}
 use Rattle.ipc_model.specs.Semaphores.{set_at}
 use Rattle.sem_set.specs.Trials.{are_in}
 use Rattle.ipc_model.specs.Decide.{decide_alive, is_late, is_negative, is_zero, needs, unless_late}
@@ -121,7 +121,7 @@ abbrev pub cancelled_as : State → Cancelling → Waiting → Option Rule
 cancelled_as s (cancellings.Denied kind id) w =
     if waits_on kind id w.call then first_denial (creds_at s w.client) (needs s w.client w.call) else None
 cancelled_as s (cancellings.Removed kind id) w = if waits_on kind id w.call then Some Removed else None
-cancelled_as s (cancellings.Interrupted pid) w = if pid == pid_of w.client then Some Interrupted else None
+cancelled_as s (cancellings.Interrupted pid) w = if pid == pid_at s w.client then Some Interrupted else None
 
 -- the call was granted
 abbrev pub is_grant : Option Outcome → Bool

@@ -49,7 +49,6 @@ pub fn release_in(queues: &mut Queues, queue: Option<u32>)
 /// Makes the row of semadj that the completion of a semop needs. Memory comes where a growth was refused, and then nothing
 /// has changed.
 pub fn reserve_row(sets: &mut Sets, client: u32, call: &Call) -> Result<(), Memory>
-    requires few { client < 64 }
     requires there { MayReserve (sems_of sets.old) call.now }
     ensures sems { OnOk result (sems_of sets.new ≡ sems_of sets.old) }
     ensures row { OnOk result (HasRowFor sets.new client call.now) }

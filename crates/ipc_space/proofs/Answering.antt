@@ -25,7 +25,7 @@ use Rattle.ipc_objects.specs.declared.object.Object.{Object}
 use Rattle.msg_queue.specs.declared.messages.Message.{Message}
 use Rattle.shm_seg.specs.Attachments.{attachment_at, free_number}
 use Rattle.sem_undo.specs.Entries.{adj_of}
-use Rattle.ipc_model.specs.State.{Caller, Queue, Queues, SemSet, Sems, Shared, State, caller, creds_at}
+use Rattle.ipc_model.specs.State.{Caller, Queue, Queues, SemSet, Sems, Shared, State, caller, creds_at, pid_at}
 use Rattle.ipc_model.specs.Decision.{Decision, Outcome, Refused, Waits, Granted, outcome_of, proceeds}
 use Rattle.ipc_model.specs.Plan.{Needs, Plan, on_part}
 use Rattle.ipc_model.specs.Plan as plans
@@ -123,7 +123,7 @@ gives-plan s client (SetAll id values) = on-sems s (SetAll id values) (set_all s
 gives-plan s client (ShmGet key size flags) =
     let asked : Get = record { key = key; flags = flags } in
     let call = ShmGet key size flags in
-    let getting = getting_segment s.limits client size in
+    let getting = getting_segment s.limits (pid_at s client) size in
     let got = get s.shared.segments (caller s client) asked getting in
     on-shared s call (get_segment s.limits s.shared (caller s client) asked size)
     (Ends-on (λ segments. record s.shared { segments = segments }) (Gives call) got (gives-get call (λ n. refl) s.shared.segments (caller s client) asked getting (object_of_key s.shared.segments key)))

@@ -1,7 +1,6 @@
 //! Who calls.
 
-ghost use Rattle.std.specs.Prelude.{◌≡◌, ◌<◌, Some, None, IfOk, IfErr, option_copied};
-ghost use Rattle.ipc_model.specs.State.{pid_of};
+ghost use Rattle.std.specs.Prelude.{◌≡◌, Some, None, IfOk, IfErr, option_copied};
 ghost use Rattle.ipc_perm.specs.Access.{Permission, denial};
 ghost use Rattle.object_calls.specs.Permitted.{refusal};
 
@@ -11,47 +10,50 @@ use ipc_objects::Object;
 use ipc_perm::{Verdict, Want, decide};
 use std::marker::Model;
 
-/// A client that calls, with its credentials, and when.
+/// A client that calls, of which process, with its credentials, and when.
 #[derive(Debug, Drop)]
 pub struct Caller<'a> {
     client: u32,
+    process: u32,
+    pid: u32,
     creds: &'a Creds,
     now: u64,
 }
 
 impl<'a> Model for Caller<'a> {
-    ghost use Rattle.std.specs.Prelude.{◌<◌};
     ghost use Rattle.ipc_model.specs.State.{Caller as CallerOf};
 
     ghost Value = { CallerOf };
 
-    ghost view = { λ c. record { client = c.client; creds = c.creds.now; now = c.now } };
-
-    ghost invariant = { λ c. c.client < 64 };
+    ghost view = { λ c. record { client = c.client; process = c.process; pid = c.pid; creds = c.creds.now; now = c.now } };
 }
 
 impl<'a> Caller<'a> {
-    /// The client of a number, at a time in seconds.
-    pub fn new(client: u32, creds: &'a Creds, now: u64) -> Caller<'a>
-        requires { client < 64 }
-        ensures { result ≡ record { client = client; creds = creds.now; now = now } }
+    /// The client of a number, of the process of a number with its pid, at a time in seconds.
+    pub fn new(client: u32, process: u32, pid: u32, creds: &'a Creds, now: u64) -> Caller<'a>
+        ensures { result ≡ record { client = client; process = process; pid = pid; creds = creds.now; now = now } }
     {
-        Caller { client, creds, now }
+        Caller {
+            client,
+            process,
+            pid,
+            creds,
+            now,
+        }
     }
 
-    /// The number of the client, of which there are at most 64.
-    pub fn client(&self) -> u32
-        ensures client { result ≡ self.entry.now.client }
-        ensures few { result < 64 }
+    /// The number of its process, by which semadj and attachments are kept.
+    pub fn process(&self) -> u32
+        ensures { result ≡ self.entry.now.process }
     {
-        self.client
+        self.process
     }
 
-    /// Its process: the number of the client plus 1.
+    /// The pid of its process, as objects show it.
     pub fn pid(&self) -> u32
-        ensures { result ≡ pid_of self.entry.now.client }
+        ensures { result ≡ self.entry.now.pid }
     {
-        self.client + 1
+        self.pid
     }
 
     /// Its credentials.

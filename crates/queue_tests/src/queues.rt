@@ -96,8 +96,8 @@ fn a_key_has_one_queue(rt: HostRuntime) {
     let alloc = rt.alloc();
     let alice = user(alloc, 100, 10);
     let bob = user(alloc, 200, 20);
-    let alice = Caller::new(0, &alice, 5);
-    let bob = Caller::new(1, &bob, 6);
+    let alice = Caller::new(0, 0, 1, &alice, 5);
+    let bob = Caller::new(1, 1, 2, &bob, 6);
     let mut queues = Queues::new(alloc, 2, 0);
     let alices = [
         (9, 0, Err(Rule::NoKey)),
@@ -165,7 +165,7 @@ fn check_message(
 fn a_message_goes_through_a_queue(rt: HostRuntime) -> Result<(), Fail> {
     let alloc = rt.alloc();
     let creds = user(alloc, 100, 10);
-    let who = Caller::new(4, &creds, 7);
+    let who = Caller::new(4, 4, 5, &creds, 7);
     let mut queues = Queues::new(alloc, 1, 0);
     assert_eq!(rt; get(&mut queues, &who, 9, IPC_CREAT | 0o600), Some(Ok(0)));
     check_refusals(&rt, &queues, &who);

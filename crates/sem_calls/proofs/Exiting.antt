@@ -19,7 +19,7 @@ use Rattle.client_map.proofs.Orders.{get_gone_apart}
 use Rattle.sem_undo.specs.Entries.{Entries, Place, Undone, adj_of, place_cmp, without_client, without_row}
 use Rattle.sem_undo.proofs.Entries.{get_kept, key, place, same_entries}
 use Rattle.sem_undo.proofs.Keys.{place_same, place_total}
-use Rattle.ipc_model.specs.State.{Caller, SemSet, Sems, pid_of}
+use Rattle.ipc_model.specs.State.{Caller, SemSet, Sems}
 use Rattle.ipc_model.specs.Semaphores.{after_exit, set_after_exit, undone_set}
 use Rattle.sem_calls.specs.WithRows.{SetsWithRows, row_at, sems_of}
 
@@ -70,11 +70,11 @@ module _ (e : Entries) (client : ℕ) where
       ∙ (let here : (client == client) ≡ true = grind arith in ap (λ b. cond (not b) (finite.get e (key client j n)) None) here))) i
 
 module _ (t : Table (Object SemSet)) (e : Entries) (who : Caller) where
-  alone : (id : ℕ) → adj_of e who.client id ≡ nothing → (x : Object SemSet) → set_after_exit (record { sets = t; undo = e }) who id x ≡ x
-  alone id none x = ap (λ (set : SemSet). record x { contents = set }) (set-alone (adj_of e who.client id) (pid_of who.client) who.now x.contents none)
+  alone : (id : ℕ) → adj_of e who.process id ≡ nothing → (x : Object SemSet) → set_after_exit (record { sets = t; undo = e }) who id x ≡ x
+  alone id none x = ap (λ (set : SemSet). record x { contents = set }) (set-alone (adj_of e who.process id) who.pid who.now x.contents none)
 
   -- a client without entries leaves all
-  pub exit-none : without_client e who.client ≡ e → record { sets = t; undo = e } ≡ after_exit (record { sets = t; undo = e }) who
+  pub exit-none : without_client e who.process ≡ e → record { sets = t; undo = e } ≡ after_exit (record { sets = t; undo = e }) who
   exit-none none = λ i. record {
     sets = record t { objects = same_maps t.objects (map_entries (set_after_exit (record { sets = t; undo = e }) who) t).objects (λ q. sym (get-entries (set_after_exit (record { sets = t; undo = e }) who) t q ∙ by q (finite.get t.objects q))) i };
     undo = sym none i;
@@ -82,26 +82,26 @@ module _ (t : Table (Object SemSet)) (e : Entries) (who : Caller) where
     where
       by : (q : ℕ) (o : Option (Object SemSet)) → option_map (set_after_exit (record { sets = t; undo = e }) who q) o ≡ o
       by q None = refl
-      by q (Some x) = ap (λ (y : Object SemSet). Some y) (alone q (adj-none e who.client none q) x)
+      by q (Some x) = ap (λ (y : Object SemSet). Some y) (alone q (adj-none e who.process none q) x)
 
   -- one row is undone, and then the rest
-  module _ (id : ℕ) (adj : ℕ → ℤ) (told : (n : ℕ) → adj n ≡ adj_of e who.client id n) where
+  module _ (id : ℕ) (adj : ℕ → ℤ) (told : (n : ℕ) → adj n ≡ adj_of e who.process id n) where
     abbrev before : Sems
     before = record { sets = t; undo = e }
 
     abbrev undo : Object SemSet → Object SemSet
-    undo set = record set { contents = undone_set adj (pid_of who.client) who.now set.contents }
+    undo set = record set { contents = undone_set adj who.pid who.now set.contents }
 
     abbrev after : Sems
-    after = record { sets = changed t id undo; undo = without_row e who.client id }
+    after = record { sets = changed t id undo; undo = without_row e who.process id }
 
     here : (x : Object SemSet) → set_after_exit after who id (undo x) ≡ set_after_exit before who id x
     here x =
-        ap (λ (set : SemSet). record x { contents = set }) (set-alone (adj_of after.undo who.client id) (pid_of who.client) who.now (undo x).contents (adj-here e who.client id)
-        ∙ (λ i. undone_set (λ n. told n i) (pid_of who.client) who.now x.contents))
+        ap (λ (set : SemSet). record x { contents = set }) (set-alone (adj_of after.undo who.process id) who.pid who.now (undo x).contents (adj-here e who.process id)
+        ∙ (λ i. undone_set (λ n. told n i) who.pid who.now x.contents))
 
     elsewhere : (q : ℕ) → (q ≡ id → ⊥) → set_after_exit after who q ≡ set_after_exit before who q
-    elsewhere q ne = λ i x. record x { contents = undone_set (adj-elsewhere e who.client id q ne i) (pid_of who.client) who.now x.contents }
+    elsewhere q ne = λ i x. record x { contents = undone_set (adj-elsewhere e who.process id q ne i) who.pid who.now x.contents }
 
     objects-after : (o : Option (Object SemSet)) → finite.get t.objects id ≡ o → (q : ℕ)
         → option_map (set_after_exit after who q) (finite.get (with_perm t id undo o).objects q) ≡ option_map (set_after_exit before who q) (finite.get t.objects q)
@@ -127,31 +127,31 @@ module _ (t : Table (Object SemSet)) (e : Entries) (who : Caller) where
     sets-after (Some x) is = ap (λ (objects : finite.FinMap nat_cmp (Object SemSet)). record t { objects = objects }) (same_maps _ _ (λ q.
         get-entries (set_after_exit after who) (with_object t id (undo x)) q ∙ objects-after (Some x) is q ∙ sym (get-entries (set_after_exit before who) t q)))
 
-    pub exit-step : after_exit (record { sets = changed t id (λ set. record set { contents = undone_set adj (pid_of who.client) who.now set.contents }); undo = without_row e who.client id }) who ≡ after_exit (record { sets = t; undo = e }) who
-    exit-step = λ i. record { sets = sets-after (finite.get t.objects id) refl i; undo = row-then-client e who.client id i }
+    pub exit-step : after_exit (record { sets = changed t id (λ set. record set { contents = undone_set adj who.pid who.now set.contents }); undo = without_row e who.process id }) who ≡ after_exit (record { sets = t; undo = e }) who
+    exit-step = λ i. record { sets = sets-after (finite.get t.objects id) refl i; undo = row-then-client e who.process id i }
 
 -- no row is left
-pub exit-done : (t : Table (Object SemSet)) (u : Undone) (now : SetsWithRows) → record { sets = t; undone = u } ≡ now → (who : Caller) (client : ℕ) → client ≡ who.client → without_client u.entries client ≡ u.entries
+pub exit-done : (t : Table (Object SemSet)) (u : Undone) (now : SetsWithRows) → record { sets = t; undone = u } ≡ now → (who : Caller) (client : ℕ) → client ≡ who.process → without_client u.entries client ≡ u.entries
     → sems_of now ≡ after_exit (sems_of now) who
 exit-done t u now view who client is none =
     subst (λ (h : SetsWithRows). sems_of h ≡ after_exit (sems_of h) who) view (exit-none t u.entries who (ap (λ n. without_client u.entries n) (sym is) ∙ none))
 
 -- a row is taken out of what exit undoes, and undone of its set
-module _ (t : Table (Object SemSet)) (u : Undone) (now : SetsWithRows) (view : record { sets = t; undone = u } ≡ now) (who : Caller) (client id : ℕ) (is : client ≡ who.client)
+module _ (t : Table (Object SemSet)) (u : Undone) (now : SetsWithRows) (view : record { sets = t; undone = u } ≡ now) (who : Caller) (client id : ℕ) (is : client ≡ who.process)
     (left : Undone) (rest : left ≡ record { entries = without_row u.entries client id; rows = finite.remove u.rows (place client id) }) (new : SetsWithRows) (adjs : List ℤ)
-    (undoes : new ≡ record { sets = changed t id (λ set. record set { contents = undone_set (adj_in adjs) (pid_of who.client) who.now set.contents }); undone = left }) where
+    (undoes : new ≡ record { sets = changed t id (λ set. record set { contents = undone_set (adj_in adjs) who.pid who.now set.contents }); undone = left }) where
   pub exit-row : ((num : ℕ) → adj_in adjs num ≡ adj_of u.entries client id num) → after_exit (sems_of new) who ≡ after_exit (sems_of now) who
   exit-row told =
       ap (λ (h : SetsWithRows). after_exit (sems_of h) who) undoes
-      ∙ (λ i. after_exit (record { sets = changed t id (λ set. record set { contents = undone_set (adj_in adjs) (pid_of who.client) who.now set.contents }); undo = (rest i).entries }) who)
-      ∙ (λ i. after_exit (record { sets = changed t id (λ set. record set { contents = undone_set (adj_in adjs) (pid_of who.client) who.now set.contents }); undo = without_row u.entries (is i) id }) who)
+      ∙ (λ i. after_exit (record { sets = changed t id (λ set. record set { contents = undone_set (adj_in adjs) who.pid who.now set.contents }); undo = (rest i).entries }) who)
+      ∙ (λ i. after_exit (record { sets = changed t id (λ set. record set { contents = undone_set (adj_in adjs) who.pid who.now set.contents }); undo = without_row u.entries (is i) id }) who)
       ∙ exit-step t u.entries who id (adj_in adjs) (λ n. told n ∙ ap (λ x. adj_of u.entries x id n) is)
       ∙ ap (λ (h : SetsWithRows). after_exit (sems_of h) who) view
 
   rows-left : new.undone.rows ≡ finite.remove u.rows (place client id)
   rows-left = ap (λ (h : SetsWithRows). h.undone.rows) undoes ∙ ap (λ (v : Undone). v.rows) rest
 
-  pub other-rows : (other set : ℕ) → (other ≡ who.client → ⊥) → row_at new other set ≡ row_at now other set
+  pub other-rows : (other set : ℕ) → (other ≡ who.process → ⊥) → row_at new other set ≡ row_at now other set
   other-rows other set ne =
       ap (λ (o : Option ℕ). unwrap_or o 0)
       (ap (λ (rows : finite.FinMap place_cmp ℕ). finite.get rows (place other set)) rows-left

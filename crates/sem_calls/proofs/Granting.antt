@@ -47,12 +47,12 @@ pub record IsGranted (sems : Sems) (who : Caller) (id : ℕ) (ops : List SemOper
   pub set : Object SemSet
   pub there : set_at sems id ≡ Some set
   pub numbers : are_in set.contents.semaphores ops ≡ true
-  pub goes : trial_on set.contents.semaphores (adj_of sems.undo who.client id) ops ≡ trials.Go
+  pub goes : trial_on set.contents.semaphores (adj_of sems.undo who.process id) ops ≡ trials.Go
   pub left : d ≡ decisions.Granted Done (operated sems who id ops set.contents)
 
 module _ (sems : Sems) (who : Caller) (id : ℕ) (ops : List SemOper) where
   abbrev trial_of : Object SemSet → Trial
-  trial_of set = trial_on set.contents.semaphores (adj_of sems.undo who.client id) ops
+  trial_of set = trial_on set.contents.semaphores (adj_of sems.undo who.process id) ops
 
   abbrev doing : Object SemSet → Decision Sems
   doing set = decisions.Granted Done (operated sems who id ops set.contents)
@@ -63,7 +63,7 @@ module _ (sems : Sems) (who : Caller) (id : ℕ) (ops : List SemOper) where
   decided-on : (set : Object SemSet) → decision who.creds (operate_found sems who id ops (Some set)) ≡ unless (denial who.creds (Permission set.perm (wanted_by ops))) (numbered set)
   decided-on set =
       ap (λ (d : Decision Sems). unless (denial who.creds (Permission set.perm (wanted_by ops))) (cond (are_in set.contents.semaphores ops) d (decisions.Refused SemOutOfSet)))
-      (tried who.creds 0 set.contents.semaphores (adj_of sems.undo who.client id) [] ops (Grant Done (operated sems who id ops set.contents)))
+      (tried who.creds 0 set.contents.semaphores (adj_of sems.undo who.process id) [] ops (Grant Done (operated sems who id ops set.contents)))
 
   granted-on : (set : Object SemSet) → set_at sems id ≡ Some set → Granted (numbered set) → IsGranted sems who id ops (numbered set)
   granted-on set there =

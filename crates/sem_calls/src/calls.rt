@@ -22,7 +22,7 @@ ghost use Rattle.std.specs.Prelude.{
   true,
 };
 ghost use Rattle.std.specs.List.{list_all};
-ghost use Rattle.ipc_model.specs.State.{SemSet as Contents, pid_of};
+ghost use Rattle.ipc_model.specs.State.{SemSet as Contents};
 ghost use Rattle.ipc_model.specs.Decision.{left_by, outcome_of};
 ghost use Rattle.ipc_model.specs.Gets.{object_of_key};
 ghost use Rattle.ipc_model.specs.Semaphores.{set_at, with_values};
@@ -168,7 +168,7 @@ impl Sets {
         requires value { is_value_in value ≡ true }
         ensures sems { IfSome (set_at (sems_of self.old) id) (λ set. sems_of self.new
             ≡ with_values (sems_of self.old) who.entry.now.now id
-            (slice_set set.contents.semaphores num (set_to (pid_of who.entry.now.client) value)) (λ n. n == num)) }
+            (slice_set set.contents.semaphores num (set_to who.entry.now.pid value)) (λ n. n == num)) }
         ensures rows { (client set : ℕ) → row_at self.new client set ≡ row_at self.old client set }
     {
         let Some(set) = self.sets.contents_mut(id) else {
@@ -205,7 +205,7 @@ impl Sets {
             (λ set. length values.now ≡ length set.contents.semaphores) }
         requires values { list_all is_value_in values.now ≡ true }
         ensures sems { sems_of self.new ≡ with_values (sems_of self.old) who.entry.now.now id
-            (map (set_to (pid_of who.entry.now.client)) values.now) (λ _. true) }
+            (map (set_to who.entry.now.pid) values.now) (λ _. true) }
         ensures rows { (client set : ℕ) → row_at self.new client set ≡ row_at self.old client set }
     {
         let Some(set) = self.sets.contents_mut(id) else {

@@ -2,7 +2,6 @@
 
 ghost use Rattle.std.specs.Prelude.{◌≡◌, ℕ};
 ghost use Rattle.ipc_model.specs.Semaphores.{after_exit, undone_set};
-ghost use Rattle.ipc_model.specs.State.{pid_of};
 ghost use Rattle.ipc_objects.specs.Objects.{changed};
 ghost use Rattle.sem_set.specs.Trials.{adj_in};
 ghost use Rattle.sem_calls.specs.WithRows.{row_at, sems_of};
@@ -15,10 +14,10 @@ impl Sets {
     /// semadj added, and is brought into 0 to SEMVMX. Its rows go. It takes no memory.
     pub fn exit(&mut self, who: &Caller)
         ensures sems { sems_of self.new ≡ after_exit (sems_of self.old) who.entry.now }
-        ensures rows { (client set : ℕ) → (client ≡ who.entry.now.client → ⊥)
+        ensures rows { (client set : ℕ) → (client ≡ who.entry.now.process → ⊥)
             → row_at self.new client set ≡ row_at self.old client set }
     {
-        while let Some((id, adjs)) = self.undo.take_all(who.client()) {
+        while let Some((id, adjs)) = self.undo.take_all(who.process()) {
             self.undo_row(who, id, adjs.as_slice());
         }
     }
@@ -27,7 +26,7 @@ impl Sets {
     fn undo_row(&mut self, who: &Caller, id: u32, adjs: &[i32])
         ensures { self.new ≡ record self.old {
           sets = changed self.old.sets id (λ set. record set {
-            contents = undone_set (adj_in adjs.now) (pid_of who.entry.now.client) who.entry.now.now set.contents;
+            contents = undone_set (adj_in adjs.now) who.entry.now.pid who.entry.now.now set.contents;
           });
         } }
     {

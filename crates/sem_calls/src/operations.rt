@@ -55,7 +55,7 @@ impl Sets {
             None => Ok(None),
             Some(Err(rule)) => Ok(Some(Err(rule))),
             Some(Ok(())) => {
-                self.reserve(who.client(), id, ops)?;
+                self.reserve(who.process(), id, ops)?;
                 self.operate(who, id, ops);
                 Ok(Some(Ok(Answer::Done)))
             }
@@ -71,7 +71,7 @@ impl Sets {
         id: u32,
         ops: &[SemOper],
     ) -> Option<Outcome>
-        requires { HasRow self.old who.now.client id ops.now }
+        requires { HasRow self.old who.now.process id ops.now }
         ensures outcome { result ≡ outcome_of (operating limits.now (sems_of self.old) who.entry.now id ops.now) }
         ensures sems { sems_of self.new
             ≡ left_by (sems_of self.old) (operating limits.now (sems_of self.old) who.entry.now id ops.now) }
@@ -105,7 +105,6 @@ impl Sets {
     /// Makes the row of semadj that the operations of a client on the set of an identifier need, where exit undoes one
     /// of them. Memory comes where a growth was refused, and then nothing has changed.
     pub fn reserve(&mut self, client: u32, id: u32, ops: &[SemOper]) -> Result<(), Memory>
-        requires few { client < 64 }
         requires there { IsSome (set_at (sems_of self.old) id) }
         requires numbers { IfSome (set_at (sems_of self.old) id)
             (λ set. are_numbers_of set.contents.semaphores ops.now ≡ true) }
@@ -148,7 +147,7 @@ impl Sets {
         if !are_in(&set.contents, ops) {
             return Some(Err(Rule::SemOutOfSet));
         }
-        end_by(self.try_on(who.client(), id, ops))
+        end_by(self.try_on(who.process(), id, ops))
     }
 
     /// Tries the operations of a client on the set of an identifier, which there is and has the semaphores that they
@@ -170,17 +169,17 @@ impl Sets {
     /// Does the operations, which were decided and for which there is a row (semop(2)). It takes no memory.
     fn operate(&mut self, who: &Caller, id: u32, ops: &[SemOper])
         requires granted { MayOperate (sems_of self.old) who.now id ops.now }
-        requires row { HasRow self.old who.now.client id ops.now }
+        requires row { HasRow self.old who.now.process id ops.now }
         ensures sems { IsOperated (sems_of self.old) who.entry.now id ops.now (sems_of self.new) }
         ensures rows { (c s : ℕ) → row_at self.new c s ≡ row_at self.old c s }
     {
-        let client = who.client();
+        let process = who.process();
         let Some(set) = self.sets.contents_mut(id) else {
             unreachable!()
         };
         set.semaphores.commit(ops, who.pid());
         set.op_time = who.now();
-        lower_all(&mut self.undo, client, id, ops);
+        lower_all(&mut self.undo, process, id, ops);
     }
 }
 

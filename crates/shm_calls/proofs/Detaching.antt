@@ -15,7 +15,7 @@ use Rattle.ipc_model.specs.Segments.{after_detaches, detached, detached_from, le
 module _ (who : Caller) where
   -- nothing is attached under the number
   abbrev pub IsFree : Shared → ℕ → Type 0
-  IsFree s number = attachment_at s.attached who.client number ≡ None
+  IsFree s number = attachment_at s.attached who.process number ≡ None
 
   -- where nothing is, a detach leaves everything
   pub detached-none : (s : Shared) (number : ℕ) → IsFree s number → detached s who number ≡ s
@@ -27,22 +27,22 @@ module _ (who : Caller) where
   left-attached s id (Some segment) = refl
 
   -- what is attached after a detach
-  attached-left : (s : Shared) (number : ℕ) → (detached s who number).attached ≡ without_attachment s.attached who.client number
-  attached-left s number = by (attachment_at s.attached who.client number) refl
+  attached-left : (s : Shared) (number : ℕ) → (detached s who number).attached ≡ without_attachment s.attached who.process number
+  attached-left s number = by (attachment_at s.attached who.process number) refl
     where
-      by : (o : Option Attachment) → attachment_at s.attached who.client number ≡ o → (without_number s who number o).attached ≡ without_attachment s.attached who.client number
-      by None is = sym (detached_none s.attached who.client number is)
+      by : (o : Option Attachment) → attachment_at s.attached who.process number ≡ o → (without_number s who number o).attached ≡ without_attachment s.attached who.process number
+      by None is = sym (detached_none s.attached who.process number is)
       by (Some a) is =
-          left-attached (record s { attached = without_attachment s.attached who.client number }) a.segment (segment_at s a.segment)
+          left-attached (record s { attached = without_attachment s.attached who.process number }) a.segment (segment_at s a.segment)
 
   free-here : (s : Shared) (number : ℕ) → IsFree (detached s who number) number
   free-here s number =
-      ap (λ (m : Attached). attachment_at m who.client number) (attached-left s number) ∙ detached_here s.attached who.client number
+      ap (λ (m : Attached). attachment_at m who.process number) (attached-left s number) ∙ detached_here s.attached who.process number
 
   free-apart : (s : Shared) (number other : ℕ) → (other ≡ number → ⊥) → IsFree s other → IsFree (detached s who number) other
   free-apart s number other ne free =
-      ap (λ (m : Attached). attachment_at m who.client other) (attached-left s number)
-      ∙ detached_apart s.attached who.client number who.client other (λ same. ne) ∙ free
+      ap (λ (m : Attached). attachment_at m who.process other) (attached-left s number)
+      ∙ detached_apart s.attached who.process number who.process other (λ same. ne) ∙ free
 
   -- where nothing is attached under so many numbers from a start on, all stays
   from-none : (left start : ℕ) (s : Shared) → ((k : ℕ) → start ≤ k → k < start + left → IsFree s k) → detached_from left start who s ≡ s
@@ -73,25 +73,25 @@ module _ (who : Caller) where
 
   module _ (s : Shared) (number : ℕ) where
     -- the least number is detached, and then the rest
-    pub exit-step : Some number ≡ first_number s.attached who.client → after_detaches (detached s who number) who ≡ after_detaches s who
+    pub exit-step : Some number ≡ first_number s.attached who.process → after_detaches (detached s who number) who ≡ after_detaches s who
     exit-step is =
-        let least = first_is_least s.attached who.client number (sym is) in
-        from-first 4096 0 number s least.low least.high (λ k low high. free-of (attachment_at s.attached who.client k) (least.none_before k low high))
+        let least = first_is_least s.attached who.process number (sym is) in
+        from-first 4096 0 number s least.low least.high (λ k low high. free-of (attachment_at s.attached who.process k) (least.none_before k low high))
 
     -- fewer attachments are left
-    pub fewer : IsSome (attachment_at s.attached who.client number) → finite.len (detached s who number).attached < finite.len s.attached
-    fewer there = by (attachment_at s.attached who.client number) refl there
+    pub fewer : IsSome (attachment_at s.attached who.process number) → finite.len (detached s who number).attached < finite.len s.attached
+    fewer there = by (attachment_at s.attached who.process number) refl there
       where
-        by : (o : Option Attachment) → attachment_at s.attached who.client number ≡ o → IsSome o → finite.len (detached s who number).attached < finite.len s.attached
+        by : (o : Option Attachment) → attachment_at s.attached who.process number ≡ o → IsSome o → finite.len (detached s who number).attached < finite.len s.attached
         by None is none = absurd (true≢false (sym none))
         by (Some a) is some =
-            let left = without_attachment s.attached who.client number in
+            let left = without_attachment s.attached who.process number in
             let less = ap (λ (m : Attached). finite.len m) (attached-left s number) in
-            let one = ap (λ (m : Attached). finite.len m) (sym (attached_again s.attached who.client number a is))
-            ∙ finite.len-insert key_total left (key who.client number) a
-            ∙ ap (λ (b : Bool). cond b (finite.len left) (finite.len left + 1)) (ap is_some (detached_here s.attached who.client number)) in
+            let one = ap (λ (m : Attached). finite.len m) (sym (attached_again s.attached who.process number a is))
+            ∙ finite.len-insert key_total left (key who.process number) a
+            ∙ ap (λ (b : Bool). cond b (finite.len left) (finite.len left + 1)) (ap is_some (detached_here s.attached who.process number)) in
             omega arith
 
   -- no attachment is left
-  pub exit-done : (s : Shared) → None ≡ first_number s.attached who.client → s ≡ after_detaches s who
-  exit-done s none = sym (from-none 4096 0 s (λ k low high. first_none s.attached who.client (sym none) k (omega arith)))
+  pub exit-done : (s : Shared) → None ≡ first_number s.attached who.process → s ≡ after_detaches s who
+  exit-done s none = sym (from-none 4096 0 s (λ k low high. first_none s.attached who.process (sym none) k (omega arith)))

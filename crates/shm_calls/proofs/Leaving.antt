@@ -15,7 +15,7 @@ module _ (c : Credentials) (limits : Limits) (shared : Shared) (who : Caller) (a
   put segments = record shared { segments = segments }
 
   abbrev found_by : Option (ℕ × Object Segment) → Plan (Table (Object Segment))
-  found_by o = get_found shared.segments who asked (getting_segment limits who.client size) o
+  found_by o = get_found shared.segments who asked (getting_segment limits who.pid size) o
 
   pub left-found : left_by shared (decision c (get_segment limits shared who asked size)) ≡ shared
   left-found =
@@ -23,7 +23,7 @@ module _ (c : Credentials) (limits : Limits) (shared : Shared) (who : Caller) (a
       (ap (λ o. left_by shared (end_of (on_part put (found_by o)))) (sym is))
 
   -- it ends as it does with that segment
-  pub outcome-found : outcome_of (decision c (get_segment limits shared who asked size)) ≡ outcome_of (decision c (get_found shared.segments who asked (getting_segment limits who.client size) (Some there)))
+  pub outcome-found : outcome_of (decision c (get_segment limits shared who asked size)) ≡ outcome_of (decision c (get_found shared.segments who asked (getting_segment limits who.pid size) (Some there)))
   outcome-found =
       outcome-on c put (found_by (object_of_key shared.segments asked.key))
       ∙ ap (λ (o : Option (ℕ × Object Segment)). outcome_of (decision c (found_by o))) (sym is)

@@ -16,7 +16,7 @@ getting limits shared who asked size = decision who.creds (get_segment limits sh
 abbrev pub getting_found : Limits → Table (Object Segment) → Caller → Get → ℕ → Option (ℕ × Object Segment)
     → Decision (Table (Object Segment))
 getting_found limits t who asked size there =
-    decision who.creds (get_found t who asked (getting_segment limits who.client size) there)
+    decision who.creds (get_found t who asked (getting_segment limits who.pid size) there)
 
 -- shmat, shmdt, and the reads and writes of an attachment
 abbrev pub attaching : Shared → Caller → ℕ → ℕ → Decision Shared

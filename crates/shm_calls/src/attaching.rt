@@ -27,7 +27,7 @@ impl Segments {
         if let Err(rule) = self.permitted(who, id, wanted_by(flags)) {
             return Ok(Err(rule));
         }
-        let Some(number) = self.attached.free_number(who.client()) else {
+        let Some(number) = self.attached.free_number(who.process()) else {
             return Ok(Err(Rule::TooManyAttached));
         };
         self.attach(who, id, flags, number)?;
@@ -38,7 +38,7 @@ impl Segments {
     fn attach(&mut self, who: &Caller, id: u32, flags: u32, number: u32) -> Result<(), Memory>
         requires there { IsSome (segment_at self.old id) }
         requires number { number < 4096 }
-        requires free { attachment_at self.old.attached who.now.client number ≡ None }
+        requires free { attachment_at self.old.attached who.now.process number ≡ None }
         ensures ok { OnOk result (IfSome (segment_at self.old id) (λ segment.
             self.new ≡ with_attached self.old who.entry.now number (attachment_to id flags) segment.contents)) }
         ensures err { OnErr result (self.new ≡ self.old) }
@@ -47,7 +47,7 @@ impl Segments {
             segment: id,
             is_read_only: is_read_only(flags),
         };
-        self.attached.attach(who.client(), number, attachment)?;
+        self.attached.attach(who.process(), number, attachment)?;
         let Some(segment) = self.segments.contents_mut(id) else {
             unreachable!()
         };
@@ -62,7 +62,7 @@ impl Segments {
         ensures outcome { outcome_of (detaching self.old who.entry.now att) ≡ Some result }
         ensures shared { self.new ≡ left_by self.old (detaching self.old who.entry.now att) }
     {
-        if self.attached.get(who.client(), att).is_none() {
+        if self.attached.get(who.process(), att).is_none() {
             return Err(Rule::NotAttached);
         }
         self.detach(who, att);
@@ -74,7 +74,7 @@ impl Segments {
     pub fn exit(&mut self, who: &Caller)
         ensures { self.new ≡ after_detaches self.old who.entry.now }
     {
-        while let Some(number) = self.attached.first(who.client()) {
+        while let Some(number) = self.attached.first(who.process()) {
             self.detach(who, number);
         }
     }
@@ -83,7 +83,7 @@ impl Segments {
     fn detach(&mut self, who: &Caller, number: u32)
         ensures { self.new ≡ detached self.old who.entry.now number }
     {
-        if let Some(attachment) = self.attached.detach(who.client(), number) {
+        if let Some(attachment) = self.attached.detach(who.process(), number) {
             self.leave(who, attachment.segment);
         }
     }

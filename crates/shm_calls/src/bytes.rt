@@ -65,9 +65,9 @@ impl Segments {
     /// What the caller has attached under a number, with its segment.
     fn behind(&self, who: &Caller, att: u32) -> Option<(Attachment, &Object<Segment>)>
         ensures { option_map (λ there. (there.0, there.1.now)) result
-            ≡ behind_number self.now who.entry.now.client att }
+            ≡ behind_number self.now who.entry.now.process att }
     {
-        let attachment = self.attached.get(who.client(), att)?;
+        let attachment = self.attached.get(who.process(), att)?;
         let segment = self.get(attachment.segment)?;
         Some((attachment, segment))
     }

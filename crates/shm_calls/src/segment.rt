@@ -42,7 +42,7 @@ impl Model for Segment {
 impl Segment {
     /// A segment of `size` bytes that are 0, which the caller creates. It takes no memory for them.
     pub fn new(who: &Caller, size: u64) -> Segment
-        ensures { result ≡ new_segment who.entry.now.client size }
+        ensures { result ≡ new_segment who.entry.now.pid size }
     {
         Segment {
             memory: shm_seg::Segment::new(size),

@@ -56,8 +56,8 @@ reserve_in-requires c = λ id sends.
     let there = sender-there c.args.self.now c.args.client c.args.arrival.call id c.requires.waits (ap (λ q. is_at id q) (sym c.sent_to-queue.ensures) ∙ sends) in
     ap (λ (s : State). is_some (queue_at s.queues id)) c.self.view_is ∙ there
 
-pub reserve_row-requires-clause-there : goal.reserve_row-requires-clause-there
-reserve_row-requires-clause-there c = subst (λ (s : State). MayReserve s.sems c.args.arrival.call) (sym c.self.view_is) (operator-there c.args.self.now c.args.client c.args.arrival.call c.requires.waits)
+pub reserve_row-requires : goal.reserve_row-requires
+reserve_row-requires c = record { there = subst (λ (s : State). MayReserve s.sems c.args.arrival.call) (sym c.self.view_is) (operator-there c.args.self.now c.args.client c.args.arrival.call c.requires.waits) }
 
 went_wrong : {T E : Type 0} (r : Result T E) (P : Type 0) → is_err r ≡ true → OnErr r P → P
 went_wrong (Ok x) P bad p = absurd (true≢false (sym bad))

@@ -158,8 +158,8 @@ pub semop_reserved-requires : goal.semop_reserved-requires
 semop_reserved-requires c =
     let b = (goal.at.semop_reserved-requires c).After-deref in
     let held = (is_held b).1 in
-    subst (λ (ops : List SemOper). HasRow c.self.inside.sets c.caller_of-who.result.client c.in-SemOp.id ops) (sym c.as_slice.ensures)
-    (subst (λ k. HasRow c.self.inside.sets k c.in-SemOp.id c.in-SemOp.ops) (sym (ap (λ (w : Caller). w.client) c.caller_of-who.ensures))
+    subst (λ (ops : List SemOper). HasRow c.self.inside.sets c.caller_of-who.result.process c.in-SemOp.id ops) (sym c.as_slice.ensures)
+    (subst (λ k. HasRow c.self.inside.sets k c.in-SemOp.id c.in-SemOp.ops) (sym (ap (λ (w : Caller). w.process) c.caller_of-who.ensures))
     (subst (λ (call : Call). HasRowFor c.self.inside.sets c.args.client call) c.in-SemOp.is held))
 
 -- the list hasn't changed

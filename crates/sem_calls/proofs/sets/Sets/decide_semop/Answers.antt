@@ -29,13 +29,13 @@ returns-in-Err-clause-told c =
     let few : nat_le (length ops) limits.sem_opm ≡ true = grind (arith, c.if-ops-from.false) in
     let asked : wanted_by ops ≡ c.wanted_by.result = sym c.wanted_by.ensures in
     let refused = c.in-Err.ensures.refused (λ set. Passes (are_in set.contents.semaphores ops) SemOutOfSet _
-    ⨾ in_order (trial_checks set.contents.semaphores (adj_of sems.undo who.client c.args.id) [] ops)
+    ⨾ in_order (trial_checks set.contents.semaphores (adj_of sems.undo who.process c.args.id) [] ops)
     (Grant Done (operated sems who c.args.id ops set.contents))) in
     let all : operating limits sems who c.args.id ops ≡ Refused c.in-Err.rule =
     refused-behind (nat_lt 0 (length ops)) _ NoOperations c.in-Err.rule some
     (refused-behind (nat_le (length ops) limits.sem_opm) _ TooManyOperations c.in-Err.rule few
     (ap (λ (w : Want). decision who.creds (permitted (set_at sems c.args.id) w (λ set. Passes (are_in set.contents.semaphores ops) SemOutOfSet _
-    ⨾ in_order (trial_checks set.contents.semaphores (adj_of sems.undo who.client c.args.id) [] ops)
+    ⨾ in_order (trial_checks set.contents.semaphores (adj_of sems.undo who.process c.args.id) [] ops)
     (Grant Done (operated sems who c.args.id ops set.contents))))) asked ∙ refused)) in
     sym (ap (λ (d : Decision Sems). without_answer d) all)
 
@@ -49,8 +49,8 @@ returns-clause-told c =
     let few : nat_le (length ops) c.args.limits.now.sem_opm ≡ true = grind (arith, c.if-ops-from.false) in
     let there : set_at sems c.args.id ≡ Some set = search rules in
     let allowed : None ≡ denial who.creds (Permission set.perm (wanted_by ops)) = search rules in
-    let trial : c.try_on.result ≡ trial_on set.contents.semaphores (adj_of sems.undo c.client.result c.args.id) ops =
-    told-there (set_at sems c.args.id) set (λ (s : Object SemSet). c.try_on.result ≡ trial_on s.contents.semaphores (adj_of sems.undo c.client.result c.args.id) ops) there c.try_on.ensures.told in
+    let trial : c.try_on.result ≡ trial_on set.contents.semaphores (adj_of sems.undo c.process.result c.args.id) ops =
+    told-there (set_at sems c.args.id) set (λ (s : Object SemSet). c.try_on.result ≡ trial_on s.contents.semaphores (adj_of sems.undo c.process.result c.args.id) ops) there c.try_on.ensures.told in
     c.end_by.ensures
-    ∙ ap (λ (t : Trial). end_by t) (trial ∙ ap (λ (client : ℕ). trial_on set.contents.semaphores (adj_of sems.undo client c.args.id) ops) c.client.ensures.client)
+    ∙ ap (λ (t : Trial). end_by t) (trial ∙ ap (λ (client : ℕ). trial_on set.contents.semaphores (adj_of sems.undo client c.args.id) ops) c.process.ensures)
     ∙ sym (told sems who c.args.id ops c.args.limits.now set some few there allowed (sym c.if-not-are_in.ensures))

@@ -8,7 +8,7 @@ use Rattle.sem_calls.proofs.sets.Sets.exit.Given as goal
 abbrev pub invariant-loop-id : goal.invariant-loop-id
 invariant-loop-id l = record {
   rest : after_exit (sems_of l.self) l.who ≡ after_exit (sems_of l.fn.self) l.who;
-  rows : (client set : ℕ) → (client ≡ l.who.client → ⊥) → row_at l.self client set ≡ row_at l.fn.self client set;
+  rows : (client set : ℕ) → (client ≡ l.who.process → ⊥) → row_at l.self client set ≡ row_at l.fn.self client set;
 }
 
 -- the rows that are left

@@ -3,7 +3,7 @@ use Rattle.std.specs.Prelude.{◌==◌, slice_set}
 use Rattle.std.proofs.lemmas.Int.{to_z-of_z}
 use Rattle.sem_set.specs.declared.set.Semaphore.{Semaphore}
 use Rattle.sem_set.specs.Sets.{set_to}
-use Rattle.ipc_model.specs.State.{SemSet, pid_of}
+use Rattle.ipc_model.specs.State.{SemSet}
 use Rattle.ipc_model.specs.Semaphores.{with_values}
 use Rattle.sem_calls.specs.WithRows.{sems_of}
 use Rattle.sem_calls.proofs.Renewing.{there-with, told-of, valued}
@@ -19,6 +19,6 @@ returns-clause-sems c =
     let old : SemSet = record { semaphores = c.set.inside.semaphores; op_time = c.set.inside.op_time } in
     let there = ap Some c.set.view_is ∙ c.in-Some.ensures.value in
     told-of c.self.inside.sets c.self.inside.undo now c.self.view_is c.args.id old there
-    (λ (ss : List Semaphore). sems_of (record { sets = c.set_time.new.self; undone = c.clear.new.self }) ≡ with_values (sems_of now) who.now c.args.id (slice_set ss c.args.num (set_to (pid_of who.client) c.args.value)) (λ n. n == c.args.num))
+    (λ (ss : List Semaphore). sems_of (record { sets = c.set_time.new.self; undone = c.clear.new.self }) ≡ with_values (sems_of now) who.now c.args.id (slice_set ss c.args.num (set_to who.pid c.args.value)) (λ n. n == c.args.num))
     (valued c.self.inside.sets c.self.inside.undo now c.self.view_is c.args.id old there c.set_time.new.self c.clear.new.self (λ n. n == c.args.num) _ who.now _ _ c.now.ensures
     (c.set_val.ensures ∙ (λ i. slice_set old.semaphores c.args.num (set_to (c.pid.ensures i) (to_z-of_z w32 c.args.value c.ranges.value i)))) c.set_time.ensures c.clear.ensures)

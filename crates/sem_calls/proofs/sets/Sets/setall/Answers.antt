@@ -7,7 +7,7 @@ use Rattle.ipc_objects.specs.declared.object.Object.{Object}
 use Rattle.ipc_model.specs.Decision.{Decision, Refused, left_by, outcome_of}
 use Rattle.ipc_model.specs.Plan.{Grant, Passes, Plan, ◌⨾◌}
 use Rattle.ipc_model.specs.Semaphores.{with_values}
-use Rattle.ipc_model.specs.State.{Caller, SemSet, Sems, pid_of}
+use Rattle.ipc_model.specs.State.{Caller, SemSet, Sems}
 use Rattle.sem_set.specs.Sets.{is_value, set_to}
 use Rattle.sem_calls.specs.Calls.{setting_all}
 use Rattle.sem_calls.specs.WithRows.{sems_of}
@@ -17,7 +17,7 @@ use Rattle.sem_calls.proofs.sets.Sets.setall.Goals as goal
 -- what is checked of the set, and what is granted
 abbrev behind_values : Sems → Caller → ℕ → List ℤ → Object SemSet → Plan Sems
 behind_values sems who id values set = Passes (length values == length set.contents.semaphores) BadSize _ ⨾ Grant Done
-    (with_values sems who.now id (map (set_to (pid_of who.client)) values) (λ _. true))
+    (with_values sems who.now id (map (set_to who.pid) values) (λ _. true))
 
 pub returns-in_err-set-clause-outcome : goal.returns-in_err-set-clause-outcome
 returns-in_err-set-clause-outcome c =

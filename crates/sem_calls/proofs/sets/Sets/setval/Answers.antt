@@ -6,7 +6,7 @@ use Rattle.ipc_objects.specs.declared.object.Object.{Object}
 use Rattle.ipc_model.specs.Decision.{Decision, Refused, left_by, outcome_of}
 use Rattle.ipc_model.specs.Plan.{Grant, Passes, Plan, ◌⨾◌}
 use Rattle.ipc_model.specs.Semaphores.{with_values}
-use Rattle.ipc_model.specs.State.{Caller, SemSet, Sems, pid_of}
+use Rattle.ipc_model.specs.State.{Caller, SemSet, Sems}
 use Rattle.sem_set.specs.Sets.{is_value, set_to}
 use Rattle.sem_calls.specs.Calls.{setting}
 use Rattle.sem_calls.specs.WithRows.{sems_of}
@@ -16,7 +16,7 @@ use Rattle.sem_calls.proofs.sets.Sets.setval.Goals as goal
 -- what is checked of the set, and what is granted
 abbrev behind_value : Sems → Caller → ℕ → ℕ → ℤ → Object SemSet → Plan Sems
 behind_value sems who id num value set = Passes (nat_lt num (length set.contents.semaphores)) BadSem _ ⨾ Grant Done (with_values sems who.now id
-    (slice_set set.contents.semaphores num (set_to (pid_of who.client) value)) (λ n. n == num))
+    (slice_set set.contents.semaphores num (set_to who.pid value)) (λ n. n == num))
 
 pub returns-in_err-set-clause-outcome : goal.returns-in_err-set-clause-outcome
 returns-in_err-set-clause-outcome c =

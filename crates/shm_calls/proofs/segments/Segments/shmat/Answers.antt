@@ -12,7 +12,7 @@ use Rattle.shm_calls.specs.Calls.{attaching}
 use Rattle.shm_calls.proofs.segments.Segments.shmat.Goals as goal
 
 abbrev number_free : Shared → Caller → ℕ → ℕ → Object Segment → Plan Shared
-number_free shared who id flags segment = found (free_number shared.attached who.client) TooManyAttached _ (λ number.
+number_free shared who id flags segment = found (free_number shared.attached who.process) TooManyAttached _ (λ number.
     Grant (Attached number) (with_attached shared who number (attachment_to id flags) segment.contents))
 
 pub returns-in-Err-clause-outcome : goal.returns-in-Err-clause-outcome
