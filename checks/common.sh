@@ -102,3 +102,22 @@ with_crate() {
 with_program() {
     with_crate ipcsh_cli "$@"
 }
+
+# without_reader COMMAND..: its standard output is a pipe that nobody reads any more.
+without_reader() {
+    python3 -c '
+import os, subprocess, sys
+ends = os.pipe()
+os.close(ends[0])
+sys.exit(subprocess.run(sys.argv[1:], stdout=ends[1]).returncode)' "$@"
+}
+
+# fails_to_write NAME COMMAND: the status is 2, and on standard error is that it can't write, under this name, and nothing else.
+fails_to_write() {
+    status=0
+    eval "$2" 2>"$scratch/err" || status=$?
+    why="status $status, not 2"
+    [ "$status" = 2 ] || return 1
+    echo "$1: write failed" >"$scratch/wanted"
+    same 'its standard error' "$scratch/wanted" "$scratch/err"
+}

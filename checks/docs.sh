@@ -18,7 +18,7 @@ check_docs() {
 
 docs_checks() {
     mkdir "$scratch/blocks"
-    cut_blocks $documents
+    cut_blocks "$scratch/blocks" $documents
     script=
     for block in "$scratch"/blocks/*.kind; do
         block=${block%.kind}
@@ -136,9 +136,11 @@ threads_are_told() {
     [ ! -s "$scratch/shown" ]
 }
 
-# cut_blocks FILE..: of each block a file NUMBER.place, NUMBER.kind and NUMBER.body in $scratch/blocks.
+# cut_blocks FOLDER FILE..: of each block a file NUMBER.place, NUMBER.kind and NUMBER.body in the folder.
 cut_blocks() {
-    awk -v folder="$scratch/blocks" '
+    folder=$1
+    shift
+    awk -v folder="$folder" '
         function begin(kind) {
             block = sprintf("%s/%04d", folder, ++count)
             print FILENAME ":" FNR >(block ".place")

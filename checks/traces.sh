@@ -44,34 +44,15 @@ random_damage() {
 broken_streams() {
     trace=examples/traces/undo.strace
     for option in '' --script; do
-        attempt "a full disk $option" fails_to_write "./ipcsh_trace $option $trace >/dev/full"
-        attempt "standard output closed $option" fails_to_write "./ipcsh_trace $option $trace >&-"
-        attempt "a reader that has gone $option" fails_to_write "without_reader ./ipcsh_trace $option $trace"
+        attempt "a full disk $option" fails_to_write ipcsh_trace "./ipcsh_trace $option $trace >/dev/full"
+        attempt "standard output closed $option" fails_to_write ipcsh_trace "./ipcsh_trace $option $trace >&-"
+        attempt "a reader that has gone $option" fails_to_write ipcsh_trace "without_reader ./ipcsh_trace $option $trace"
     done
-    attempt '--help on a full disk' fails_to_write './ipcsh_trace --help >/dev/full'
+    attempt '--help on a full disk' fails_to_write ipcsh_trace './ipcsh_trace --help >/dev/full'
     attempt 'a reader that takes one line' one_line_is_read
     attempt 'no stream at all' ends_alone
     attempt 'standard input closed' says 2 '^ipcsh_trace: standard input: Bad file descriptor$' <&-
     attempt 'standard input a folder' says 2 '^ipcsh_trace: standard input: Is a directory$' <checks
-}
-
-# without_reader COMMAND..: its standard output is a pipe that nobody reads any more.
-without_reader() {
-    python3 -c '
-import os, subprocess, sys
-ends = os.pipe()
-os.close(ends[0])
-sys.exit(subprocess.run(sys.argv[1:], stdout=ends[1]).returncode)' "$@"
-}
-
-# fails_to_write COMMAND: the status is 2, and this alone is on standard error.
-fails_to_write() {
-    status=0
-    eval "$1" 2>"$scratch/err" || status=$?
-    why="status $status, not 2"
-    [ "$status" = 2 ] || return 1
-    echo 'ipcsh_trace: write failed' >"$scratch/wanted"
-    same 'its standard error' "$scratch/wanted" "$scratch/err"
 }
 
 one_line_is_read() {

@@ -37,7 +37,7 @@ def escaped(text):
 def pointed_to(words, target):
     """What stands in the place of a link: a page that is a man page too, another document's file, or the link's words."""
     name = os.path.basename(target.partition("#")[0])
-    pages = {"PROFILE.md": "sysvipc-rules(7)", "LANGUAGE.md": "ipcsh(5)", "IPCWHO.md": "ipcwho(1)", "IPCRUN.md": "ipcrun(1)", "TRACE.md": "ipcsh_trace(1)", "EXPLAIN.md": "ipcsh_explain(1)", "JOURNAL.md": "ipcsh_journal(1)"}
+    pages = {"PROFILE.md": "sysvipc-rules(7)", "LANGUAGE.md": "ipcsh(5)", "IPCWHO.md": "ipcwho(1)", "IPCRUN.md": "ipcrun(1)", "TRACE.md": "ipcsh_trace(1)", "EXPLAIN.md": "ipcsh_explain(1)", "JOURNAL.md": "ipcsh_journal(1)", "FMT.md": "ipcsh_fmt(1)"}
     if name in pages:
         return pages[name]
     return "docs/" + name if words + ".md" == name else words
@@ -66,7 +66,7 @@ def guarded(line):
 
 
 def cells(line):
-    return [it.strip() for it in re.split(r"(?<!\\)\|", line.strip().strip("|"))]
+    return [it.strip().replace("\\|", "|") for it in re.split(r"(?<!\\)\|", line.strip().strip("|"))]
 
 
 def table(lines):
@@ -173,7 +173,7 @@ def command():
         ("What it isn't", readme["What it isn't"]),
         ("Exit status", language["How the program ends"]),
         ("Environment", language["Before the program is built"]),
-        ("See also", "ipcsh(5), sysvipc-rules(7), ipcsh_explain(1), ipcwho(1), ipcrun(1), ipcsh_trace(1), ipcsh_journal(1), ipcs(1), ipcmk(1), ipcrm(1), svipc(7)"),
+        ("See also", "ipcsh(5), sysvipc-rules(7), ipcsh_fmt(1), ipcsh_explain(1), ipcwho(1), ipcrun(1), ipcsh_trace(1), ipcsh_journal(1), ipcs(1), ipcmk(1), ipcrm(1), svipc(7)"),
     ]
     return page("ipcsh", 1, "run scripts of System V IPC calls, and tell why each is refused", parts)
 
@@ -226,7 +226,12 @@ def journal():
     return tool("ipcsh_journal", "docs/JOURNAL.md", "the journal of a script as text, and its replay", words, "ipcsh(1), ipcsh(5), sysvipc-rules(7)")
 
 
-PAGES = {"ipcsh.1": command, "ipcsh.5": language, "sysvipc-rules.7": rules, "ipcwho.1": who, "ipcrun.1": run, "ipcsh_trace.1": trace, "ipcsh_explain.1": explain, "ipcsh_journal.1": journal}
+def fmt():
+    words = ["ipcsh_fmt [--check] [FILE..]", "ipcsh_fmt --help", "ipcsh_fmt --version"]
+    return tool("ipcsh_fmt", "docs/FMT.md", "make a script for ipcsh(1) of one with names, quotes and units", words, "ipcsh(1), ipcsh(5), ipcsh_explain(1), passwd(5), group(5)")
+
+
+PAGES = {"ipcsh.1": command, "ipcsh.5": language, "sysvipc-rules.7": rules, "ipcwho.1": who, "ipcrun.1": run, "ipcsh_trace.1": trace, "ipcsh_explain.1": explain, "ipcsh_journal.1": journal, "ipcsh_fmt.1": fmt}
 
 
 def main():

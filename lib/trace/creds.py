@@ -4,9 +4,9 @@ Whether such a call is granted isn't decided here: what the kernel answered is f
 
 import re
 
+from c_words import BITS
 from values import NotTaken, number32, numbers, parts
 
-BITS = {"SETGID": 6, "SETUID": 7, "IPC_OWNER": 15, "SYS_ADMIN": 21, "SYS_RESOURCE": 24}
 CAPABILITIES = tuple(BITS)
 # How many arguments each call has that reads credentials, and each that changes them.
 READERS = {"getuid": 0, "geteuid": 0, "getgid": 0, "getegid": 0, "getresuid": 3, "getresgid": 3, "getgroups": 2, "capget": 2}

@@ -8,7 +8,8 @@ import shutil
 import subprocess
 import tempfile
 
-from creds import BITS, Creds
+from c_words import BITS
+from creds import Creds
 from sessions import Stopped
 
 CALLS = "trace=%ipc,%creds,execve,?clone,?clone3,?fork,?vfork"

@@ -1,7 +1,6 @@
 """Says of a trace of strace whether the kernel answered what the definitions give: ./ipcsh_trace, whose --help has the words."""
 
 import argparse
-import contextlib
 import os
 import pathlib
 import subprocess
@@ -17,6 +16,7 @@ import plan as plans
 import runs
 import sessions
 from creds import CAPABILITIES, Creds
+from streams import write_error, write_out
 
 LIMITS = {"slots": 32000, "shmmax": 2**30}
 NAMES = ("slots", "first-seq", "msgmax", "msgmnb", "semmsl", "semopm", "shmmax")
@@ -30,26 +30,8 @@ class Words(argparse.ArgumentParser):
         sys.exit(3)
 
 
-def write_error(text):
-    """Writes to standard error, where that can be written."""
-    with contextlib.suppress(OSError, AttributeError):
-        sys.stderr.write(text)
-        sys.stderr.flush()
-
-
 def complain(text):
     write_error(f"ipcsh_trace: {text}\n")
-
-
-def write_out(text):
-    """Writes to standard output without a buffer, and says whether all of it was taken."""
-    rest = text.encode("utf-8", "surrogateescape")
-    try:
-        while rest:
-            rest = rest[os.write(sys.stdout.fileno(), rest) :]
-    except (OSError, AttributeError):
-        return False
-    return True
 
 
 def words(given=None):
@@ -223,7 +205,7 @@ def main():
         complain(why)
         return {lines.BadFile: 2, runs.BadLine: 3, sessions.Stopped: 70}[type(why)]
     told = run.script if given.script else [*verdict_lines(plan, run), last_line(plan, run)]
-    if not write_out("".join(f"{it}\n" for it in told)):
+    if not write_out("".join(f"{it}\n" for it in told).encode("utf-8", "surrogateescape")):
         complain("write failed")
         return 2
     return 1 if not given.script and any(it[0] is False for it in run.verdicts.values()) else 0

@@ -3,11 +3,9 @@
 import functools
 import re
 
-NUMBERS = {"NULL": 0, "IPC_PRIVATE": 0, "IPC_CREAT": 0o1000, "IPC_EXCL": 0o2000, "IPC_NOWAIT": 0o4000}
-NUMBERS.update({"MSG_NOERROR": 0o10000, "MSG_EXCEPT": 0o20000, "MSG_COPY": 0o40000, "SEM_UNDO": 0o10000})
-NUMBERS.update({"SHM_RDONLY": 0o10000, "SHM_RND": 0o20000, "SHM_REMAP": 0o40000, "SHM_EXEC": 0o100000})
-NUMBERS.update({"SHM_HUGETLB": 0o4000, "SHM_NORESERVE": 0o10000, "SHM_DEST": 0o1000, "SHM_LOCKED": 0o2000})
-ESCAPES = {"n": 10, "t": 9, "r": 13, "v": 11, "f": 12, "a": 7, "b": 8, "e": 27, "\\": 92, '"': 34}
+from c_words import FLAGS, unescaped
+
+NUMBERS = {"NULL": 0, "IPC_PRIVATE": 0, **FLAGS, "SHM_DEST": 0o1000, "SHM_LOCKED": 0o2000}
 OPENING, CLOSING = "([{", ")]}"
 STRING = re.compile(r'"(?:[^"\\]|\\.)*"(?:\.\.\.)?', re.S)
 OCTAL, DECIMAL, HEX = re.compile(r"-?0[0-7]*"), re.compile(r"-?[1-9][0-9]*"), re.compile(r"-?0x[0-9a-fA-F]+")
@@ -34,19 +32,6 @@ class Text:
     def __init__(self, word):
         self.is_cut = word.endswith("...")
         self.bytes = unescaped(word.rstrip(".")[1:-1])
-
-
-def unescaped(body):
-    """The bytes of a C string's body."""
-    found = bytearray()
-    for it in re.finditer(r"\\x([0-9a-fA-F]{1,2})|\\([0-7]{1,3})|\\(.)|(.)", body, re.S):
-        if it[1]:
-            found.append(int(it[1], 16))
-        elif it[2]:
-            found.append(int(it[2], 8) & 255)
-        else:
-            found.append(ESCAPES.get(it[3], ord(it[3][0]) & 255) if it[3] else ord(it[4]) & 255)
-    return bytes(found)
 
 
 def parts(text):
