@@ -163,13 +163,21 @@ def page(name, number, about, parts):
     return "\n".join(said) + "\n"
 
 
+def commands():
+    """The help of each command of lib/front."""
+    folder = "lib/front/help"
+    names = sorted(os.listdir(os.path.join(TOP, folder)))
+    return "\n\n".join(f"### ipcsh {name}\n\n```text\n{document(os.path.join(folder, name))}```" for name in names)
+
+
 def command():
     readme, language = sections(document("README.md")), sections(document("docs/LANGUAGE.md"))
     about = readme[""].split("\n\n", 1)[1].split("\n\nIt is for you")[0]
     parts = [
-        ("Synopsis", "```text\nipcsh [threads] < SCRIPT\nipcsh --help\nipcsh --version\n```"),
+        ("Synopsis", "```text\nipcsh [threads] < SCRIPT\nipcsh COMMAND [WORD..]\nipcsh --help\nipcsh --version\n```"),
         ("Description", about + "\n\nThe language of scripts is in ipcsh(5), and the rules of behaviour are in sysvipc\\-rules(7).".replace("\\", "")),
         ("Example", readme["An owner who is denied"].split("\n\n[examples/]")[0]),
+        ("Commands", commands()),
         ("What it isn't", readme["What it isn't"]),
         ("Exit status", language["How the program ends"]),
         ("Environment", language["Before the program is built"]),

@@ -1,0 +1,140 @@
+"""What each command does, given its options and its other words. It gives the status."""
+
+import io
+import os
+import shutil
+
+import rules
+from programs import Fault, answer, become, carried_out, each, read, say, shown
+from words import Usage, count, identifier, is_number, kind, only, pids, written
+
+
+def run(options, files):
+    return each("run", "ipcsh", ["threads"] if options else [], files)
+
+
+def explain(options, files):
+    if options:
+        count(files, 0, 1, "one script with --svg")
+    words = [f"--svg={value}" for _, value in options]
+    return each("explain", "ipcsh_explain", words, files)
+
+
+def why(options, words):
+    count(words, 2, 3, "FILE LINE or PID KIND ID")
+    if len(words) == 2:
+        only(options, None, "FILE LINE")
+        return why_line(*words)
+    return carried_out("ipcwho", [*written(options), "--why", *pids(words[:1]), kind(words[1]), identifier(words[2])])
+
+
+def why_line(file, number):
+    """Prints the rows of a line with their notes: those that the script has more with this line than before it."""
+    if not is_number(number) or int(number) == 0:
+        raise Usage(f"'{number}' is no line")
+    lines = lines_of(read(file))
+    if int(number) > len(lines):
+        raise Fault(f"{shown(file)}: it has no line {number}", 1)
+    rows = explained(lines)
+    before, until = (len(explained(lines[:end], True)) for end in (int(number) - 1, int(number)))
+    if before == until:
+        raise Fault(f"{shown(file)}: line {number} makes no call", 1)
+    say(b"".join([b"line %d: %b\n" % (int(number), lines[int(number) - 1].strip()), *rows[before:until]]))
+    return 0
+
+
+def lines_of(text):
+    return io.BytesIO(text).readlines()
+
+
+def explained(lines, is_quiet=False):
+    """The rows of a script, each with the notes below it."""
+    return blocks(answer("ipcsh_explain", [], b"".join(lines), is_quiet)[0], b"    ")
+
+
+def blocks(text, indent):
+    """The lines of a text, each with those below it that are indented so."""
+    found = []
+    for line in lines_of(text):
+        if line.startswith(indent) and found:
+            found[-1] += line
+        else:
+            found.append(line)
+    return found
+
+
+def who(options, words):
+    script = dict(options).get("--script")
+    if script is not None:
+        only(options, "--script", "--script")
+        count(words, 2, 2, "KIND ID")
+        return each("who", "ipcsh_explain", ["--who", kind(words[0]), identifier(words[1])], [script])
+    if not words or is_number(words[0]):
+        return carried_out("ipcwho", [*written(options), *pids(words)])
+    count(words, 1, 2, "KIND ID")
+    return who_at(options, kind(words[0]), *map(identifier, words[1:]))
+
+
+def who_at(options, name, number=None):
+    """Prints what ipcwho says of the objects of a kind, or of one."""
+    text, status = answer("ipcwho", written(options))
+    head = f"{name} {number} " if number else f"{name} "
+    found = [it for it in blocks(text, b"  ") if it.startswith(head.encode())]
+    if number and not found:
+        raise Fault(f"there is no {name} {number}", 1)
+    say(b"".join(found))
+    return status
+
+
+def orphans(options, words):
+    return carried_out("ipcwho", [*written(options), "--orphans", *pids(words)])
+
+
+def execute(options, words):
+    if not words:
+        raise Usage("it wants a PROGRAM")
+    if options:
+        empty(options[-1][1])
+    become("ipcrun", [*(options[-1] if options else ["--"]), *words])
+
+
+def empty(file):
+    """Makes a file empty, or tells why it can't be written."""
+    try:
+        open(file, "wb").close()
+    except OSError as why_not:
+        raise Fault(f"{file}: {why_not.strerror}") from why_not
+
+
+def record(options, words):
+    if not words:
+        raise Usage("it wants a PROGRAM")
+    if not shutil.which(words[0]):
+        is_there = "/" in words[0] and os.path.exists(words[0])
+        raise Fault(f"'{words[0]}' is no program that can be run", 126) if is_there else Fault(f"there is no program '{words[0]}'", 127)
+    return carried_out("ipcsh_trace", [*written(options), "--record", *words])
+
+
+def trace(options, files):
+    if "-" in files:
+        count(files, 1, 1, "- alone")
+        files = []
+    return carried_out("ipcsh_trace", [*written(options), "--", *files])
+
+
+def journal(_, files):
+    return each("journal", "ipcsh_journal", [], files)
+
+
+def replay(_, files):
+    return each("replay", "ipcsh_journal", ["--replay"], files)
+
+
+def rule(_, words):
+    text = "\n\n".join(map(rules.text_of, words)) if words else rules.list_text()
+    say(f"{text}\n".encode())
+    return 0
+
+
+def fmt(options, files):
+    return carried_out("ipcsh_fmt", [*written(options), "--", *files])
