@@ -19,7 +19,7 @@ use Rattle.ipc_ids.specs.Table.{Table, next_id}
 use Rattle.ipc_objects.specs.declared.object.Object.{Object}
 use Rattle.sem_set.specs.declared.set.Semaphore.{Semaphore}
 use Rattle.shm_seg.specs.Attachments.{free_number}
-use Rattle.ipc_model.specs.State.{Caller, Queue, Queues, Segment, SemSet, Sems, Shared, State, caller, pid_at}
+use Rattle.ipc_model.specs.State.{Caller, Queue, Queues, Segment, SemSet, Sems, Shared, State, caller, pid_at, process_at}
 use Rattle.ipc_model.specs.Plan.{IsPlain, Plan, found, in_order, needs_in, on_part}
 use Rattle.ipc_model.specs.Controls.{perm_of, stat_object, status_of}
 use Rattle.ipc_model.specs.Decide.{get_waiting, is_negative, is_zero, needs, part_plan}
@@ -128,7 +128,7 @@ module _ (s : State) (client : ℕ) where
       ∙ segment-needs s.shared.segments (caller s client) asked s.limits size (object_of_key s.shared.segments key)
   needed (ShmAt id flags) =
       needs-on (λ shared. record s { shared = shared }) (attach s.shared (caller s client) id flags)
-      ∙ found-needs (segment_at s.shared id) BadId _ _ (wanted_to_attach flags) (λ o. o.perm) (λ segment. ap (λ ns. Permission segment.perm (wanted_to_attach flags) ∷ ns) (no-needs (free_number s.shared.attached client) TooManyAttached _ _ (λ number. refl)))
+      ∙ found-needs (segment_at s.shared id) BadId _ _ (wanted_to_attach flags) (λ o. o.perm) (λ segment. ap (λ ns. Permission segment.perm (wanted_to_attach flags) ∷ ns) (no-needs (free_number s.shared.attached (process_at s client)) TooManyAttached _ _ (λ number. refl)))
       ∙ for-id (wanted_to_attach flags) kinds.Segment id (perm_of s kinds.Segment id)
   needed (ShmDt att) = tt
   needed (ShmRead att offset len) = tt

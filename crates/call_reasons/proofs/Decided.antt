@@ -28,7 +28,7 @@ use Rattle.ipc_model.specs.Decision.{Decision, Outcome, outcome_of}
 use Rattle.ipc_model.specs.Decision as decisions
 use Rattle.ipc_model.specs.Plan.{Grant, decision, in_order, unless}
 use Rattle.ipc_model.specs.Semaphores.{operate, operate_found, operated, set_at, trial_checks, wanted_by}
-use Rattle.ipc_model.specs.State.{Caller, Limits, SemSet, Sems, State, caller, creds_at}
+use Rattle.ipc_model.specs.State.{Caller, Limits, SemSet, Sems, State, caller, creds_at, process_at}
 use Rattle.ipc_model.proofs.Plans.{outcome-on}
 use Rattle.sem_calls.proofs.Trying.{by_trial, tried}
 use Rattle.call_reasons.specs.declared.trials.Stopped.{Stopped}
@@ -81,7 +81,7 @@ module _ (s : State) (client id : ℕ) (ops : List SemOper) (set : Object SemSet
   sems = set.contents.semaphores
 
   abbrev adj : ℕ → ℤ
-  adj = adj_of s.sems.undo client id
+  adj = adj_of s.sems.undo (process_at s client) id
 
   abbrev who : Caller
   who = caller s client
@@ -99,9 +99,9 @@ module _ (s : State) (client id : ℕ) (ops : List SemOper) (set : Object SemSet
   tried-here : (inside : Bool) → inside ≡ true → option_map (λ t. t.rule) (if inside && list_all is_value (integers_of sems) then refused_from sems adj [] ops else None) ≡ option_map (λ t. t.rule) (refused_from sems adj [] ops)
   tried-here inside e = ap (λ (b : Bool). option_map (λ t. t.rule) (if b then refused_from sems adj [] ops else None)) (λ i. e i && values i)
 
-  told-here : (are_in sems ops ≡ true) × (refusal_of (trial_on sems adj ops) ≡ Some rule) → option_map (λ t. t.rule) (refused_at s.sems client id ops) ≡ Some rule
+  told-here : (are_in sems ops ≡ true) × (refusal_of (trial_on sems adj ops) ≡ Some rule) → option_map (λ t. t.rule) (refused_at s.sems (process_at s client) id ops) ≡ Some rule
   told-here both =
-      ap (λ (o : Option (Object SemSet)). option_map (λ t. t.rule) (option_and_then (λ x. refused_by (adj_of s.sems.undo client id) ops x.contents.semaphores) o)) there
+      ap (λ (o : Option (Object SemSet)). option_map (λ t. t.rule) (option_and_then (λ x. refused_by (adj_of s.sems.undo (process_at s client) id) ops x.contents.semaphores) o)) there
       ∙ tried-here (list_all (λ o. nat_lt o.num (length (integers_of sems))) ops) (ap (λ (n : ℕ). list_all (λ o. nat_lt o.num n) ops) (as-long sems) ∙ both.0)
       ∙ same-rule 0 sems adj [] ops
       ∙ both.1

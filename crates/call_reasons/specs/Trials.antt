@@ -18,7 +18,7 @@ use Rattle.ipc_model.specs.Decide.{decide_alive}
 use Rattle.ipc_model.specs.Decision as decisions
 use Rattle.ipc_objects.specs.declared.object.Object.{Object}
 use Rattle.ipc_model.specs.Semaphores.{set_at}
-use Rattle.ipc_model.specs.State.{SemSet, Sems, State}
+use Rattle.ipc_model.specs.State.{SemSet, Sems, State, process_at}
 use Rattle.call_reasons.specs.declared.trials.Stopped.{Stopped}
 
 -- an operation that meets this, where it is refused; else what is told of the later ones, unless the call waits at it
@@ -51,14 +51,14 @@ integers_of sems = map (λ s. pos s.value) sems
 abbrev pub refused_by : (ℕ → ℤ) → List SemOper → List Semaphore → Option Stopped
 refused_by adj ops sems = if can_try_in (integers_of sems) ops then refused_from sems adj [] ops else None
 
--- the operation at which the operations of a client on the set of an identifier are refused
+-- the operation at which the operations of a process on the set of an identifier are refused
 abbrev pub refused_at : Sems → ℕ → ℕ → List SemOper → Option Stopped
-refused_at sems client id ops =
-    option_and_then (λ set. refused_by (adj_of sems.undo client id) ops set.contents.semaphores) (set_at sems id)
+refused_at sems process id ops =
+    option_and_then (λ set. refused_by (adj_of sems.undo process id) ops set.contents.semaphores) (set_at sems id)
 
 abbrev pub refused_in : State → ℕ → Call → Option Stopped
-refused_in s client (SemOp id ops) = refused_at s.sems client id ops
-refused_in s client (SemTimedOp id ops timeout) = refused_at s.sems client id ops
+refused_in s client (SemOp id ops) = refused_at s.sems (process_at s client) id ops
+refused_in s client (SemTimedOp id ops timeout) = refused_at s.sems (process_at s client) id ops
 refused_in s client call = None
 
 -- a rule by which a trial refuses

@@ -4,6 +4,7 @@ ghost use Rattle.std.specs.Prelude.{◌≡◌, ◌<◌, ◌==◌, ◌&&◌, ◌-
 ghost use Rattle.std.specs.Prelude.{nat_lt, option_map, if◌then◌else◌};
 ghost use Rattle.std.specs.List.{AllByRecursion, list_all};
 ghost use Rattle.ipc_history.specs.History.{run};
+ghost use Rattle.ipc_model.specs.State.{process_at};
 ghost use Rattle.sem_set.specs.Sets.{is_value as is_value_in, set_to, value_of};
 ghost use Rattle.sem_set.specs.Trials.{adj_in, are_in as are_numbers_of, is_semadj, trial_on, undoes as undoes_at};
 ghost use Rattle.sem_undo.specs.Entries.{adj_of};
@@ -56,7 +57,7 @@ fn refused_at(
     id: u32,
     ops: &[SemOper],
 ) -> Result<Option<Stopped>, Memory>
-    ensures { IfOk result (λ stopped. stopped ≡ refused_at_in (run space.now).sems client id ops.now) }
+    ensures { IfOk result (λ stopped. stopped ≡ refused_at_in (run space.now).sems (process_at (run space.now) client) id ops.now) }
 {
     let values = space.values_of(id)?;
     let alloc = *values.allocator();
@@ -79,7 +80,7 @@ fn try_copy(
 ) -> Result<Option<Stopped>, Memory>
     requires { can_try_in values.now ops.now ≡ true }
     ensures { IfOk result (λ stopped. stopped
-        ≡ refused_from (map (set_to 0) values.now) (adj_of (run space.now).sems.undo client id) [] ops.now) }
+        ≡ refused_from (map (set_to 0) values.now) (adj_of (run space.now).sems.undo (process_at (run space.now) client) id) [] ops.now) }
 {
     let mut set = SemSet::new(alloc, values.len())?;
     set.set_all(values, 0);
@@ -98,7 +99,7 @@ fn try_in(
 ) -> Option<Stopped>
     requires numbers { are_numbers_of set.old ops.now ≡ true }
     requires len { length row.old ≡ length set.old }
-    ensures { result ≡ refused_from set.old (adj_of (run space.now).sems.undo client id) [] ops.now }
+    ensures { result ≡ refused_from set.old (adj_of (run space.now).sems.undo (process_at (run space.now) client) id) [] ops.now }
 {
     fill(row, space, client, id, ops);
     refused_on(set, row, ops)
@@ -137,7 +138,7 @@ fn fill(row: &mut [i32], space: &Space, client: u32, id: u32, ops: &[SemOper])
     requires { list_all (λ o. nat_lt o.num (length row.old)) ops.now ≡ true }
     ensures len { length row.new ≡ length row.old }
     ensures adjs { AllByRecursion
-        (λ o. adj_in row.new o.num ≡ adj_of (run space.now).sems.undo client id o.num) ops.now }
+        (λ o. adj_in row.new o.num ≡ adj_of (run space.now).sems.undo (process_at (run space.now) client) id o.num) ops.now }
 {
     for oper in ops {
         row[usize::from(oper.num)] = space.semadj_of(client, id, oper.num);

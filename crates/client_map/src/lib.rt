@@ -3,5 +3,7 @@
 #![tactic(auto)]
 
 mod map;
+mod narrowing;
 
 pub use map::ClientMap;
+pub use narrowing::narrow;

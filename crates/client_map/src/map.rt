@@ -14,8 +14,8 @@ use std::ops::Bound;
 /// Where a value stands: a number of a client.
 #[derive(Clone, Copy, Debug, PartialEq, Eq, PartialOrd, Ord)]
 pub(crate) struct Key {
-    pub(crate) client: u32,
-    pub(crate) number: u32,
+    pub(crate) client: u64,
+    pub(crate) number: u64,
 }
 
 /// What clients have under their numbers. Contracts see it as the finite map from client and number. The time of each
@@ -57,14 +57,14 @@ impl<V> ClientMap<V> {
     }
 
     /// What a client has under a number.
-    pub fn get(&self, client: u32, number: u32) -> Option<&V>
+    pub fn get(&self, client: u64, number: u64) -> Option<&V>
         ensures { option_copied result ≡ finite.get self.now (key client number) }
     {
         self.tree.get(&Key { client, number })
     }
 
     /// What a client has under a number, to be changed.
-    pub fn get_mut(&mut self, client: u32, number: u32) -> Option<&mut V>
+    pub fn get_mut(&mut self, client: u64, number: u64) -> Option<&mut V>
         ensures* writes_back { sem 𝓛 (lends_get V.row self.entry client number result) }
         ensures value { option_copied_mut result ≡ finite.get self.old (key client number) }
     {
@@ -72,7 +72,7 @@ impl<V> ClientMap<V> {
     }
 
     /// Takes out what a client has under a number.
-    pub fn remove(&mut self, client: u32, number: u32) -> Option<V>
+    pub fn remove(&mut self, client: u64, number: u64) -> Option<V>
         ensures value { result ≡ finite.get self.old (key client number) }
         ensures left { self.new ≡ finite.remove self.old (key client number) }
     {
@@ -80,7 +80,7 @@ impl<V> ClientMap<V> {
     }
 
     /// The least number under which a client has something.
-    pub fn first(&self, client: u32) -> Option<u32>
+    pub fn first(&self, client: u64) -> Option<u64>
         ensures none { IfNone result ((n : ℕ) → finite.get self.now (key client n) ≡ None) }
         ensures there { IfSome result (λ number. IsSome (finite.get self.now (key client number))) }
         ensures least { IfSome result (λ number. (n : ℕ) → n < number
@@ -99,7 +99,7 @@ impl<V> ClientMap<V> {
     }
 
     /// The least number above this one under which a client has something.
-    pub fn next(&self, client: u32, number: u32) -> Option<u32>
+    pub fn next(&self, client: u64, number: u64) -> Option<u64>
         ensures none { IfNone result ((n : ℕ) → number < n → finite.get self.now (key client n) ≡ None) }
         ensures there { IfSome result (λ next. IsSome (finite.get self.now (key client next))) }
         ensures above { IfSome result (λ next. number < next) }
@@ -120,7 +120,7 @@ impl<V> ClientMap<V> {
     }
 
     /// The least number below a limit under which a client has nothing. The time is also linear in that number.
-    pub fn first_free(&self, client: u32, limit: u32) -> Option<u32>
+    pub fn first_free(&self, client: u64, limit: u64) -> Option<u64>
         ensures below { IfSome result (λ number. number < limit) }
         ensures free { IfSome result (λ number. finite.get self.now (key client number) ≡ None) }
         ensures least { IfSome result (λ number. (n : ℕ) → n < number
@@ -132,7 +132,7 @@ impl<V> ClientMap<V> {
     }
 
     /// How many numbers a client has in use from 0 on, up to the first that is free or to a limit.
-    fn leading(&self, client: u32, limit: u32) -> u32
+    fn leading(&self, client: u64, limit: u64) -> u64
         ensures within { result ≤ limit }
         ensures taken { (n : ℕ) → n < result → IsSome (finite.get self.now (key client n)) }
         ensures free { result < limit → finite.get self.now (key client result) ≡ None }
@@ -151,7 +151,7 @@ impl<V> ClientMap<V> {
 impl<V: Drop> ClientMap<V> {
     /// Puts a value under a number of a client, in place of what it has there. The error comes only where an allocation
     /// fails, and then nothing has changed but that the value is dropped.
-    pub fn insert(&mut self, client: u32, number: u32, value: V) -> Result<(), AllocError>
+    pub fn insert(&mut self, client: u64, number: u64, value: V) -> Result<(), AllocError>
         ensures ok { OnOk result (self.new ≡ finite.insert self.old (key client number) value) }
         ensures err { OnErr result (self.new ≡ self.old) }
     {

@@ -15,6 +15,7 @@ mod replies;
 mod rules;
 mod sentences;
 mod settings;
+mod threads;
 
 pub use boxed::Boxed;
 pub use calls::{Call, Kind, SemOper};
@@ -33,3 +34,4 @@ pub use replies::{
 };
 pub use rules::{Rule, errno};
 pub use settings::{Get, GetSegment, GetSet, Receive, Sending, Settings};
+pub use threads::Thread;

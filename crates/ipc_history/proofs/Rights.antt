@@ -29,7 +29,7 @@ use Rattle.ipc_objects.specs.Objects.{with_contents, with_perm}
 use Rattle.msg_queue.specs.declared.messages.Message.{Message}
 use Rattle.sem_set.specs.Trials.{committed}
 use Rattle.sem_undo.specs.Entries.{Entries, adj_of}
-use Rattle.ipc_model.specs.State.{Caller, Queue, SemSet, Sems, State, caller, creds_at, nobody, pid_at}
+use Rattle.ipc_model.specs.State.{Caller, Queue, SemSet, Sems, State, Thread, caller, creds_at, no_thread, nobody, pid_at, process_at}
 use Rattle.ipc_model.specs.Decision.{Outcome, outcome_of, proceeds}
 use Rattle.ipc_model.specs.Decision as decisions
 use Rattle.ipc_model.specs.Plan.{Check, IsPlain, Needs, Passes, Plan, Proceeds, Refuse, Grant, checks_in, decision, in_order, needs_among, needs_in, unless, is_denial, on_part, ◌⨾◌}
@@ -94,21 +94,21 @@ never-denied c p rule none denies is = let d = denied c p rule denies is in need
 pub record Rights : Type 0 where
   pub limits : Limits
   pub clients : List Credentials
-  pub exited : List ℕ
+  pub threads : List Thread
   pub queues : ℕ → Option Perm
   pub sets : ℕ → Option Perm
 
 abbrev pub rights_of : State → Rights
-rights_of s = record { limits = s.limits; clients = s.clients; exited = s.exited; queues = λ id. perm_in s.queues id; sets = λ id. perm_in s.sems.sets id }
+rights_of s = record { limits = s.limits; clients = s.clients; threads = s.threads; queues = λ id. perm_in s.queues id; sets = λ id. perm_in s.sems.sets id }
 
 abbrev creds_in : Rights → ℕ → Credentials
 creds_in r client = slice_index_or r.clients client nobody
 
 -- of a call that may wait: its checks before the object is looked for, the permissions of the object, and the right that it needs
-abbrev alive : List ℕ → ℕ → Check
-alive ended client = Passes (not (list_any (λ other. other == client) ended)) Ended tt
+abbrev alive : List Thread → ℕ → Check
+alive threads client = Passes (not (slice_index_or threads client no_thread).has_ended) Ended tt
 
-abbrev before : Limits → List ℕ → ℕ → Call → List Check
+abbrev before : Limits → List Thread → ℕ → Call → List Check
 before limits ended client (MsgSnd id mtype text flags) = alive ended client ∷ Passes (int_le (pos 1) mtype) BadType tt ∷ Passes (nat_le (length text) limits.msg_max) TextTooLong tt ∷ []
 before limits ended client (MsgRcv id size msgtyp flags) = alive ended client ∷ []
 before limits ended client (SemOp id ops) = alive ended client ∷ Passes (nat_lt 0 (length ops)) NoOperations tt ∷ Passes (nat_le (length ops) limits.sem_opm) TooManyOperations tt ∷ []
@@ -135,8 +135,8 @@ AsksFor want (Some perm) rest = (later : Plan State) × (rest ≡ Needs (Permiss
 
 record Shape (s : State) (client : ℕ) (call : Call) : Type 0 where
   pub rest : Plan State
-  pub plain : are_plain (before s.limits s.exited client call) ≡ true
-  pub is : plan s client call ≡ in_order (before s.limits s.exited client call) rest
+  pub plain : are_plain (before s.limits s.threads client call) ≡ true
+  pub is : plan s client call ≡ in_order (before s.limits s.threads client call) rest
   pub asks : AsksFor (want_of call) (perm_for (rights_of s) call) rest
 
 module _ (s : State) (who : Caller) (id : ℕ) where
@@ -182,13 +182,13 @@ asks-needs want (Some perm) rest asks = ap (λ p. needs_in p) asks.1 ∙ ap (λ 
 needs-by : (s : State) (client : ℕ) (call : Call) → can_wait call ≡ true → needs s client call ≡ needs_for (want_of call) (perm_for (rights_of s) call)
 needs-by s client call can =
     let of = shape s client call can in
-    ap (λ p. needs_in p) of.is ∙ needs-plain of.rest (before s.limits s.exited client call) of.plain ∙ asks-needs (want_of call) (perm_for (rights_of s) call) of.rest of.asks
+    ap (λ p. needs_in p) of.is ∙ needs-plain of.rest (before s.limits s.threads client call) of.plain ∙ asks-needs (want_of call) (perm_for (rights_of s) call) of.rest of.asks
 
 -- the right is lacking: every check before it passes, and it is denied by the rule
 pub record Lacks (r : Rights) (client : ℕ) (call : Call) (rule : Rule) : Type 0 where
   pub perm : Perm
   pub there : perm_for r call ≡ Some perm
-  pub passed : AllByRecursion (λ check. does_pass (creds_in r client) check ≡ true) (before r.limits r.exited client call)
+  pub passed : AllByRecursion (λ check. does_pass (creds_in r client) check ≡ true) (before r.limits r.threads client call)
   pub fails : denial (creds_in r client) (Permission perm (want_of call)) ≡ Some rule
 
 module _ (s : State) (client : ℕ) (call : Call) (rule : Rule) (can : can_wait call ≡ true) where
@@ -196,7 +196,7 @@ module _ (s : State) (client : ℕ) (call : Call) (rule : Rule) (can : can_wait 
   lacks-denied : Lacks (rights_of s) client call rule → IsDenied (creds_at s client) (checks_in (plan s client call)) rule
   lacks-denied lacks =
       let of = shape s client call can in
-      let first = before s.limits s.exited client call in
+      let first = before s.limits s.threads client call in
       let asks : AsksFor (want_of call) (Some lacks.perm) of.rest = subst (λ o. AsksFor (want_of call) o of.rest) lacks.there of.asks in
       record {
         before = first;
@@ -219,8 +219,8 @@ module _ (s : State) (client : ℕ) (call : Call) (rule : Rule) (can : can_wait 
       of : Shape s client call
       of = shape s client call can
 
-      parts : AllByRecursion (λ check. does_pass (creds_at s client) check ≡ true) (before s.limits s.exited client call) × (refusal (decision (creds_at s client) of.rest) ≡ Some rule)
-      parts = passed-denied of.rest (creds_at s client) rule denies (before s.limits s.exited client call) of.plain (ap (λ p. refusal (decision (creds_at s client) p)) (sym of.is) ∙ is)
+      parts : AllByRecursion (λ check. does_pass (creds_at s client) check ≡ true) (before s.limits s.threads client call) × (refusal (decision (creds_at s client) of.rest) ≡ Some rule)
+      parts = passed-denied of.rest (creds_at s client) rule denies (before s.limits s.threads client call) of.plain (ap (λ p. refusal (decision (creds_at s client) p)) (sym of.is) ∙ is)
 
       by : (o : Option Perm) → perm_for (rights_of s) call ≡ o → AsksFor (want_of call) o of.rest → Lacks (rights_of s) client call rule
       by None there asks = absurd (other-rule BadId rule tt denies (ap (λ p. refusal (decision (creds_at s client) p)) (sym asks) ∙ parts.1))
@@ -232,7 +232,7 @@ module _ (s : State) (client : ℕ) (call : Call) (rule : Rule) (can : can_wait 
       }
 
   -- a call that waited, and whose need fails where the limits are the same and nobody has ended since
-  pub waited-denied : (old : State) → old.limits ≡ s.limits → old.exited ≡ s.exited → proceeds (decide old client call) ≡ false → first_denial (creds_at s client) (needs s client call) ≡ Some rule
+  pub waited-denied : (old : State) → old.limits ≡ s.limits → old.threads ≡ s.threads → proceeds (decide old client call) ≡ false → first_denial (creds_at s client) (needs s client call) ≡ Some rule
       → Lacks (rights_of s) client call rule
   waited-denied old limits ended waits first =
       by (perm_for (rights_of s) call) refl (ap (λ ns. first_denial (creds_at s client) ns) (sym (needs-by s client call can)) ∙ first)
@@ -240,9 +240,9 @@ module _ (s : State) (client : ℕ) (call : Call) (rule : Rule) (can : can_wait 
       of : Shape old client call
       of = shape old client call can
 
-      passes : AllByRecursion (λ check. does_pass (creds_at s client) check ≡ true) (before s.limits s.exited client call)
+      passes : AllByRecursion (λ check. does_pass (creds_at s client) check ≡ true) (before s.limits s.threads client call)
       passes = subst (λ cs. AllByRecursion (λ check. does_pass (creds_at s client) check ≡ true) cs) (λ i. before (limits i) (ended i) client call)
-          (passed-waits of.rest (creds_at old client) (creds_at s client) (before old.limits old.exited client call) of.plain (ap (λ p. proceeds (decision (creds_at old client) p)) (sym of.is) ∙ waits))
+          (passed-waits of.rest (creds_at old client) (creds_at s client) (before old.limits old.threads client call) of.plain (ap (λ p. proceeds (decision (creds_at old client) p)) (sym of.is) ∙ waits))
 
       fails-first : (o : Option Rule) → or_later o None ≡ Some rule → o ≡ Some rule
       fails-first None is = is
@@ -298,7 +298,7 @@ module _ (s : State) where
       let keeps : Answer → Sems → Type 0 = λ answer sems. KeepsRights s answer (record s { sems = sems }) in
       Ends-on (λ sems. record s { sems = sems }) (KeepsRights s) (operate s.limits s.sems who id ops)
       (Ends-found keeps (set_at s.sems id) BadId tt _ (λ (set : Object SemSet) is.
-      Ends-order keeps (trial_checks set.contents.semaphores (adj_of s.sems.undo client id) [] ops) (Grant Done (operated s.sems who id ops set.contents)) (set-kept id (record { semaphores = committed ops (pid_at s client) set.contents.semaphores; op_time = s.clock }) (lowered s.sems.undo client id ops))))
+      Ends-order keeps (trial_checks set.contents.semaphores (adj_of s.sems.undo (process_at s client) id) [] ops) (Grant Done (operated s.sems who id ops set.contents)) (set-kept id (record { semaphores = committed ops (pid_at s client) set.contents.semaphores; op_time = s.clock }) (lowered s.sems.undo (process_at s client) id ops))))
 
 kept-plan : (s : State) (client : ℕ) (call : Call) → can_wait call ≡ true → Ends (KeepsRights s) (plan s client call)
 unfolding part_plan
@@ -323,7 +323,7 @@ rights-kept s client call can = Ends-decision (creds_at s client) (KeepsRights s
 
 -- IPC_SET changes no limit, and it ends no client
 abbrev KeepsLimits : State → Answer → State → Type 0
-KeepsLimits s answer new = (new.limits ≡ s.limits) × (new.exited ≡ s.exited)
+KeepsLimits s answer new = (new.limits ≡ s.limits) × (new.threads ≡ s.threads)
 
 limits-set : (s : State) (kind : Kind) (id : ℕ) (new : Settings) → KeepsLimits s Done (with_set s kind id new)
 limits-set s kinds.Queue id new = (refl, refl)
@@ -353,5 +353,5 @@ module _ (s new : State) (client : ℕ) (answer : Answer) (w : Waiting) (can : c
       (Ends-decision (creds_at s client) (KeepsLimits s) (plan s client call) (limits-plan s client kind id uid gid mode qbytes))) in
       waited-denied new w.client w.call rule can s (sym kept.0) (sym kept.1) waits (told-first (waits_on kind id w.call) (first_denial (creds_at new w.client) (needs new w.client w.call)) is)
   cancelled-lacks (IpcRmid kind id) granted is = absurd (told-plain (waits_on kind id w.call) Removed tt is)
-  cancelled-lacks (Interrupt pid) granted is = absurd (told-plain (pid == pid_at s w.client) Interrupted tt is)
+  cancelled-lacks (Interrupt pid) granted is = absurd (told-plain (pid == pid_at new w.client) Interrupted tt is)
   cancelled-lacks call granted is = absurd (none-some rule is)

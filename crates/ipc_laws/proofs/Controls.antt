@@ -1,5 +1,5 @@
 -- Controls of an object, and listings, by the client itself: in a state and in its blur.
-use Rattle.std.proofs.Common.{◌≡◌, ℕ, ◌+◌, Bool, true, false, [], ◌∷◌, refl, sym, ap, ◌∙◌, subst, ⊎_elim, Option, Some, None}
+use Rattle.std.proofs.Common.{◌≡◌, ℕ, Bool, true, false, [], ◌∷◌, refl, sym, ap, ◌∙◌, subst, ⊎_elim, Option, Some, None}
 use Rattle.std.specs.Prelude.{option_map, option_and_then, filter_map, is_none, if◌then◌else◌}
 use Rattle.std.specs.FinMap as finite
 use Rattle.std.proofs.lemmas.Bool.{cases_Bool}
@@ -140,5 +140,5 @@ module _ (client : ℕ) (c : Credentials) (s : State) where
   unfolding rows_to
   same-rows kind = sym (ap (λ (h : ℕ → Option Row). filter_map h (ids_of_kind b kind)) (λ i id. same-row kind id i) ∙ ap (filter_map (λ id. row_at s c kind id)) (same-ids kind))
 
-  pub own-list : (now : ℕ) (kind : Kind) → Both c R (list_objects s (record { client = client; process = client; pid = client + 1; creds = c; now = now }) kind) (list_objects b (record { client = client; process = client; pid = client + 1; creds = c; now = now }) kind)
-  own-list now kind = subst (λ rows. Both c R (Grant (Rows (rows_to s c kind)) s) (Grant (Rows rows) b)) (same-rows kind) (both-grant R c (Rows (rows_to s c kind)) s b (same-state client c s))
+  pub own-list : (self shown now : ℕ) (kind : Kind) → Both c R (list_objects s (record { client = self; process = client; pid = shown; creds = c; now = now }) kind) (list_objects b (record { client = self; process = client; pid = shown; creds = c; now = now }) kind)
+  own-list self shown now kind = subst (λ rows. Both c R (Grant (Rows (rows_to s c kind)) s) (Grant (Rows rows) b)) (same-rows kind) (both-grant R c (Rows (rows_to s c kind)) s b (same-state client c s))

@@ -1,8 +1,8 @@
 -- Each call of the client itself comes out alike in a state and in its blur: a line for each call.
-use Rattle.std.proofs.Common.{◌≡◌, ℕ, Bool, true, false, List, [], ◌∷◌, ◌++◌, refl, sym, ap, ◌∙◌, subst, ℤ, Some, None}
-use Rattle.std.specs.Prelude.{◌==◌, not, ◌&&◌, length, nat_le, is_some, option_map, unwrap_or, slice_set, if◌then◌else◌}
+use Rattle.std.proofs.Common.{◌≡◌, ◌≢◌, ⊎_elim, ℕ, Bool, true, false, cond, List, [], ◌∷◌, ◌++◌, refl, sym, ap, ◌∙◌, subst, ℤ, Some, None}
+use Rattle.std.specs.Prelude.{◌==◌, not, ◌&&◌, length, nat_le, nat_lt, is_some, option_map, unwrap_or, slice_get, slice_set, if◌then◌else◌}
 use Rattle.std.specs.List.{count_by}
-use Rattle.std.proofs.lemmas.Bool.{eqb-true, true≢false}
+use Rattle.std.proofs.lemmas.Bool.{cases_eq, eqb-true, true≢false}
 use Rattle.ipc_call.specs.declared.calls.Call.{Call}
 use Rattle.ipc_call.specs.declared.calls.Call.TheVariants.{MsgGet, MsgSnd, MsgRcv, SemGet, SemOp, SemTimedOp, GetVal, GetPid, GetNcnt, GetZcnt, GetAll, SetVal, SetAll, ShmGet, ShmAt, ShmDt, ShmRead, ShmWrite, Exit, IpcStat, IpcSet, IpcRmid, Listing, Interrupt, SetCreds}
 use Rattle.ipc_call.specs.declared.calls.Kind.{Kind}
@@ -15,14 +15,14 @@ use Rattle.ipc_perm.specs.Access.{BecomeGroup, BecomeUser, SameUser, SetGroups}
 use Rattle.ipc_objects.specs.declared.object.Object.{Object}
 use Rattle.sem_set.specs.Sets.{pid_of as last_of, value_of}
 use Rattle.sem_undo.specs.Entries.{adj_of}
-use Rattle.ipc_model.specs.State.{Queues, SemSet, Sems, Shared, State, caller, creds_at, has_exited}
+use Rattle.ipc_model.specs.State.{Caller, Queues, SemSet, Sems, Shared, State, caller, creds_at, has_exited, is_running, pid_at, process_at}
 use Rattle.ipc_model.specs.Plan.{Needs, Passes, Plan}
 use Rattle.ipc_model.specs.Gets.{getting_queue, Get}
 use Rattle.ipc_model.specs.Semaphores.{after_exit, set_at, stopping, stopping_on}
 use Rattle.ipc_model.specs.Segments.{after_detaches}
-use Rattle.ipc_model.specs.Processes.{process, with_creds}
+use Rattle.ipc_model.specs.Processes.{ended, process, process_ended, with_creds}
 use Rattle.ipc_model.specs.Decide.{OnQueues, OnSems, OnShared, get_waiting, is_negative, is_stopped_at, is_zero, part_plan, plan, plan_alive, waits_at, waits_for, whole}
-use Rattle.ipc_laws.specs.Worlds.{blank_queue, blank_set, blur_by, hides_closed, is_hidden, is_hidden_at}
+use Rattle.ipc_laws.specs.Worlds.{blank_queue, blank_set, blur_by, blur_shared, hides_closed, is_hidden, is_hidden_at}
 use Rattle.ipc_laws.proofs.Controls.{own-list, own-remove, own-set, own-stat}
 use Rattle.ipc_laws.proofs.Lists.{count-kept}
 use Rattle.ipc_laws.proofs.Pairs.{Both, both-check, both-found, both-grant, both-on, both-order}
@@ -30,7 +30,7 @@ use Rattle.ipc_laws.proofs.Parts.{both-get}
 use Rattle.ipc_laws.proofs.Queues as queues
 use Rattle.ipc_laws.proofs.Segments as segments
 use Rattle.ipc_laws.proofs.Sets as sets
-use Rattle.ipc_laws.proofs.Sight.{IsAlike, dim-twice, lift-queues, lift-sems, lift-shared, same-state, sight}
+use Rattle.ipc_laws.proofs.Sight.{IsAlike, dim, dim-twice, lift-queues, lift-sems, lift-shared, same-state, sight}
 use Rattle.ipc_laws.proofs.Tables.{get-seen, hidden-at}
 
 -- GETNCNT and GETZCNT of a set in sight: all that wait at it are in sight
@@ -55,97 +55,104 @@ module _ (client : ℕ) (c : Credentials) (s : State) (id : ℕ) (seen : sets.hi
       by false is = refl
   waits-never who call unseen = refl
 
-  pub count-same : count_by (λ w. waits_for s.sems id which w.client w.call) s.parked ≡ count_by (λ w. waits_for blurred.sems id which w.client w.call) blurred.parked
-  count-same = sym (count-kept (λ w. waits_for s.sems id which w.client w.call) (λ w. waits_for blurred.sems id which w.client w.call) (sight client c s)
-      (λ w yes. waits-same w.client w.call) (λ w unseen. waits-never w.client w.call unseen) s.parked)
+  pub count-same : count_by (λ w. waits_for s.sems id which (process_at s w.client) w.call) s.parked ≡ count_by (λ w. waits_for blurred.sems id which (process_at s w.client) w.call) blurred.parked
+  count-same = sym (count-kept (λ w. waits_for s.sems id which (process_at s w.client) w.call) (λ w. waits_for blurred.sems id which (process_at s w.client) w.call) (sight client c s)
+      (λ w yes. waits-same (process_at s w.client) w.call) (λ w unseen. waits-never (process_at s w.client) w.call unseen) s.parked)
 
 module _ (client : ℕ) (s : State) where
   abbrev c : Credentials
   c = creds_at s client
 
+  abbrev home : ℕ
+  home = process_at s client
+
   abbrev b : State
-  b = blur_by client c s
+  b = blur_by home c s
 
   abbrev R : State → State → Type 0
-  R new later = IsAlike client c s new later
+  R new later = IsAlike home c s new later
 
-  on-queues : {p : Plan Queues} {q : Plan Queues} → Both c (queues.IsAlike client c s.queues) p q → Both c R (whole s (OnQueues p)) (whole b (OnQueues q))
-  on-queues both = both-on (queues.IsAlike client c s.queues) R (λ u. record s { queues = u }) (λ v. record b { queues = v }) (lift-queues client c s) c both
+  on-queues : {p : Plan Queues} {q : Plan Queues} → Both c (queues.IsAlike home c s.queues) p q → Both c R (whole s (OnQueues p)) (whole b (OnQueues q))
+  on-queues both = both-on (queues.IsAlike home c s.queues) R (λ u. record s { queues = u }) (λ v. record b { queues = v }) (lift-queues home c s) c both
 
-  on-sems : {p q : Plan Sems} → Both c (sets.IsAlike client c s.sems) p q → Both c R (whole s (OnSems p)) (whole b (OnSems q))
-  on-sems both = both-on (sets.IsAlike client c s.sems) R (λ u. record s { sems = u }) (λ v. record b { sems = v }) (lift-sems client c s) c both
+  on-sems : {p q : Plan Sems} → Both c (sets.IsAlike home c s.sems) p q → Both c R (whole s (OnSems p)) (whole b (OnSems q))
+  on-sems both = both-on (sets.IsAlike home c s.sems) R (λ u. record s { sems = u }) (λ v. record b { sems = v }) (lift-sems home c s) c both
 
-  on-shared : {p q : Plan Shared} → Both c (segments.IsAlike client c s.shared) p q → Both c R (whole s (OnShared p)) (whole b (OnShared q))
-  on-shared both = both-on (segments.IsAlike client c s.shared) R (λ u. record s { shared = u }) (λ v. record b { shared = v }) (lift-shared client c s) c both
+  on-shared : {p q : Plan Shared} → Both c (segments.IsAlike home c s.shared) p q → Both c R (whole s (OnShared p)) (whole b (OnShared q))
+  on-shared both = both-on (segments.IsAlike home c s.shared) R (λ u. record s { shared = u }) (λ v. record b { shared = v }) (lift-shared home c s) c both
 
-  own-waiting : (id num : ℕ) (which : SemOper → Bool) → Both c (sets.IsAlike client c s.sems) (get_waiting s id num which) (get_waiting b id num which)
-  own-waiting id num which = sets.own-look client c s.sems id num _ _ (λ o there isnt. count-same client c s id (hidden-at (hides_closed client c) s.sems.sets id (Some o) there ∙ isnt) which)
+  own-waiting : (id num : ℕ) (which : SemOper → Bool) → Both c (sets.IsAlike home c s.sems) (get_waiting s id num which) (get_waiting b id num which)
+  own-waiting id num which = sets.own-look home c s.sems id num _ _ (λ o there isnt. count-same home c s id (hidden-at (hides_closed home c) s.sems.sets id (Some o) there ∙ isnt) which)
 
-  abbrev gone : State → State
-  gone x = record x { exited = x.exited ++ client ∷ []; sems = after_exit x.sems (caller s client); shared = after_detaches x.shared (caller s client) }
+  -- the parts, and what stands beside them
+  own-parts : (new later : State) → new.queues ≡ s.queues → sets.IsAlike home c s.sems new.sems later.sems → dim home c new ≡ dim home c later → R new later
+  own-parts new later queues on_sems same = (same, (λ q is. ap (λ (u : Queues). is_hidden home c (record s { queues = u }) kinds.Queue q) queues ∙ is, on_sems.1))
 
-  own-exit : R (gone s) (gone b)
-  own-exit = (λ i. record (dim-twice client c s i) { exited = s.exited ++ client ∷ []; sems = on_sems.0 i; shared = on_shared.0 i }, by)
+  abbrev me : Caller
+  me = caller s client
+
+  own-ended : R (ended s client) (ended b client)
+  own-ended = own-parts (ended s client) (ended b client) refl (sets.same-sems home c s.sems) (λ i. record (dim-twice home c s i) { threads = (ended s client).threads })
+
+  own-process : R (process_ended (ended s client) me) (process_ended (ended b client) me)
+  own-process = own-parts (process_ended (ended s client) me) (process_ended (ended b client) me) refl on_sems
+      (λ i. record (dim-twice home c s i) { threads = (ended s client).threads; sems = on_sems.0 i; shared = on_shared.0 i })
     where
-      on_sems : sets.IsAlike client c s.sems (after_exit s.sems (caller s client)) (after_exit b.sems (caller s client))
-      on_sems = sets.own-exit client c s.sems (caller s client)
+      on_sems : sets.IsAlike home c s.sems (after_exit s.sems me) (after_exit b.sems me)
+      on_sems = sets.own-exit home c s.sems me
 
-      on_shared : segments.IsAlike client c s.shared (after_detaches s.shared (caller s client)) (after_detaches b.shared (caller s client))
-      on_shared = segments.own-exit client c c s.clock s.shared
+      on_shared : segments.IsAlike home c s.shared (after_detaches s.shared me) (after_detaches b.shared me)
+      on_shared = segments.own-exit home c client (pid_at s client) c s.clock s.shared
 
-      by : (kind : Kind) (q : ℕ) → is_hidden client c s kind q ≡ true → is_hidden client c (gone s) kind q ≡ true
-      by kinds.Queue q is = is
-      by kinds.Sems q is = on_sems.1 q is
-      by kinds.Segment q is = on_shared.1 q is
+  own-exit : (running : Bool) → R (cond running (ended s client) (process_ended (ended s client) me)) (cond running (ended b client) (process_ended (ended b client) me))
+  own-exit true = own-ended
+  own-exit false = own-process
 
   own-creds : (new : Credentials) → R (with_creds s client new) (with_creds b client new)
-  own-creds new = (λ i. record (dim-twice client c s i) { clients = slice_set s.clients client new }, by)
-    where
-      by : (kind : Kind) (q : ℕ) → is_hidden client c s kind q ≡ true → is_hidden client c (with_creds s client new) kind q ≡ true
-      by kinds.Queue q is = is
-      by kinds.Sems q is = is
-      by kinds.Segment q is = is
+  own-creds new = (λ i. record (dim-twice home c s i) { clients = slice_set s.clients client new }, (λ q is. is, λ q is. is))
 
   own-alive : (call : Call) → Both c R (plan_alive s client call) (plan_alive b client call)
   unfolding part_plan
   own-alive (MsgGet key flags) =
       let asked : Get = record { key = key; flags = flags } in
-      on-queues (both-get blank_queue (hides_closed client c) s.queues (λ x. refl) c (getting_queue s.limits) (λ x. refl) (caller s client) asked)
-  own-alive (MsgSnd id mtype text flags) = on-queues (queues.own-send client c s.queues (caller s client) id s.limits (record { message = record { mtype = mtype; text = text }; flags = flags }))
-  own-alive (MsgRcv id size msgtyp flags) = on-queues (queues.own-receive client c s.queues (caller s client) id (record { size = size; msgtyp = msgtyp; flags = flags }))
+      on-queues (both-get blank_queue (hides_closed home c) s.queues (λ x. refl) c (getting_queue s.limits) (λ x. refl) (caller s client) asked)
+  own-alive (MsgSnd id mtype text flags) = on-queues (queues.own-send home c s.queues (caller s client) id s.limits (record { message = record { mtype = mtype; text = text }; flags = flags }))
+  own-alive (MsgRcv id size msgtyp flags) = on-queues (queues.own-receive home c s.queues (caller s client) id (record { size = size; msgtyp = msgtyp; flags = flags }))
   own-alive (SemGet key nsems flags) =
       let asked : Get = record { key = key; flags = flags } in
-      on-sems (sets.own-get client c s.sems s.limits (caller s client) asked nsems)
-  own-alive (SemOp id ops) = on-sems (sets.own-operate client c s.sems id (caller s client) ops s.limits)
-  own-alive (SemTimedOp id ops timeout) = on-sems (sets.own-operate client c s.sems id (caller s client) ops s.limits)
-  own-alive (GetVal id num) = on-sems (sets.own-look client c s.sems id num (λ ss. value_of ss num) (λ ss. value_of ss num) (λ o there isnt. refl))
-  own-alive (GetPid id num) = on-sems (sets.own-look client c s.sems id num (λ ss. last_of ss num) (λ ss. last_of ss num) (λ o there isnt. refl))
+      on-sems (sets.own-get home c s.sems s.limits (caller s client) asked nsems)
+  own-alive (SemOp id ops) = on-sems (sets.own-operate home c s.sems id (caller s client) ops s.limits)
+  own-alive (SemTimedOp id ops timeout) = on-sems (sets.own-operate home c s.sems id (caller s client) ops s.limits)
+  own-alive (GetVal id num) = on-sems (sets.own-look home c s.sems id num (λ ss. value_of ss num) (λ ss. value_of ss num) (λ o there isnt. refl))
+  own-alive (GetPid id num) = on-sems (sets.own-look home c s.sems id num (λ ss. last_of ss num) (λ ss. last_of ss num) (λ o there isnt. refl))
   own-alive (GetNcnt id num) = on-sems (own-waiting id num (is_negative num))
   own-alive (GetZcnt id num) = on-sems (own-waiting id num (is_zero num))
-  own-alive (GetAll id) = on-sems (sets.own-all client c s.sems id)
-  own-alive (SetVal id num value) = on-sems (sets.own-set client c s.sems id (caller s client) num value)
-  own-alive (SetAll id values) = on-sems (sets.own-set_all client c s.sems id (caller s client) values)
+  own-alive (GetAll id) = on-sems (sets.own-all home c s.sems id)
+  own-alive (SetVal id num value) = on-sems (sets.own-set home c s.sems id (caller s client) num value)
+  own-alive (SetAll id values) = on-sems (sets.own-set_all home c s.sems id (caller s client) values)
   own-alive (ShmGet key size flags) =
       let asked : Get = record { key = key; flags = flags } in
-      on-shared (segments.own-get client c s.shared s.limits (caller s client) asked size)
-  own-alive (ShmAt id flags) = on-shared (segments.own-attach client c s.shared c s.clock id flags)
-  own-alive (ShmDt att) = on-shared (segments.own-detach client c s.shared c s.clock att)
-  own-alive (ShmRead att offset len) = on-shared (segments.own-read client c s.shared c s.clock att offset len)
-  own-alive (ShmWrite att offset bytes) = on-shared (segments.own-write client c s.shared c s.clock att offset bytes)
-  own-alive (IpcStat kind id) = own-stat client c s kind id
-  own-alive (IpcSet kind id uid gid mode qbytes) = own-set client c s kind id (record { uid = uid; gid = gid; mode = mode; qbytes = qbytes })
-  own-alive (IpcRmid kind id) = own-remove client c s kind id
-  own-alive (Listing kind) = own-list client c s s.clock kind
-  own-alive (Interrupt pid) = both-found R c (process s pid) NoProcess tt (λ target is. both-check R c (Needs (SameUser target.euid)) (both-grant R c Done s b (same-state client c s)))
+      on-shared (segments.own-get home c s.shared s.limits (caller s client) asked size)
+  own-alive (ShmAt id flags) = on-shared (segments.own-attach home c s.shared client (pid_at s client) c s.clock id flags)
+  own-alive (ShmDt att) = on-shared (segments.own-detach home c s.shared client (pid_at s client) c s.clock att)
+  own-alive (ShmRead att offset len) = on-shared (segments.own-read home c s.shared client (pid_at s client) c s.clock att offset len)
+  own-alive (ShmWrite att offset bytes) = on-shared (segments.own-write home c s.shared client (pid_at s client) c s.clock att offset bytes)
+  own-alive (IpcStat kind id) = own-stat home c s kind id
+  own-alive (IpcSet kind id uid gid mode qbytes) = own-set home c s kind id (record { uid = uid; gid = gid; mode = mode; qbytes = qbytes })
+  own-alive (IpcRmid kind id) = own-remove home c s kind id
+  own-alive (Listing kind) = own-list home c s client (pid_at s client) s.clock kind
+  own-alive (Interrupt pid) = both-found R c (process s pid) NoProcess tt (λ target is. both-check R c (Needs (SameUser target.euid)) (both-grant R c Done s b (same-state home c s)))
   own-alive (SetCreds euid egid groups) =
       let new = became euid egid groups c in
       both-check R c (Passes (nat_le (length (unwrap_or groups [])) groups_max) TooManyGroups tt) (both-check R c (Needs (BecomeUser euid)) (both-check R c (Needs (BecomeGroup egid))
       (both-order R c (if is_some groups then Needs SetGroups ∷ [] else []) (both-grant R c Done (with_creds s client new) (with_creds b client new) (own-creds new)))))
-  own-alive Exit = both-grant R c Done _ _ own-exit
+  own-alive Exit = both-grant R c Done _ _ (own-exit (is_running (ended s client) home))
 
   own-plan : (call : Call) → Both c R (plan s client call) (plan b client call)
   own-plan call = both-check R c (Passes (not (has_exited s client)) Ended tt) (own-alive call)
 
--- with the client's credentials by another name
-pub own-alike : (client : ℕ) (c : Credentials) (s : State) (call : Call) → creds_at s client ≡ c → Both c (IsAlike client c s) (plan s client call) (plan (blur_by client c s) client call)
-own-alike client c s call is = subst (λ d. Both d (IsAlike client d s) (plan s client call) (plan (blur_by client d s) client call)) is (own-plan client s call)
+-- with the client's process and credentials by other names
+pub own-alike : (client p : ℕ) (d : Credentials) (s : State) (call : Call) → creds_at s client ≡ d → process_at s client ≡ p → Both d (IsAlike p d s) (plan s client call) (plan (blur_by p d s) client call)
+own-alike client p d s call is at =
+    subst (λ e. Both e (IsAlike p e s) (plan s client call) (plan (blur_by p e s) client call)) is
+    (subst (λ q. Both (creds_at s client) (IsAlike q (creds_at s client) s) (plan s client call) (plan (blur_by q (creds_at s client) s) client call)) at (own-plan client s call))

@@ -1,5 +1,5 @@
 -- msgsnd and msgrcv on the queues and on their blur.
-use Rattle.std.proofs.Common.{◌≡◌, ℕ, Bool, true, false, length, refl, sym, ◌∙◌, Option, Some, None}
+use Rattle.std.proofs.Common.{◌≡◌, ℕ, Bool, true, false, [], length, refl, sym, ◌∙◌, Option, Some, None}
 use Rattle.std.specs.Prelude.{nat_le, int_le, pos, ◌||◌, take}
 use Rattle.std.specs.FinMap as finite
 use Rattle.ipc_call.specs.Flags.{has_flag, msg_noerror}
@@ -89,22 +89,23 @@ module _ (client : ℕ) (c : Credentials) where
         abbrev pub IsSame : Queues → Type 0
         IsSame new = blur_queues client c new ≡ blurred
 
-        same-with : (o : Object Queue) → finite.get queues.objects id ≡ Some o → (x : Queue) → IsSame (with_contents queues id x)
-        same-with o there x =
-            hidden-changed blank_queue (hides_closed client c) queues id o there (sym (hidden-at (hides_closed client c) queues id (Some o) there) ∙ hidden) (λ (y : Object Queue). record y { contents = x }) refl refl
+        same-with : (o : Object Queue) → finite.get queues.objects id ≡ Some o → (x : Queue) → x.qbytes ≡ o.contents.qbytes → IsSame (with_contents queues id x)
+        same-with o there x same =
+            hidden-changed blank_queue (hides_closed client c) queues id o there (sym (hidden-at (hides_closed client c) queues id (Some o) there) ∙ hidden) (λ (y : Object Queue). record y { contents = x }) refl
+            (λ i. record { messages = []; qbytes = same i; last_sender = 0; last_receiver = 0; send_time = 0; receive_time = 0 })
 
         pub same-send : (limits : Limits) (asked : Send) → Grants d IsSame (send_message limits queues who id asked)
         same-send limits asked =
             grants-check IsSame d (Passes (int_le (pos 1) asked.message.mtype) BadType tt) (grants-check IsSame d (Passes (nat_le (length asked.message.text) limits.msg_max) TextTooLong tt)
             (grants-found IsSame d (queue_at queues id) BadId tt (λ o there.
             grants-check IsSame d (Needs (Permission o.perm to_alter)) (grants-check IsSame d (Proceeds (has_room o.contents asked.message) asked.flags QueueFull tt)
-            (grants-grant IsSame d Done _ (same-with o there (with_message who asked.message o.contents)))))))
+            (grants-grant IsSame d Done _ (same-with o there (with_message who asked.message o.contents) refl))))))
 
         same-taken : (asked : Receive) (o : Object Queue) → finite.get queues.objects id ≡ Some o → (taken : Option (ℕ × Message)) → Grants d IsSame (on_part (with_contents queues id) (take_chosen who asked o.contents taken))
         same-taken asked o there None = grants-check IsSame d (Proceeds false asked.flags NoMessage tt) (grants-refuse IsSame d NoMessage tt)
         same-taken asked o there (Some taken) =
             grants-check IsSame d (Passes (nat_le (length taken.1.text) asked.size || has_flag asked.flags msg_noerror) MessageTooLong tt)
-            (grants-grant IsSame d (MessageAnswer taken.1.mtype (take asked.size taken.1.text)) _ (same-with o there (without_message who taken.0 o.contents)))
+            (grants-grant IsSame d (MessageAnswer taken.1.mtype (take asked.size taken.1.text)) _ (same-with o there (without_message who taken.0 o.contents) refl))
 
         pub same-receive : (asked : Receive) → Grants d IsSame (receive_message queues who id asked)
         same-receive asked = grants-found IsSame d (queue_at queues id) BadId tt (λ o there.

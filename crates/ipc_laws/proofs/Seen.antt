@@ -15,7 +15,7 @@ use Rattle.ipc_creds.specs.Credentials.{Credentials}
 use Rattle.ipc_perm.specs.Access.{Permission, class_of, rule_of, to_alter, to_read}
 use Rattle.shm_seg.specs.declared.attachments.Attachment.{Attachment}
 use Rattle.shm_seg.specs.Attachments.{attachment_at}
-use Rattle.ipc_model.specs.State.{Queues, Sems, Shared, State, caller, creds_at, has_exited}
+use Rattle.ipc_model.specs.State.{Queues, Sems, Shared, State, caller, creds_at, has_exited, process_at}
 use Rattle.ipc_model.specs.Decision.{proceeds}
 use Rattle.ipc_model.specs.Plan.{Needs, Passes, Plan, decision}
 use Rattle.ipc_model.proofs.Plans.{IfGranted}
@@ -71,8 +71,8 @@ module _ (client : ℕ) (c : Credentials) (s : State) where
     stays-shared : {p : Plan Shared} → Grants d (λ u. blur_shared client c u ≡ blur_shared client c s.shared) p → Grants d (IsSame client c s) (whole s (OnShared p))
     stays-shared grants = grants-on (IsSame client c s) d (λ u. record s { shared = u }) (grants-less _ _ (λ u same i. record (dim client c s) { shared = same i }) d grants)
 
-    behind-hidden : (att : ℕ) → is_hidden_at client c s (option_map (λ a. (kinds.Segment, a.segment)) (attachment_at s.shared.attached who att)) ≡ true
-        → (of : Attachment) → attachment_at s.shared.attached who att ≡ Some of → segments.hid client c s.shared of.segment ≡ true
+    behind-hidden : (att : ℕ) → is_hidden_at client c s (option_map (λ a. (kinds.Segment, a.segment)) (attachment_at s.shared.attached (process_at s who) att)) ≡ true
+        → (of : Attachment) → attachment_at s.shared.attached (process_at s who) att ≡ Some of → segments.hid client c s.shared of.segment ≡ true
     behind-hidden att hidden of there = sym (ap (λ o. is_hidden_at client c s (option_map {U = Kind × ℕ} (λ (a : Attachment). (kinds.Segment, a.segment)) o)) there) ∙ hidden
 
     stays-alive : (call : Call) → is_unseen client c s who call ≡ true → Grants d (IsSame client c s) (plan_alive s who call)

@@ -1,5 +1,5 @@
 -- The calls on segments, and exit, on the segments with their attachments and on their blur.
-use Rattle.std.proofs.Common.{◌≡◌, ◌≤◌, ℕ, zero, suc, ◌+◌, ◌-◌, Bool, true, false, cond, List, [], ◌∷◌, ◌++◌, length, refl, sym, ap, arith, subst, ◌∙◌, Option, Some, None}
+use Rattle.std.proofs.Common.{◌≡◌, ◌≢◌, ◌≤◌, ℕ, zero, suc, ◌+◌, ◌-◌, Bool, true, false, cond, List, [], ◌∷◌, ◌++◌, length, refl, sym, ap, arith, subst, ◌∙◌, Option, Some, None}
 use Rattle.std.specs.Prelude.{◌==◌, nat_le, not, ◌&&◌, option_map, option_and_then, unwrap_or, replicate, take, drop}
 use Rattle.std.specs.FinMap as finite
 use Rattle.std.proofs.lemmas.Bool.{and_parts, false≢true}
@@ -24,19 +24,19 @@ use Rattle.ipc_model.specs.Plan.{Needs, Passes, Grant, found, ◌⨾◌}
 use Rattle.ipc_model.specs.Gets.{Get, get_segment, getting_segment}
 use Rattle.ipc_model.specs.Controls.{marked, without_segment}
 use Rattle.ipc_model.specs.Segments.{after_detaches, attach, attached_by, behind, detach, detached, detached_by, detached_from, left_segment, read_bytes, segment_at, wanted_to_attach, with_attached, with_bytes, without_number, write_bytes, attachment_to}
-use Rattle.ipc_laws.specs.Worlds.{all_masked, blank_segment, blur_shared, has_attached, hides_segment, is_closed, is_hidden_in}
+use Rattle.ipc_laws.specs.Worlds.{all_masked, blank, blank_segment, blur_shared, has_attached, hides_segment, is_closed, is_hidden_in, masked}
 use Rattle.ipc_laws.proofs.Attached.{attached-other, attached-there, detached-fewer}
 use Rattle.ipc_laws.proofs.Closed.{denied-permission}
 use Rattle.ipc_laws.proofs.Pairs.{Both, Grants, both-check, both-denied, both-found, both-grant, both-on, grants-check, grants-found, grants-grant, grants-passes}
 use Rattle.ipc_laws.proofs.Parts.{Alike, alike-changed, alike-without, both-get, hidden-changed, own-found}
-use Rattle.ipc_laws.proofs.Tables.{again, get-seen, hidden-at, more-same}
+use Rattle.ipc_laws.proofs.Tables.{again, get-masked, get-seen, hidden-at, masked-hidden, masked-seen, more-same, without-alike}
 
 -- how many bytes there are is all that a blank segment has
-blank-same : (x y : Segment) → length x.bytes ≡ length y.bytes → blank_segment x ≡ blank_segment y
-blank-same x y same = ap (λ n. record { bytes = replicate n 0; is_marked = false; creator = 0; last = 0; attach_time = 0; detach_time = 0 }) same
+blank-same : (x y : Segment) → length x.bytes ≡ length y.bytes → x.is_marked ≡ y.is_marked → x.creator ≡ y.creator → blank_segment x ≡ blank_segment y
+blank-same x y same mark by = λ i. record { bytes = replicate (same i) 0; is_marked = mark i; creator = by i; last = 0; attach_time = 0; detach_time = 0 }
 
 pub segment-twice : (x : Segment) → blank_segment (blank_segment x) ≡ blank_segment x
-segment-twice x = blank-same (blank_segment x) x (length-replicate (length x.bytes) 0)
+segment-twice x = blank-same (blank_segment x) x (length-replicate (length x.bytes) 0) refl refl
 
 written-long : (offset : ℕ) (new old : List ℕ) → lies_within offset (length new) old ≡ true → length (overwritten offset new old) ≡ length old
 written-long offset new old fits =
@@ -146,9 +146,9 @@ module _ (client : ℕ) (c : Credentials) where
         by true = alike-gone id a.attached o there seen (λ q ne none. none)
         by false = alike-set id a.attached o there seen (λ q ne none. none) marked
 
-    module _ (creds : Credentials) (now : ℕ) where
+    module _ (self shown : ℕ) (creds : Credentials) (now : ℕ) where
       abbrev who : Caller
-      who = record { client = client; process = client; pid = client + 1; creds = creds; now = now }
+      who = record { client = self; process = client; pid = shown; creds = creds; now = now }
 
       -- shmat
       alike-attached : (id flags number : ℕ) (o : Object Segment) → finite.get a.segments.objects id ≡ Some o → hides_segment client c a.attached id o.perm ≡ false → free_number a.attached client ≡ Some number
@@ -255,7 +255,7 @@ module _ (client : ℕ) (c : Credentials) where
           let contents : Segment = record o.contents { bytes = overwritten offset new o.contents.bytes } in
           ap (λ segments. record a { segments = segments })
           (hidden-changed blank_segment (hides_segment client c a.attached) a.segments id o parts.1 (sym (hidden-at (hides_segment client c a.attached) a.segments id (Some o) parts.1) ∙ hidden there.0 parts.0)
-          (λ (y : Object Segment). record y { contents = contents }) refl (blank-same contents o.contents (written-long offset new o.contents.bytes fits)))
+          (λ (y : Object Segment). record y { contents = contents }) refl (blank-same contents o.contents (written-long offset new o.contents.bytes fits) refl refl))
 
       pub same-write : (offset : ℕ) (new : List ℕ) → Grants d IsSame (write_bytes a who number offset new)
       same-write offset new = grants-found IsSame d (behind a who.process number) NotAttached tt (λ there is.
@@ -263,16 +263,16 @@ module _ (client : ℕ) (c : Credentials) where
           grants-grant IsSame d Done _ (same-written offset new there is fits))))
 
   -- exit
-  module _ (creds : Credentials) (now : ℕ) where
+  module _ (self shown : ℕ) (creds : Credentials) (now : ℕ) where
     abbrev caller : Caller
-    caller = record { client = client; process = client; pid = client + 1; creds = creds; now = now }
+    caller = record { client = self; process = client; pid = shown; creds = creds; now = now }
 
     alike-each : (n number : ℕ) (a : Shared) → IsAlike a (detached_from n number caller a) (detached_from n number caller (blur_shared client c a))
     unfolding detached_from
     alike-each zero number a = same-shared a
     alike-each (suc n) number a =
         let b = blur_shared client c a in
-        let first = alike-number a creds now number (attachment_at a.attached client number) refl in
+        let first = alike-number a self shown creds now number (attachment_at a.attached client number) refl in
         let x = detached a caller number in
         let y = detached b caller number in
         let on_x = alike-each n (number + 1) x in

@@ -2,6 +2,8 @@
 use Rattle.std.proofs.Common.{◌≡◌, ℕ, Bool, true, false, [], refl, sym, ap, ◌∙◌, Option, Some, None}
 use Rattle.std.specs.Prelude.{not, filter, option_map, unwrap_or}
 use Rattle.std.proofs.lemmas.Bool.{true≢false}
+use Rattle.ipc_call.specs.declared.calls.Call.{Call}
+use Rattle.ipc_call.specs.declared.calls.Call.TheVariants.{MsgRcv, MsgSnd, SemOp, SemTimedOp}
 use Rattle.ipc_call.specs.declared.calls.Kind.{Kind}
 use Rattle.ipc_call.specs.declared.calls.Kind.TheVariants as kinds
 use Rattle.ipc_call.specs.declared.replies.Waiting.{Waiting}
@@ -72,9 +74,10 @@ module _ (client : ℕ) (c : Credentials) where
     abbrev b : State
     b = blur_by client c s
 
-    -- both look the same, and what was hidden is so still
+    -- both look the same, and the queues and sets that were hidden are so still (a segment may be gone)
     abbrev pub IsAlike : State → State → Type 0
-    IsAlike new later = (dim new ≡ dim later) × ((kind : Kind) (q : ℕ) → is_hidden client c s kind q ≡ true → is_hidden client c new kind q ≡ true)
+    IsAlike new later = (dim new ≡ dim later)
+        × (((q : ℕ) → is_hidden client c s kinds.Queue q ≡ true → is_hidden client c new kinds.Queue q ≡ true) × ((q : ℕ) → is_hidden client c s kinds.Sems q ≡ true → is_hidden client c new kinds.Sems q ≡ true))
 
     -- the second is the blur of the first, and the same is hidden as before
     abbrev pub IsExact : State → State → Type 0
@@ -84,46 +87,35 @@ module _ (client : ℕ) (c : Credentials) where
     IsSame new = dim new ≡ dim s
 
     pub same-state : IsAlike s b
-    same-state = (dim-twice s, λ kind q is. is)
+    same-state = (dim-twice s, (λ q is. is, λ q is. is))
 
     finer : (x y : Bool) → (x ≡ true → y ≡ true) → not y ≡ true → not x ≡ true
     finer true y then_so is = absurd (true≢false (sym is ∙ ap not (then_so refl)))
     finer false y then_so is = refl
 
-    still-at : (new : State) → ((kind : Kind) (q : ℕ) → is_hidden client c s kind q ≡ true → is_hidden client c new kind q ≡ true) → (at : Option (Kind × ℕ)) → is_hidden_at client c s at ≡ true → is_hidden_at client c new at ≡ true
-    still-at new more None is = is
-    still-at new more (Some at) is = more at.0 at.1 is
+    still-at : (new : State) → ((q : ℕ) → is_hidden client c s kinds.Queue q ≡ true → is_hidden client c new kinds.Queue q ≡ true) → ((q : ℕ) → is_hidden client c s kinds.Sems q ≡ true → is_hidden client c new kinds.Sems q ≡ true)
+        → (call : Call) → is_hidden_at client c s (waits_at call) ≡ true → is_hidden_at client c new (waits_at call) ≡ true
+    still-at new queue sems (MsgSnd id mtype text flags) is = queue id is
+    still-at new queue sems (MsgRcv id size msgtyp flags) is = queue id is
+    still-at new queue sems (SemOp id ops) is = sems id is
+    still-at new queue sems (SemTimedOp id ops timeout) is = sems id is
+    still-at new queue sems call is = is
 
     -- what is left looks the same, with the calls that wait
     pub blur-alike : (new later : State) → IsAlike new later → new.parked ≡ s.parked → later.parked ≡ b.parked → blur_by client c new ≡ blur_by client c later
     blur-alike new later alike parked others = blur-from new later alike.0
         (ap (filter (sight new)) parked
-        ∙ sym (filter-finer (sight new) (sight s) (λ w is. finer (is_hidden_at client c s (waits_at w.call)) (is_hidden_at client c new (waits_at w.call)) (still-at new alike.1 (waits_at w.call)) is) s.parked)
+        ∙ sym (filter-finer (sight new) (sight s) (λ w is. finer (is_hidden_at client c s (waits_at w.call)) (is_hidden_at client c new (waits_at w.call)) (still-at new alike.1.0 alike.1.1 w.call) is) s.parked)
         ∙ ap (λ f. filter f b.parked) (same-sight new later alike.0) ∙ ap (filter (sight later)) (sym others))
 
     pub lift-queues : (u v : Queues) → queues.IsAlike client c s.queues u v → IsAlike (record s { queues = u }) (record b { queues = v })
-    lift-queues u v alike = (λ i. record (dim-twice s i) { queues = alike.0 i }, by)
-      where
-        by : (kind : Kind) (q : ℕ) → is_hidden client c s kind q ≡ true → is_hidden client c (record s { queues = u }) kind q ≡ true
-        by kinds.Queue q is = alike.1 q is
-        by kinds.Sems q is = is
-        by kinds.Segment q is = is
+    lift-queues u v alike = (λ i. record (dim-twice s i) { queues = alike.0 i }, (alike.1, λ q is. is))
 
     pub lift-sems : (u v : Sems) → sets.IsAlike client c s.sems u v → IsAlike (record s { sems = u }) (record b { sems = v })
-    lift-sems u v alike = (λ i. record (dim-twice s i) { sems = alike.0 i }, by)
-      where
-        by : (kind : Kind) (q : ℕ) → is_hidden client c s kind q ≡ true → is_hidden client c (record s { sems = u }) kind q ≡ true
-        by kinds.Queue q is = is
-        by kinds.Sems q is = alike.1 q is
-        by kinds.Segment q is = is
+    lift-sems u v alike = (λ i. record (dim-twice s i) { sems = alike.0 i }, (λ q is. is, alike.1))
 
     pub lift-shared : (u v : Shared) → segments.IsAlike client c s.shared u v → IsAlike (record s { shared = u }) (record b { shared = v })
-    lift-shared u v alike = (λ i. record (dim-twice s i) { shared = alike.0 i }, by)
-      where
-        by : (kind : Kind) (q : ℕ) → is_hidden client c s kind q ≡ true → is_hidden client c (record s { shared = u }) kind q ≡ true
-        by kinds.Queue q is = is
-        by kinds.Sems q is = is
-        by kinds.Segment q is = alike.1 q is
+    lift-shared u v alike = (λ i. record (dim-twice s i) { shared = alike.0 i }, (λ q is. is, λ q is. is))
 
     pub exact-queues : (u v : Queues) → queues.IsExact client c s.queues u v → IsExact (record s { queues = u }) (record b { queues = v })
     exact-queues u v exact = let new : State = record s { queues = u } in (λ i. record b { queues = exact.0 i; parked = filter (sight-by new s by i) s.parked }, by)

@@ -1,30 +1,36 @@
 -- A client stays closed out of what it is closed out of, whatever user and group it becomes.
-use Rattle.std.proofs.Common.{◌≡◌, ℕ, zero, suc, Bool, true, false, List, [], ◌∷◌, refl, sym, ap, ◌∙◌, ⊎_elim, inl, inr, Option, Some, None}
-use Rattle.std.specs.Prelude.{◌⊎◌, ◌==◌, ◌&&◌, ◌||◌, not, length, nat_le, is_some, unwrap_or, if◌then◌else◌, slice_set, slice_index_or}
-use Rattle.std.specs.List.{list_all, list_any}
+use Rattle.std.proofs.Common.{◌≡◌, ◌≢◌, ℕ, zero, suc, Bool, true, false, cond, get_or, set, List, [], ◌∷◌, refl, sym, ap, subst, ◌∙◌, ⊎_elim, inl, inr, Option, Some, None}
+use Rattle.std.specs.Prelude.{◌⊎◌, ◌==◌, ◌&&◌, ◌||◌, not, length, map, nat_le, nat_lt, is_none, is_some, unwrap_or, if◌then◌else◌, slice_set, slice_index_or}
+use Rattle.std.specs.List.{AllByRecursion, list_all, list_any}
 use Rattle.std.proofs.lemmas.Bool.{and_parts, cases_Bool, eqb-true, true≢false}
 use Rattle.std.proofs.lemmas.Option.{none-some}
+use Rattle.std.proofs.lemmas.List.{get_or-set_other}
 use Rattle.ipc_call.specs.declared.calls.Call.{Call}
-use Rattle.ipc_call.specs.declared.calls.Call.TheVariants.{SetCreds}
+use Rattle.ipc_call.specs.declared.calls.Call.TheVariants.{Exit, SetCreds}
 use Rattle.ipc_call.specs.declared.perms.Perm.{Perm}
 use Rattle.ipc_call.specs.declared.replies.Answer.TheVariants.{Done}
 use Rattle.ipc_call.specs.declared.replies.Waiting.{Waiting}
 use Rattle.ipc_call.specs.declared.rules.Rule.TheVariants.{Ended, TooManyGroups}
 use Rattle.ipc_creds.specs.Credentials.{Credentials, acting_as, became, cap_setgid, cap_setuid, groups_max, has_capability, own_groups, own_users}
 use Rattle.ipc_perm.specs.Access.{BecomeGroup, BecomeUser, SetGroups, denial}
-use Rattle.ipc_model.specs.State.{State, caller, creds_at, has_exited, nobody}
-use Rattle.ipc_model.specs.Decision.{Decision, Refused, Waits, Granted}
+use Rattle.ipc_model.specs.State.{Caller, Shared, State, Thread, caller, creds_at, has_exited, is_running, no_thread, nobody, process_at}
+use Rattle.ipc_model.specs.Decision.{Decision, Refused, Waits, Granted, proceeds}
 use Rattle.ipc_model.specs.Plan.{Needs, Passes, in_order, ◌⨾◌}
 use Rattle.ipc_model.specs.Plan as plans
-use Rattle.ipc_model.specs.Processes.{set_creds, with_creds}
-use Rattle.ipc_model.specs.Decide.{decide, decide_call, is_late, part_plan, plan}
-use Rattle.ipc_model.specs.Step.{Event, begun, cancelled_by, end_waiting, ended_by, moved_by, settled, state_by, step, without}
-use Rattle.ipc_model.proofs.Beside.{KeepsClients, clients-kept}
-use Rattle.ipc_model.proofs.Late.{late-granted}
+use Rattle.ipc_model.specs.Processes.{ended, process_ended, set_creds, with_creds}
+use Rattle.ipc_model.specs.Decide.{can_wait, decide, decide_call, is_late, part_plan, plan}
+use Rattle.ipc_model.specs.Cancelled.{cancelled}
+use Rattle.ipc_model.specs.Step.{Event, at_time, begun, end_waiting, ended_by, expired, is_ready, moved_as, moved_by, settled, step, waiting_as, without}
+use Rattle.ipc_history.specs.Waits.{AreNotReady}
+use Rattle.ipc_model.proofs.Calls.{only_parkable}
+use Rattle.ipc_model.proofs.Growing.{Keeps}
+use Rattle.ipc_model.proofs.Beside.{KeepsClients, clients-kept, is_set_creds}
+use Rattle.ipc_model.proofs.Late.{Keeps-call, at-as, late-granted, only_parkable_call}
 use Rattle.ipc_model.proofs.Plans.{IfGranted}
 use Rattle.ipc_laws.specs.Worlds.{is_closed, is_shut}
-use Rattle.ipc_laws.proofs.Pairs.{Grants, grants-check, grants-grant, grants-needs, grants-passes}
-use Rattle.ipc_laws.proofs.Turns.{kept-settled}
+use Rattle.ipc_laws.proofs.Pairs.{Grants, grants-check, grants-found, grants-grant, grants-needs, grants-order, grants-passes}
+use Rattle.ipc_laws.proofs.Turns.{kept-settled, left-parked}
+use Rattle.ipc_laws.proofs.Lists.{all-filter, all-found, all-map, all-push}
 
 abbrev pub IsWithin : Credentials → Credentials → Type 0
 IsWithin c d = (p : Perm) → is_closed c p ≡ true → is_closed d p ≡ true
@@ -44,11 +50,11 @@ all-head P x y z u all there =
     let rest = and_parts (P x) (list_all P (y ∷ z ∷ [])) all in
     λ i. (all-at P (x ∷ y ∷ z ∷ []) u all there i) && (rest.1 i)
 
-all-map : (P Q : ℕ → Bool) (xs : List ℕ) → ((x : ℕ) → P x ≡ true → Q x ≡ true) → list_all P xs ≡ true → list_all Q xs ≡ true
-all-map P Q [] then_so all = refl
-all-map P Q (x ∷ xs) then_so all =
+all-mapped : (P Q : ℕ → Bool) (xs : List ℕ) → ((x : ℕ) → P x ≡ true → Q x ≡ true) → list_all P xs ≡ true → list_all Q xs ≡ true
+all-mapped P Q [] then_so all = refl
+all-mapped P Q (x ∷ xs) then_so all =
     let parts = and_parts (P x) (list_all P xs) all in
-    λ i. (then_so x parts.0 i) && (all-map P Q xs then_so parts.1 i)
+    λ i. (then_so x parts.0 i) && (all-mapped P Q xs then_so parts.1 i)
 
 no-capability : (a b : Bool) → not (a || b) ≡ true → (a ≡ false) × (b ≡ false)
 no-capability true b is = absurd (true≢false (sym is))
@@ -74,7 +80,7 @@ module _ (c : Credentials) (euid egid : ℕ) (user : denial c (BecomeUser euid) 
       let own_group = met-one (list_any (λ own. own == egid) (own_groups c)) (has_capability c cap_setgid) _ group lacks.1 in
       let by_user = all-head (λ u. list_all (λ g. is_shut (acting_as c u g) p) (own_groups c)) c.euid c.ruid c.suid euid all.1 users in
       let by_both : list_all (λ u. list_all (λ g. is_shut (acting_as c u g) p) (egid ∷ c.rgid ∷ c.sgid ∷ [])) (euid ∷ c.ruid ∷ c.suid ∷ []) ≡ true =
-      all-map (λ u. list_all (λ g. is_shut (acting_as c u g) p) (own_groups c)) (λ u. list_all (λ g. is_shut (acting_as c u g) p) (egid ∷ c.rgid ∷ c.sgid ∷ [])) (euid ∷ c.ruid ∷ c.suid ∷ [])
+      all-mapped (λ u. list_all (λ g. is_shut (acting_as c u g) p) (own_groups c)) (λ u. list_all (λ g. is_shut (acting_as c u g) p) (egid ∷ c.rgid ∷ c.sgid ∷ [])) (euid ∷ c.ruid ∷ c.suid ∷ [])
       (λ u is. all-head (λ g. is_shut (acting_as c u g) p) c.egid c.rgid c.sgid egid is own_group) by_user in
       by groups set lacks.1 (λ i. (all.0 i) && (by_both i))
     where
@@ -95,73 +101,118 @@ set-at (x ∷ xs) (suc i) a (suc k) d = ⊎_elim
     (λ (here : (i ≡ k) × (slice_index_or (slice_set xs i a) k d ≡ a)). inr (ap suc here.0, here.1))
     (set-at xs i a k d)
 
--- of each client
-abbrev pub AllWithin : State → State → Type 0
-AllWithin s t = (k : ℕ) → IsWithin (creds_at s k) (creds_at t k)
+-- a client stays a thread of its process, and stays closed out of what it was closed out of
+abbrev pub Lives : ℕ → State → State → Type 0
+Lives k s t = IsWithin (creds_at s k) (creds_at t k) × (process_at t k ≡ process_at s k)
 
-pub all-within : (s t u : State) → AllWithin s t → AllWithin t u → AllWithin s u
-all-within s t u first second k p closed = second k p (first k p closed)
+lives-on : (k : ℕ) (s t u : State) → Lives k s t → Lives k t u → Lives k s u
+lives-on k s t u first second = (λ p closed. second.0 p (first.0 p closed), second.1 ∙ first.1)
 
-same-within : (s t : State) → t.clients ≡ s.clients → AllWithin s t
-same-within s t same k p closed = ap (λ clients. is_closed (creds_at (record s { clients = clients }) k) p) same ∙ closed
+lives-same : (k : ℕ) (s t : State) → t.clients ≡ s.clients → t.threads ≡ s.threads → Lives k s t
+lives-same k s t clients threads =
+    (λ p closed. ap (λ (cs : List Credentials). is_closed (slice_index_or cs k nobody) p) clients ∙ closed, ap (λ (ts : List Thread). (slice_index_or ts k no_thread).process) threads)
 
-within-set : (s : State) (client euid egid : ℕ) (groups : Option (List ℕ)) → IsWithin (creds_at s client) (became euid egid groups (creds_at s client)) → AllWithin s (with_creds s client (became euid egid groups (creds_at s client)))
-within-set s client euid egid groups within k p closed =
-    let a = became euid egid groups (creds_at s client) in
-    ⊎_elim
-    (λ (same : slice_index_or (slice_set s.clients client a) k nobody ≡ slice_index_or s.clients k nobody). ap (λ d. is_closed d p) same ∙ closed)
-    (λ (here : (client ≡ k) × (slice_index_or (slice_set s.clients client a) k nobody ≡ a)). ap (λ d. is_closed d p) here.1 ∙ within p (ap (λ j. is_closed (creds_at s j) p) here.0 ∙ closed))
-    (set-at s.clients client a k nobody)
+-- of a thread that has ended the process is told still
+still-of : (ts : List Thread) (k : ℕ) → (get_or (set ts k (record (get_or ts k no_thread) { has_ended = true })) k no_thread).process ≡ (get_or ts k no_thread).process
+still-of [] k = refl
+still-of (t ∷ ts) zero = refl
+still-of (t ∷ ts) (suc k) = still-of ts k
+
+lives-exit : (k : ℕ) (s : State) (who : Caller) (running : Bool) → Lives k s (cond running (ended s k) (process_ended (ended s k) who))
+lives-exit k s who true = (λ p closed. closed, still-of s.threads k)
+lives-exit k s who false = (λ p closed. closed, still-of s.threads k)
+
+within-set : (s : State) (client euid egid : ℕ) (groups : Option (List ℕ)) → IsWithin (creds_at s client) (became euid egid groups (creds_at s client)) → Lives client s (with_creds s client (became euid egid groups (creds_at s client)))
+within-set s client euid egid groups within = (by, refl)
+  where
+    a : Credentials
+    a = became euid egid groups (creds_at s client)
+
+    by : IsWithin (creds_at s client) (creds_at (with_creds s client a) client)
+    by p closed = ⊎_elim
+        (λ (same : slice_index_or (slice_set s.clients client a) client nobody ≡ slice_index_or s.clients client nobody). ap (λ d. is_closed d p) same ∙ closed)
+        (λ (here : (client ≡ client) × (slice_index_or (slice_set s.clients client a) client nobody ≡ a)). ap (λ d. is_closed d p) here.1 ∙ within p closed)
+        (set-at s.clients client a client nobody)
 
 module _ (s : State) (client : ℕ) where
   abbrev c : Credentials
   c = creds_at s client
 
-  within-setcreds : (euid egid : ℕ) (groups : Option (List ℕ)) → Grants c (AllWithin s) (set_creds s (caller s client) euid egid groups)
+  within-setcreds : (euid egid : ℕ) (groups : Option (List ℕ)) → Grants c (Lives client s) (set_creds s (caller s client) euid egid groups)
   within-setcreds euid egid groups =
-      grants-passes (AllWithin s) c (nat_le (length (unwrap_or groups [])) groups_max) TooManyGroups tt (λ few.
-      grants-needs (AllWithin s) c (BecomeUser euid) (λ user.
-      grants-needs (AllWithin s) c (BecomeGroup egid) (λ group. by groups user group)))
+      grants-passes (Lives client s) c (nat_le (length (unwrap_or groups [])) groups_max) TooManyGroups tt (λ few.
+      grants-needs (Lives client s) c (BecomeUser euid) (λ user.
+      grants-needs (Lives client s) c (BecomeGroup egid) (λ group. by groups user group)))
     where
       by : (groups : Option (List ℕ)) → denial c (BecomeUser euid) ≡ None → denial c (BecomeGroup egid) ≡ None
-          → Grants c (AllWithin s) (in_order (if is_some groups then Needs SetGroups ∷ [] else []) (plans.Grant Done (with_creds s client (became euid egid groups c))))
-      by None user group = grants-grant (AllWithin s) c Done _ (within-set s client euid egid None (within-became c euid egid user group None (λ is. absurd (true≢false (sym is)))))
-      by (Some gs) user group = grants-needs (AllWithin s) c SetGroups (λ set. grants-grant (AllWithin s) c Done _ (within-set s client euid egid (Some gs) (within-became c euid egid user group (Some gs) (λ is. set))))
+          → Grants c (Lives client s) (in_order (if is_some groups then Needs SetGroups ∷ [] else []) (plans.Grant Done (with_creds s client (became euid egid groups c))))
+      by None user group = grants-grant (Lives client s) c Done _ (within-set s client euid egid None (within-became c euid egid user group None (λ is. absurd (true≢false (sym is)))))
+      by (Some gs) user group = grants-needs (Lives client s) c SetGroups (λ set. grants-grant (Lives client s) c Done _ (within-set s client euid egid (Some gs) (within-became c euid egid user group (Some gs) (λ is. set))))
 
-  within-set-plan : (euid egid : ℕ) (groups : Option (List ℕ)) → Grants c (AllWithin s) (plan s client (SetCreds euid egid groups))
+  within-set-plan : (euid egid : ℕ) (groups : Option (List ℕ)) → Grants c (Lives client s) (plan s client (SetCreds euid egid groups))
   unfolding part_plan
-  within-set-plan euid egid groups = grants-check (AllWithin s) c (Passes (not (has_exited s client)) Ended tt) (within-setcreds euid egid groups)
+  within-set-plan euid egid groups = grants-check (Lives client s) c (Passes (not (has_exited s client)) Ended tt) (within-setcreds euid egid groups)
 
-by-same : (s : State) (d : Decision State) → IfGranted (KeepsClients s) d → IfGranted (λ answer new. AllWithin s new) d
-by-same s (Refused rule) same = tt
-by-same s Waits same = tt
-by-same s (Granted answer new) same = same-within s new same
+  lives-ended : Grants c (Lives client s) (plan s client Exit)
+  unfolding part_plan
+  lives-ended = grants-check (Lives client s) c (Passes (not (has_exited s client)) Ended tt) (grants-grant (Lives client s) c Done _ (lives-exit client s (caller s client) (is_running (ended s client) (process_at s client))))
 
-pub within-decide : (s : State) (client : ℕ) (call : Call) → IfGranted (λ answer new. AllWithin s new) (decide s client call)
-within-decide s client (SetCreds euid egid groups) = (within-set-plan s client euid egid groups).granted
-within-decide s client call = by-same s (decide s client call) (clients-kept s client call refl)
+by-same : (k : ℕ) (s : State) (d : Decision State) → IfGranted (KeepsClients s) d → IfGranted (λ answer new. Lives k s new) d
+by-same k s (Refused rule) same = tt
+by-same k s Waits same = tt
+by-same k s (Granted answer new) same = lives-same k s new same.0 same.1
 
-within-ended : (s : State) (who : ℕ) (d : Decision State) → IfGranted (λ answer new. AllWithin s new) d → AllWithin s (ended_by s who d).state
-within-ended s who (Refused rule) within = λ k p closed. closed
-within-ended s who Waits within = λ k p closed. closed
-within-ended s who (Granted answer new) within = within
+-- the client's own call
+pub lives-decide : (s : State) (client : ℕ) (call : Call) → IfGranted (λ answer new. Lives client s new) (decide s client call)
+lives-decide s client (SetCreds euid egid groups) = (within-set-plan s client euid egid groups).granted
+lives-decide s client Exit = (lives-ended s client).granted
+lives-decide s client call = by-same client s (decide s client call) (clients-kept s client call refl)
 
-within-end : (s : State) (w : Waiting) → AllWithin s (end_waiting s w).state
-within-end s w = let rest = without s w.client in within-ended rest w.client (decide rest w.client w.call) (within-decide rest w.client w.call)
+-- a call that may wait changes no client
+not-changing : (call : Call) → can_wait call ≡ true → is_set_creds call ≡ false
+not-changing (SetCreds euid egid groups) can = absurd (true≢false (sym can))
+not-changing Exit can = absurd (true≢false (sym can))
+not-changing call can = refl
 
-within-settled : (s : State) → AllWithin s (settled s).state
-within-settled s = kept-settled (AllWithin s) (λ t w is within. all-within s t (end_waiting t w).state within (within-end t w)) s (λ k p closed. closed)
+abbrev CanWait : List Waiting → Type 0
+CanWait ws = AllByRecursion (λ w. can_wait w.call ≡ true) ws
 
-within-state_by : (s : State) (who : ℕ) (call : Call) (d : Decision State) → IfGranted (λ answer new. AllWithin s new) d → AllWithin s (cancelled_by (state_by s who call d) call d).state
-within-state_by s who call (Refused rule) within = λ k p closed. closed
-within-state_by s who call Waits within = λ k p closed. closed
-within-state_by s who call (Granted answer new) within = within
+lives-turn : (k : ℕ) (s : State) (who : ℕ) (d : Decision State) → IfGranted (λ answer new. Lives k s new) d → Lives k s (ended_by s who d).state
+lives-turn k s who (Refused rule) lives = (λ p closed. closed, refl)
+lives-turn k s who Waits lives = (λ p closed. closed, refl)
+lives-turn k s who (Granted answer new) lives = lives
 
-pub within-step : (s : State) (e : Event) → AllWithin s (step s e).state
-within-step s e =
+lives-end : (k : ℕ) (s : State) (w : Waiting) → can_wait w.call ≡ true → Lives k s (end_waiting s w).state
+lives-end k s w can =
+    let rest = without s w.client in
+    lives-turn k rest w.client (decide rest w.client w.call) (by-same k rest (decide rest w.client w.call) (clients-kept rest w.client w.call (not-changing w.call can)))
+
+lives-settled : (k : ℕ) (s : State) → CanWait s.parked → Lives k s (settled s).state
+lives-settled k s can = (kept-settled (λ t. Lives k s t × CanWait t.parked) (λ t w is holds. (
+    lives-on k s t (end_waiting t w).state holds.0 (lives-end k t w (all-found (is_ready t) (λ v. can_wait v.call ≡ true) t.parked w holds.1 is).0),
+    subst CanWait (sym (left-parked t w)) (all-filter (λ v. can_wait v.call ≡ true) (λ v. not (v.client == w.client)) t.parked holds.1),
+  )) s ((λ p closed. closed, refl), can)).0
+
+lives-moved : (k : ℕ) (s : State) (who : ℕ) (call : Call) (d : Decision State) → IfGranted (λ answer new. Lives k s new) d → Lives k s (moved_as s who call d).state
+lives-moved k s who call (Refused rule) lives = (λ p closed. closed, refl)
+lives-moved k s who call Waits lives = (λ p closed. closed, refl)
+lives-moved k s who call (Granted answer new) lives = lives
+
+can-moved : (s : State) (who : ℕ) (call : Call) (d : Decision State) → (proceeds d ≡ false → can_wait call ≡ true) → Keeps s d → CanWait s.parked → CanWait (moved_as s who call d).state.parked
+can-moved s who call (Refused rule) can keeps are = are
+can-moved s who call Waits can keeps are = all-push (λ w. can_wait w.call ≡ true) s.parked (waiting_as s who call) are (ap (λ at. is_some at) (at-as call) ∙ can refl)
+can-moved s who call (Granted answer new) can keeps are =
+    all-filter (λ w. can_wait w.call ≡ true) (λ w. is_none (cancelled new call w)) new.parked (subst CanWait (sym keeps.0) are)
+
+pub lives-step : (s : State) (e : Event) → AreNotReady s → Lives e.client s (step s e).state
+lives-step s e quiet =
     let now = begun s e.now in
-    let moved = (moved_by now e.client e.call).state in
     let made = decide_call now e.client e.call in
-    let begins : AllWithin s now = same-within s now refl in
-    let within = late-granted (λ answer new. AllWithin now new) (is_late now e.call) (decide now e.client e.call) (within-decide now e.client e.call) in
-    all-within s now (settled moved).state begins (all-within now moved (settled moved).state (within-state_by now e.client e.call made within) (within-settled moved))
+    let moved = (moved_by now e.client e.call).state in
+    let can : CanWait s.parked = all-map (λ w. is_ready s w ≡ false) (λ w. can_wait w.call ≡ true) (λ w waits. only_parkable s w.client w.call waits) s.parked quiet in
+    let can_now : CanWait now.parked = all-filter (λ w. can_wait w.call ≡ true) (λ w. is_none (expired (at_time s e.now) w)) s.parked can in
+    let starts : Lives e.client s now = (λ p closed. closed, refl) in
+    let lives = late-granted (λ answer new. Lives e.client now new) (is_late now e.call) (decide now e.client e.call) (lives-decide now e.client e.call) in
+    lives-on e.client s now (settled moved).state starts
+    (lives-on e.client now moved (settled moved).state (lives-moved e.client now e.client e.call made lives)
+    (lives-settled e.client moved (can-moved now e.client e.call made (only_parkable_call now e.client e.call) (Keeps-call now e.client e.call) can_now)))

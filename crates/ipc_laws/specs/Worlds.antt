@@ -18,7 +18,7 @@ use Rattle.ipc_ids.specs.Images.{map_entries}
 use Rattle.ipc_objects.specs.declared.object.Object.{Object}
 use Rattle.sem_set.specs.Sets.{zeroed}
 use Rattle.shm_seg.specs.Attachments.{Attached, attach_count, attachment_at}
-use Rattle.ipc_model.specs.State.{Queue, Queues, Segment, SemSet, Sems, Shared, State, creds_at}
+use Rattle.ipc_model.specs.State.{Queue, Queues, Segment, SemSet, Sems, Shared, State, creds_at, process_at}
 use Rattle.ipc_model.specs.Decision.{Outcome}
 use Rattle.ipc_model.specs.Decide.{waits_at}
 use Rattle.ipc_model.specs.Step.{Event, Stepped, step}
@@ -36,15 +36,16 @@ is_closed c p =
     not (has_capability c cap_setuid || has_capability c cap_setgid)
     && list_all (λ u. list_all (λ g. is_shut (acting_as c u g) p) (own_groups c)) (own_users c)
 
--- the client has the segment attached
+-- the process has the segment attached
 abbrev pub has_attached : Attached → ℕ → ℕ → Bool
-has_attached attached client id = nat_lt 0 (attach_count (finite.retain_keys attached (λ h. h.client == client)) id)
+has_attached attached process id = nat_lt 0 (attach_count (finite.retain_keys attached (λ h. h.client == process)) id)
 
--- of the contents of a hidden object nothing is left but how many semaphores or bytes it has: a get that asks for no
--- right tells that
+-- of the contents of a hidden object nothing is left but how many semaphores or bytes it has, which a get that asks for no
+-- right tells, whether a segment is marked, which decides whether it goes with a process, and what no event out of sight
+-- changes: msg_qbytes, and a segment's creator
 abbrev pub blank_queue : Queue → Queue
 blank_queue queue =
-    record { messages = []; qbytes = 0; last_sender = 0; last_receiver = 0; send_time = 0; receive_time = 0 }
+    record { messages = []; qbytes = queue.qbytes; last_sender = 0; last_receiver = 0; send_time = 0; receive_time = 0 }
 
 abbrev pub blank_set : SemSet → SemSet
 blank_set set = record { semaphores = replicate (length set.semaphores) zeroed; op_time = 0 }
@@ -52,8 +53,8 @@ blank_set set = record { semaphores = replicate (length set.semaphores) zeroed; 
 abbrev pub blank_segment : Segment → Segment
 blank_segment segment = record {
   bytes = replicate (length segment.bytes) 0;
-  is_marked = false;
-  creator = 0;
+  is_marked = segment.is_marked;
+  creator = segment.creator;
   last = 0;
   attach_time = 0;
   detach_time = 0;
@@ -73,16 +74,16 @@ all_masked empty hides t = map_entries (masked empty hides) t
 abbrev pub is_hidden_in : {X : Type 0} → (ℕ → Perm → Bool) → Table (Object X) → ℕ → Bool
 is_hidden_in hides t id = unwrap_or (option_map (λ object. hides id object.perm) (finite.get t.objects id)) false
 
--- of a client with these credentials
-module _ (client : ℕ) (c : Credentials) where
+-- of a thread of this process with these credentials
+module _ (process : ℕ) (c : Credentials) where
   -- a queue or a set is hidden where it is closed to the client. Its own undo entries on a closed set don't bring that
   -- into sight: exit adds them to values that it is never told
   abbrev pub hides_closed : ℕ → Perm → Bool
   hides_closed id perm = is_closed c perm
 
-  -- a segment that the client has attached it sees, whatever has become of its permissions
+  -- a segment that its process has attached it sees, whatever has become of its permissions
   abbrev pub hides_segment : Attached → ℕ → Perm → Bool
-  hides_segment attached id perm = is_closed c perm && not (has_attached attached client id)
+  hides_segment attached id perm = is_closed c perm && not (has_attached attached process id)
 
   abbrev pub is_hidden : State → Kind → ℕ → Bool
   is_hidden s kinds.Queue id = is_hidden_in hides_closed s.queues id
@@ -119,7 +120,7 @@ module _ (client : ℕ) (c : Credentials) where
   }
 
 abbrev pub blur : ℕ → State → State
-blur client s = blur_by client (creds_at s client) s
+blur client s = blur_by (process_at s client) (creds_at s client) s
 
 -- the client can't tell the states apart
 abbrev pub Agree : ℕ → State → State → Type 0
@@ -162,19 +163,19 @@ contents_at s client (SemTimedOp id ops timeout) = Some (kinds.Sems, id)
 contents_at s client (SetVal id num value) = Some (kinds.Sems, id)
 contents_at s client (SetAll id values) = Some (kinds.Sems, id)
 contents_at s client (ShmWrite att offset bytes) =
-    option_map (λ a. (kinds.Segment, a.segment)) (attachment_at s.shared.attached client att)
+    option_map (λ a. (kinds.Segment, a.segment)) (attachment_at s.shared.attached (process_at s client) att)
 contents_at s client call = None
 
--- a client with these credentials sees nothing of what another's call does
+-- a thread of this process with these credentials sees nothing of what another's call does
 abbrev pub is_unseen : ℕ → Credentials → State → ℕ → Call → Bool
-is_unseen client c s other call = only_reads call || is_hidden_at client c s (contents_at s other call)
+is_unseen process c s other call = only_reads call || is_hidden_at process c s (contents_at s other call)
 
 -- an event out of the client's sight: a call of another, which reads, or changes the contents of an object that is
 -- hidden from the client, at a time that doesn't move the clock. Not so the calls that create, remove, attach or detach,
 -- that set permissions, that interrupt, and exit: what they change may be in sight
 pub record IsOutOfSight (client : ℕ) (s : State) (e : Event) : Type 0 where
   pub other : (e.client == client) ≡ false
-  pub unseen : is_unseen client (creds_at s client) s e.client e.call ≡ true
+  pub unseen : is_unseen (process_at s client) (creds_at s client) s e.client e.call ≡ true
   pub early : e.now ≤ s.clock
 
 abbrev pub AreOutOfSight : ℕ → State → List Event → Type 0

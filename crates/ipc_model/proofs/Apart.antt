@@ -1,10 +1,10 @@
 -- A change of one object, and of what exit undoes there, leaves the others as they were.
-use Rattle.std.proofs.Common.{◌+◌, ◌≡◌, ◌≢◌, ℕ, ℤ, Bool, true, false, cond, eqb, List, [], ◌∷◌, ◌++◌, refl, sym, ap, ◌∙◌, ⊎_elim, Option, Some, None}
+use Rattle.std.proofs.Common.{◌+◌, ◌≡◌, ◌≢◌, ℕ, zero, suc, get_or, ℤ, Bool, true, false, cond, eqb, List, [], ◌∷◌, ◌++◌, refl, sym, ap, ◌∙◌, ⊎_elim, Option, Some, None}
 use Rattle.std.specs.Prelude.{◌&&◌, ◌||◌, filter, is_none, map, not, pos, ◌-ℤ◌, option_map}
 use Rattle.std.specs.List.{list_any}
 use Rattle.std.specs.Ordering.{int_eq}
 use Rattle.std.specs.FinMap as finite
-use Rattle.std.proofs.lemmas.Bool.{cases_Bool, false≢true, ne_eqb, true≢false}
+use Rattle.std.proofs.lemmas.Bool.{cases_Bool, eq-eqb, false≢true, ne_eqb, true≢false}
 use Rattle.std.proofs.lemmas.Option.{none-some, same_Some}
 use Rattle.ipc_call.specs.declared.calls.SemOper.{SemOper}
 use Rattle.ipc_ids.specs.Table.{Table, id_at, is_retired, is_usable, least_from, next_id, object_at}
@@ -17,7 +17,7 @@ use Rattle.sem_set.specs.Exits.{any_from, undone_from}
 use Rattle.sem_set.specs.Trials.{sum_of, undoes, undoes_on}
 use Rattle.sem_undo.specs.Entries.{Adjusted, Entries, adj_of, cleared, without_client}
 use Rattle.sem_undo.proofs.Entries.{get_kept, get_with_apart, key}
-use Rattle.ipc_model.specs.State.{Caller, SemSet, Sems}
+use Rattle.ipc_model.specs.State.{Caller, SemSet, Sems, Thread, no_thread, runs}
 use Rattle.ipc_model.specs.Semaphores.{set_after_exit, lowered, with_adjs}
 
 -- an object at another identifier
@@ -77,7 +77,13 @@ exited-none sems who id set none =
       op_time = cond (none i) who.now set.contents.op_time;
     })
 
--- one more client has ended
-pub ended-other : (ended : List ℕ) (client c : ℕ) → c ≢ client → list_any (λ other. eqb other c) (ended ++ client ∷ []) ≡ list_any (λ other. eqb other c) ended
-ended-other [] client c other = let no = ne_eqb client c (λ e. other (sym e)) in rw no refl
-ended-other (e ∷ ended) client c other = ap (λ (b : Bool). eqb e c || b) (ended-other ended client c other)
+-- where no thread of a process runs, each that hasn't ended is of another one
+pub none-runs : (ts : List Thread) (process c : ℕ) → list_any (runs process) ts ≡ false → (get_or ts c no_thread).has_ended ≡ false → (get_or ts c no_thread).process ≢ process
+none-runs [] process c none alive = absurd (true≢false alive)
+none-runs (t ∷ ts) process zero none alive =
+    λ is. let here : runs process t ≡ true = λ i. eq-eqb t.process process is i && not (alive i) in true≢false (sym (ap (λ (b : Bool). b || list_any (runs process) ts) here) ∙ none)
+none-runs (t ∷ ts) process (suc c) none alive = none-runs ts process c (later (runs process t) none) alive
+  where
+    later : (b : Bool) → b || list_any (runs process) ts ≡ false → list_any (runs process) ts ≡ false
+    later true none = absurd (true≢false none)
+    later false none = none

@@ -1,5 +1,5 @@
--- What a grant leaves as it was beside the objects: the clock, and the clients' credentials but where it is setcreds.
-use Rattle.std.proofs.Common.{◌≡◌, ℕ, Bool, true, false, List, [], ◌∷◌, refl, sym}
+-- What a grant leaves as it was beside the objects: the clock, and the clients, with what they are threads of, but for the calls that change these.
+use Rattle.std.proofs.Common.{◌≡◌, ℕ, Bool, true, false, cond, List, [], ◌∷◌, refl, sym}
 use Rattle.std.specs.Prelude.{Option, if◌then◌else◌, is_some}
 use Rattle.std.proofs.lemmas.Bool.{true≢false}
 use Rattle.ipc_call.specs.declared.calls.Call.{Call}
@@ -11,12 +11,12 @@ use Rattle.ipc_call.specs.declared.replies.Answer.{Answer}
 use Rattle.ipc_call.specs.declared.replies.Answer.TheVariants.{Done}
 use Rattle.ipc_call.specs.declared.rules.Rule.TheVariants.{BadId, NoProcess}
 use Rattle.ipc_perm.specs.Access.{Resource, SetGroups}
-use Rattle.ipc_model.specs.State.{State, caller, creds_at}
+use Rattle.ipc_model.specs.State.{State, caller, creds_at, is_running, process_at}
 use Rattle.ipc_model.specs.Plan.{Needs, Plan, ◌⨾◌}
 use Rattle.ipc_model.specs.Plan as plans
 use Rattle.ipc_model.specs.Decision.{Decision, Refused, Waits, Granted}
 use Rattle.ipc_model.specs.Controls.{is_within, perm_of, removed, status_of, with_set}
-use Rattle.ipc_model.specs.Processes.{process}
+use Rattle.ipc_model.specs.Processes.{ended, process, process_ended}
 use Rattle.ipc_model.specs.Decide.{OnQueues, OnSems, OnShared, OnState, PartPlan, decide, part_plan, plan, whole}
 use Rattle.ipc_model.proofs.Plans.{Ends, Ends-decision, Ends-found, Ends-on, Ends-order, IfGranted}
 
@@ -34,7 +34,7 @@ abbrev pub KeepsClock : State → Answer → State → Type 0
 KeepsClock s answer new = new.clock ≡ s.clock
 
 abbrev pub KeepsClients : State → Answer → State → Type 0
-KeepsClients s answer new = new.clients ≡ s.clients
+KeepsClients s answer new = (new.clients ≡ s.clients) × (new.threads ≡ s.threads)
 
 abbrev KeepsBoth : State → Answer → State → Type 0
 KeepsBoth s answer new = KeepsClock s answer new × KeepsClients s answer new
@@ -47,37 +47,39 @@ is_on_part (OnShared p) = true
 is_on_part (OnState p) = false
 
 both-part : (s : State) (p : PartPlan) → is_on_part p ≡ true → Ends (KeepsBoth s) (whole s p)
-both-part s (OnQueues p) on = Ends-on (λ queues. record s { queues = queues }) (KeepsBoth s) p (every-end _ (λ answer x. (refl, refl)) p)
-both-part s (OnSems p) on = Ends-on (λ sems. record s { sems = sems }) (KeepsBoth s) p (every-end _ (λ answer x. (refl, refl)) p)
-both-part s (OnShared p) on = Ends-on (λ shared. record s { shared = shared }) (KeepsBoth s) p (every-end _ (λ answer x. (refl, refl)) p)
+both-part s (OnQueues p) on = Ends-on (λ queues. record s { queues = queues }) (KeepsBoth s) p (every-end _ (λ answer x. (refl, (refl, refl))) p)
+both-part s (OnSems p) on = Ends-on (λ sems. record s { sems = sems }) (KeepsBoth s) p (every-end _ (λ answer x. (refl, (refl, refl))) p)
+both-part s (OnShared p) on = Ends-on (λ shared. record s { shared = shared }) (KeepsBoth s) p (every-end _ (λ answer x. (refl, (refl, refl))) p)
 both-part s (OnState p) on = absurd (true≢false (sym on))
 
 both-removed : (s : State) (kind : Kind) (id : ℕ) → KeepsBoth s Done (removed s kind id)
-both-removed s kinds.Queue id = (refl, refl)
-both-removed s kinds.Sems id = (refl, refl)
-both-removed s kinds.Segment id = (refl, refl)
+both-removed s kinds.Queue id = (refl, (refl, refl))
+both-removed s kinds.Sems id = (refl, (refl, refl))
+both-removed s kinds.Segment id = (refl, (refl, refl))
 
 both-set : (s : State) (kind : Kind) (id : ℕ) (new : Settings) → KeepsBoth s Done (with_set s kind id new)
-both-set s kinds.Queue id new = (refl, refl)
-both-set s kinds.Sems id new = (refl, refl)
-both-set s kinds.Segment id new = (refl, refl)
+both-set s kinds.Queue id new = (refl, (refl, refl))
+both-set s kinds.Sems id new = (refl, (refl, refl))
+both-set s kinds.Segment id new = (refl, (refl, refl))
 
+-- a call that changes what a client is
 abbrev pub is_set_creds : Call → Bool
 is_set_creds (SetCreds euid egid groups) = true
+is_set_creds Exit = true
 is_set_creds call = false
 
 both-plan : (s : State) (client : ℕ) (call : Call) → is_set_creds call ≡ false → Ends (KeepsBoth s) (plan s client call)
 unfolding part_plan
 both-plan s client (SetCreds euid egid groups) other = absurd (true≢false other)
-both-plan s client Exit other = (refl, refl)
-both-plan s client (IpcStat kind id) other = Ends-found (KeepsBoth s) (status_of s kind id) BadId tt _ (λ told is. (refl, refl))
+both-plan s client Exit other = absurd (true≢false other)
+both-plan s client (IpcStat kind id) other = Ends-found (KeepsBoth s) (status_of s kind id) BadId tt _ (λ told is. (refl, (refl, refl)))
 both-plan s client (IpcSet kind id uid gid mode qbytes) other =
     let new : Settings = record { uid = uid; gid = gid; mode = mode; qbytes = qbytes } in
     Ends-found (KeepsBoth s) (perm_of s kind id) BadId tt _
     (λ perm is. Ends-order (KeepsBoth s) (if is_within s qbytes then [] else Needs Resource ∷ []) _ (both-set s kind id new))
 both-plan s client (IpcRmid kind id) other = Ends-found (KeepsBoth s) (perm_of s kind id) BadId tt _ (λ perm is. both-removed s kind id)
-both-plan s client (Listing kind) other = (refl, refl)
-both-plan s client (Interrupt pid) other = Ends-found (KeepsBoth s) (process s pid) NoProcess tt _ (λ target is. (refl, refl))
+both-plan s client (Listing kind) other = (refl, (refl, refl))
+both-plan s client (Interrupt pid) other = Ends-found (KeepsBoth s) (process s pid) NoProcess tt _ (λ target is. (refl, (refl, refl)))
 both-plan s client call other = both-part s (part_plan s (caller s client) call) refl
 
 both-kept : (s : State) (client : ℕ) (call : Call) → is_set_creds call ≡ false → IfGranted (KeepsBoth s) (decide s client call)
@@ -90,6 +92,15 @@ clock-becoming : (s : State) (client euid egid : ℕ) (groups : Option (List ℕ
 unfolding part_plan
 clock-becoming s client euid egid groups = Ends-order (KeepsClock s) (if is_some groups then Needs SetGroups ∷ [] else []) _ refl
 
+clock-cond : (s : State) (client : ℕ) (running : Bool) → KeepsClock s Done (cond running (ended s client) (process_ended (ended s client) (caller s client)))
+clock-cond s client true = refl
+clock-cond s client false = refl
+
+clock-ends : (s : State) (client : ℕ) → Ends (KeepsClock s) (plan s client Exit)
+unfolding part_plan
+clock-ends s client = clock-cond s client (is_running (ended s client) (process_at s client))
+
 pub clock-kept : (s : State) (client : ℕ) (call : Call) → IfGranted (KeepsClock s) (decide s client call)
 clock-kept s client (SetCreds euid egid groups) = Ends-decision (creds_at s client) (KeepsClock s) (plan s client (SetCreds euid egid groups)) (clock-becoming s client euid egid groups)
+clock-kept s client Exit = Ends-decision (creds_at s client) (KeepsClock s) (plan s client Exit) (clock-ends s client)
 clock-kept s client call = granted-so (KeepsBoth s) (KeepsClock s) (λ answer new both. both.0) (decide s client call) (both-kept s client call refl)

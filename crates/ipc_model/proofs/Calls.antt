@@ -1,5 +1,5 @@
 -- The calls, a line for each in three tables: on what a plan doesn't depend, which plans wait, and what a grant keeps.
-use Rattle.std.proofs.Common.{◌≡◌, ℕ, Bool, true, false, List, [], ◌∷◌, length, refl, sym, ap, ◌∙◌, Option, Some, None}
+use Rattle.std.proofs.Common.{◌≡◌, ℕ, Bool, true, false, cond, List, [], ◌∷◌, length, refl, sym, ap, ◌∙◌, Option, Some, None}
 use Rattle.std.specs.Prelude.{if◌then◌else◌, is_some, not, pos, int_le, nat_le, nat_lt, option_and_then, option_map}
 use Rattle.std.proofs.lemmas.Bool.{true≢false}
 use Rattle.ipc_call.specs.declared.settings.Receive.{Receive}
@@ -18,7 +18,7 @@ use Rattle.ipc_perm.specs.Access.{Permission, Resource, SetGroups, to_read}
 use Rattle.ipc_ids.specs.Table.{Table, next_id, with_object, without_object}
 use Rattle.ipc_objects.specs.declared.object.Object.{Object}
 use Rattle.msg_queue.specs.declared.messages.Message.{Message}
-use Rattle.ipc_model.specs.State.{Caller, Queue, Queues, Segment, SemSet, Sems, Shared, State, caller, creds_at, has_exited, pid_at}
+use Rattle.ipc_model.specs.State.{Caller, Queue, Queues, Segment, SemSet, Sems, Shared, State, caller, creds_at, has_exited, is_running, pid_at, process_at}
 use Rattle.ipc_model.specs.Decision.{proceeds}
 use Rattle.ipc_model.specs.Plan.{Needs, Passes, Plan, decision, in_order, on_part, ◌⨾◌}
 use Rattle.ipc_model.specs.Plan as plans
@@ -32,7 +32,7 @@ use Rattle.sem_undo.specs.Entries.{adj_of}
 use Rattle.ipc_objects.specs.Objects.{changed, with_contents}
 use Rattle.std.proofs.lemmas.List.{length-set}
 use Rattle.ipc_creds.specs.Credentials.{became}
-use Rattle.ipc_model.specs.Processes.{process, with_creds}
+use Rattle.ipc_model.specs.Processes.{ended, process, process_ended, with_creds}
 use Rattle.ipc_model.specs.Controls.{is_within, perm_of, removed, status_of, with_new_owner, with_set, with_settings, without_segment, without_set}
 use Rattle.ipc_model.specs.Listings.{rows_to}
 use Rattle.ipc_model.specs.Decide.{OnQueues, OnSems, OnShared, can_wait, get_waiting, is_negative, is_zero, decide, decide_alive, part_plan, plan, plan_alive, whole}
@@ -82,7 +82,7 @@ module _ (s : State) (parked : List Waiting) (clock : ℕ) where
       (ap (λ p. Passes (nat_lt 0 (length ops)) NoOperations tt ⨾ Passes (nat_le (length ops) s.limits.sem_opm) TooManyOperations tt ⨾ p)
       (blank-found (set_at s.sems id) BadId tt _ _ (λ (set : Object SemSet).
       ap (λ p. Needs (Permission set.perm (wanted_by ops)) ⨾ Passes (are_in set.contents.semaphores ops) SemOutOfSet tt ⨾ p)
-      (blank-order (trial_checks set.contents.semaphores (adj_of s.sems.undo client id) [] ops) _ _ refl))))
+      (blank-order (trial_checks set.contents.semaphores (adj_of s.sems.undo (process_at s client) id) [] ops) _ _ refl))))
 
   -- of a call that may wait
   alive-alike : (client : ℕ) (call : Call) → can_wait call ≡ true → blank (plan_alive later client call) ≡ blank (plan_alive s client call)
@@ -151,10 +151,10 @@ never-plan s client (ShmGet key size flags) never =
     (never-on (λ segments. record s.shared { segments = segments }) (get segments who asked getting)
     (never-get segments getting (λ p waits. waits) (λ x p waits. waits) who asked (object_of_key segments key)))
 never-plan s client (ShmAt id flags) never =
-    never-shared s (attach s.shared (caller s client) id flags) (never-found (segment_at s.shared id) BadId tt _ (λ segment. never-found (free_number s.shared.attached client) TooManyAttached tt _ (λ number. refl)))
-never-plan s client (ShmDt att) never = never-shared s (detach s.shared (caller s client) att) (never-found (attachment_at s.shared.attached client att) NotAttached tt _ (λ a. refl))
-never-plan s client (ShmRead att offset len) never = never-shared s (read_bytes s.shared (caller s client) att offset len) (never-found (behind s.shared client att) NotAttached tt _ (λ there. refl))
-never-plan s client (ShmWrite att offset bytes) never = never-shared s (write_bytes s.shared (caller s client) att offset bytes) (never-found (behind s.shared client att) NotAttached tt _ (λ there. refl))
+    never-shared s (attach s.shared (caller s client) id flags) (never-found (segment_at s.shared id) BadId tt _ (λ segment. never-found (free_number s.shared.attached (process_at s client)) TooManyAttached tt _ (λ number. refl)))
+never-plan s client (ShmDt att) never = never-shared s (detach s.shared (caller s client) att) (never-found (attachment_at s.shared.attached (process_at s client) att) NotAttached tt _ (λ a. refl))
+never-plan s client (ShmRead att offset len) never = never-shared s (read_bytes s.shared (caller s client) att offset len) (never-found (behind s.shared (process_at s client) att) NotAttached tt _ (λ there. refl))
+never-plan s client (ShmWrite att offset bytes) never = never-shared s (write_bytes s.shared (caller s client) att offset bytes) (never-found (behind s.shared (process_at s client) att) NotAttached tt _ (λ there. refl))
 never-plan s client (IpcStat kind id) never = never-found (status_of s kind id) BadId tt _ (λ told. refl)
 never-plan s client (IpcSet kind id uid gid mode qbytes) never =
     let set : Settings = record { uid = uid; gid = gid; mode = mode; qbytes = qbytes } in
@@ -273,7 +273,13 @@ Ends-operate : (s : State) (client id : ℕ) (ops : List SemOper) → Ends (Succ
 Ends-operate s client id ops =
     let who = caller s client in
     Ends-sems s (operate s.limits s.sems who id ops) (Ends-found _ (set_at s.sems id) BadId tt _ (λ set is.
-    Ends-order (λ answer u. Grows s.sems.sets u.sets) (trial_checks set.contents.semaphores (adj_of s.sems.undo client id) [] ops) (plans.Grant Done (operated s.sems who id ops set.contents)) (Grows-changed s.sems.sets id _)))
+    Ends-order (λ answer u. Grows s.sems.sets u.sets) (trial_checks set.contents.semaphores (adj_of s.sems.undo (process_at s client) id) [] ops) (plans.Grant Done (operated s.sems who id ops set.contents)) (Grows-changed s.sems.sets id _)))
+
+-- a thread ends, or a process
+Succeeds-exit : (s : State) (client : ℕ) (running : Bool) → Succeeds s Done (cond running (ended s client) (process_ended (ended s client) (caller s client)))
+Succeeds-exit s client true = (refl, Follows-same s (ended s client) refl refl refl refl refl)
+Succeeds-exit s client false =
+    (refl, record { queues = Grows-same s.queues; sets = Grows-mapped (set_after_exit s.sems (caller s client)) s.sems.sets; shared = Leads-each shmseg 0 (caller s client) s.shared; clients = refl; limits = refl })
 
 -- each call
 Ends-plan : (s : State) (client : ℕ) (call : Call) → Ends (Succeeds s) (plan s client call)
@@ -297,7 +303,7 @@ Ends-plan s client (SemOp id ops) = Ends-operate s client id ops
 Ends-plan s client (SemTimedOp id ops timeout) = Ends-operate s client id ops
 Ends-plan s client (GetNcnt id num) = Ends-sems s (get_waiting s id num (is_negative num)) (Ends-found _ (set_at s.sems id) BadId tt _ (λ set is. Grows-same s.sems.sets))
 Ends-plan s client (GetZcnt id num) = Ends-sems s (get_waiting s id num (is_zero num)) (Ends-found _ (set_at s.sems id) BadId tt _ (λ set is. Grows-same s.sems.sets))
-Ends-plan s client Exit = (refl, record { queues = Grows-same s.queues; sets = Grows-mapped (set_after_exit s.sems (caller s client)) s.sems.sets; shared = Leads-each shmseg 0 (caller s client) s.shared; clients = refl; limits = refl })
+Ends-plan s client Exit = Succeeds-exit s client (is_running (ended s client) (process_at s client))
 Ends-plan s client (GetVal id num) = Ends-sems s (get_value s.sems id num) (Ends-found _ (set_at s.sems id) BadId tt _ (λ set is. Grows-same s.sems.sets))
 Ends-plan s client (GetPid id num) = Ends-sems s (get_pid s.sems id num) (Ends-found _ (set_at s.sems id) BadId tt _ (λ set is. Grows-same s.sems.sets))
 Ends-plan s client (GetAll id) = Ends-sems s (get_all s.sems id) (Ends-found _ (set_at s.sems id) BadId tt _ (λ set is. Grows-same s.sems.sets))
@@ -314,13 +320,13 @@ Ends-plan s client (ShmGet key size flags) =
     (Ends-getting a.segments who asked getting (λ t. Leads a (put t)) (Leads-same a) (λ id is. Leads-new a id (new_object who asked.key asked.flags getting.new) refl is) (object_of_key a.segments key)))
 Ends-plan s client (ShmAt id flags) =
     let who = caller s client in
-    Ends-shared s (attach s.shared who id flags) (Ends-found _ (segment_at s.shared id) BadId tt _ (λ segment there. Ends-found _ (free_number s.shared.attached client) TooManyAttached tt _ (λ number free. Leads-attached s.shared who id flags number segment there free)))
+    Ends-shared s (attach s.shared who id flags) (Ends-found _ (segment_at s.shared id) BadId tt _ (λ segment there. Ends-found _ (free_number s.shared.attached (process_at s client)) TooManyAttached tt _ (λ number free. Leads-attached s.shared who id flags number segment there free)))
 Ends-plan s client (ShmDt att) =
     let who = caller s client in
-    Ends-shared s (detach s.shared who att) (Ends-found _ (attachment_at s.shared.attached client att) NotAttached tt _ (λ a there. Leads-detached s.shared who att a there))
-Ends-plan s client (ShmRead att offset len) = Ends-shared s (read_bytes s.shared (caller s client) att offset len) (Ends-found _ (behind s.shared client att) NotAttached tt _ (λ there is. Leads-same s.shared))
+    Ends-shared s (detach s.shared who att) (Ends-found _ (attachment_at s.shared.attached (process_at s client) att) NotAttached tt _ (λ a there. Leads-detached s.shared who att a there))
+Ends-plan s client (ShmRead att offset len) = Ends-shared s (read_bytes s.shared (caller s client) att offset len) (Ends-found _ (behind s.shared (process_at s client) att) NotAttached tt _ (λ there is. Leads-same s.shared))
 Ends-plan s client (ShmWrite att offset bytes) =
-    Ends-shared s (write_bytes s.shared (caller s client) att offset bytes) (Ends-found _ (behind s.shared client att) NotAttached tt _ (λ there is. Leads-written s.shared there.0.segment there.1 offset bytes (behind-there s.shared client att there.0 there.1 is)))
+    Ends-shared s (write_bytes s.shared (caller s client) att offset bytes) (Ends-found _ (behind s.shared (process_at s client) att) NotAttached tt _ (λ there is. Leads-written s.shared there.0.segment there.1 offset bytes (behind-there s.shared (process_at s client) att there.0 there.1 is)))
 Ends-plan s client (IpcStat kind id) = Ends-found (Succeeds s) (status_of s kind id) BadId tt _ (λ told is. Succeeds-same s (StatusAnswer told.1))
 Ends-plan s client (IpcSet kind id uid gid mode qbytes) =
     let new : Settings = record { uid = uid; gid = gid; mode = mode; qbytes = qbytes } in

@@ -1,9 +1,10 @@
 -- What the grant of a call leaves as it was: each object that the call doesn't touch, to the calls of other clients that
 -- wait there.
-use Rattle.std.proofs.Common.{◌≡◌, ◌≢◌, ℕ, Bool, true, false, eqb, List, [], ◌∷◌, ◌++◌, refl, sym, ap, ◌∙◌, Option, Some, None}
-use Rattle.std.specs.Prelude.{◌&&◌, is_some, pos, option_map, unwrap_or, if◌then◌else◌}
+use Rattle.std.proofs.Common.{◌≡◌, ◌≢◌, ℕ, zero, suc, Bool, true, false, cond, eqb, get_or, set, List, [], ◌∷◌, ◌++◌, refl, sym, ap, ◌∙◌, Option, Some, None}
+use Rattle.std.specs.Prelude.{◌==◌, ◌&&◌, is_some, pos, option_and_then, option_map, slice_get, unwrap_or, if◌then◌else◌}
 use Rattle.std.specs.FinMap as finite
-use Rattle.std.proofs.lemmas.Bool.{eqb-false, false≢true}
+use Rattle.std.proofs.lemmas.Bool.{eqb-false, false≢true, true≢false}
+use Rattle.std.proofs.lemmas.Option.{none-some}
 use Rattle.std.proofs.lemmas.List.{get_or-set_other}
 use Rattle.ipc_call.specs.declared.settings.Receive.{Receive}
 use Rattle.ipc_call.specs.declared.calls.Call.{Call}
@@ -26,20 +27,20 @@ use Rattle.sem_set.specs.declared.set.Semaphore.{Semaphore}
 use Rattle.sem_set.specs.Exits.{any_from}
 use Rattle.sem_undo.specs.Entries.{adj_of}
 use Rattle.sem_undo.proofs.Entries.{key}
-use Rattle.ipc_model.specs.State.{Queue, Queues, SemSet, Sems, Shared, State, caller, creds_at, nobody}
+use Rattle.ipc_model.specs.State.{Caller, Queue, Queues, SemSet, Sems, Shared, State, Thread, caller, creds_at, has_exited, is_running, no_thread, nobody, process_at, thread_at}
 use Rattle.ipc_model.specs.Plan.{Needs, Plan, found, on_part, ◌⨾◌}
 use Rattle.ipc_model.specs.Plan as plans
 use Rattle.ipc_model.specs.Cancelled.{is_same}
 use Rattle.ipc_model.specs.Gets.{get, get_queue, get_segment, get_set, getting_queue, getting_set, object_of_key, Get}
 use Rattle.ipc_model.specs.Messages.{chosen, queue_at, receive_found, receive_message, send_found, send_message, take_chosen, Send}
 use Rattle.ipc_model.specs.Semaphores.{after_exit, set_after_exit, get_all, get_pid, get_value, operate, operated, set_all, set_at, set_value, trial_checks, with_values}
-use Rattle.ipc_model.specs.Processes.{process, with_creds}
+use Rattle.ipc_model.specs.Processes.{ended, process, process_ended, with_creds}
 use Rattle.ipc_model.specs.Controls.{is_within, perm_of, removed, status_of, with_set, without_set}
 use Rattle.ipc_model.specs.Decide.{get_waiting, is_negative, is_zero, part_plan, plan}
 use Rattle.ipc_model.specs.Segments.{after_detaches, attach, detach, read_bytes, write_bytes}
 use Rattle.ipc_model.specs.Touched.{is_id, owes, touches}
-use Rattle.ipc_model.proofs.Stays.{IsSeenAlike, Stays}
-use Rattle.ipc_model.proofs.Apart.{changed-apart, cleared-apart, ended-other, exited-none, lowered-apart, without-apart}
+use Rattle.ipc_model.proofs.Stays.{AreLiving, IsSeenAlike, Stays}
+use Rattle.ipc_model.proofs.Apart.{changed-apart, cleared-apart, exited-none, none-runs, lowered-apart, without-apart}
 use Rattle.ipc_model.proofs.Calls.{Ends-getting}
 use Rattle.ipc_model.proofs.Plans.{Ends, Ends-found, Ends-order}
 
@@ -56,7 +57,7 @@ module _ (s : State) (client : ℕ) (kind : Kind) (at : ℕ) where
   KeepsQueue u = is_same kinds.Queue kind ≡ true → queue_at u at ≡ queue_at s.queues at
 
   abbrev KeepsSet : Sems → Type 0
-  KeepsSet u = is_same kinds.Sems kind ≡ true → (set_at u at ≡ set_at s.sems at) × ((c : ℕ) → c ≢ client → (num : ℕ) → adj_of u.undo c at num ≡ adj_of s.sems.undo c at num)
+  KeepsSet u = is_same kinds.Sems kind ≡ true → (set_at u at ≡ set_at s.sems at) × ((c : ℕ) → c ≢ client → has_exited s c ≡ false → (num : ℕ) → adj_of u.undo (process_at s c) at num ≡ adj_of s.sems.undo (process_at s c) at num)
 
   abbrev Kept : State → Type 0
   Kept new = Stays s client kind at new
@@ -65,36 +66,36 @@ module _ (s : State) (client : ℕ) (kind : Kind) (at : ℕ) where
   seen new queue set = by kind queue set
     where
       by : (k : Kind) → (is_same kinds.Queue k ≡ true → queue_at new.queues at ≡ queue_at s.queues at)
-          → (is_same kinds.Sems k ≡ true → (set_at new.sems at ≡ set_at s.sems at) × ((c : ℕ) → c ≢ client → (num : ℕ) → adj_of new.sems.undo c at num ≡ adj_of s.sems.undo c at num))
+          → (is_same kinds.Sems k ≡ true → (set_at new.sems at ≡ set_at s.sems at) × ((c : ℕ) → c ≢ client → has_exited s c ≡ false → (num : ℕ) → adj_of new.sems.undo (process_at s c) at num ≡ adj_of s.sems.undo (process_at s c) at num))
           → IsSeenAlike k at client s new
       by kinds.Queue queue set = queue refl
-      by kinds.Sems queue set = set refl
+      by kinds.Sems queue set = ((set refl).0, λ c ne living num. (set refl).1 c ne living.0 num)
       by kinds.Segment queue set = tt
 
   queue-same : KeepsQueue s.queues
   queue-same is = refl
 
   set-same : KeepsSet s.sems
-  set-same is = (refl, λ c ne num. refl)
+  set-same is = (refl, λ c ne living num. refl)
 
   stays-same : Kept s
-  stays-same = record { limits = refl; creds = λ c ne. refl; alive = λ c ne. refl; object = seen s queue-same set-same }
+  stays-same = record { limits = refl; creds = λ c ne living. refl; alive = λ c ne living. refl; object = seen s queue-same set-same }
 
   stays-queues : (u : Queues) → KeepsQueue u → Kept (record s { queues = u })
-  stays-queues u keeps = record { limits = refl; creds = λ c ne. refl; alive = λ c ne. refl; object = seen (record s { queues = u }) keeps set-same }
+  stays-queues u keeps = record { limits = refl; creds = λ c ne living. refl; alive = λ c ne living. refl; object = seen (record s { queues = u }) keeps set-same }
 
   stays-sems : (u : Sems) → KeepsSet u → Kept (record s { sems = u })
-  stays-sems u keeps = record { limits = refl; creds = λ c ne. refl; alive = λ c ne. refl; object = seen (record s { sems = u }) queue-same keeps }
+  stays-sems u keeps = record { limits = refl; creds = λ c ne living. refl; alive = λ c ne living. refl; object = seen (record s { sems = u }) queue-same keeps }
 
   stays-shared : (u : Shared) → Kept (record s { shared = u })
-  stays-shared u = record { limits = refl; creds = λ c ne. refl; alive = λ c ne. refl; object = seen (record s { shared = u }) queue-same set-same }
+  stays-shared u = record { limits = refl; creds = λ c ne living. refl; alive = λ c ne living. refl; object = seen (record s { shared = u }) queue-same set-same }
 
   -- setcreds changes the caller's credentials
   stays-creds : (d : Credentials) → Kept (with_creds s client d)
   stays-creds d = record {
     limits = refl;
-    creds = λ c ne. get_or-set_other s.clients client c d nobody ne;
-    alive = λ c ne. refl;
+    creds = λ c ne living. get_or-set_other s.clients client c d nobody ne;
+    alive = λ c ne living. refl;
     object = seen (with_creds s client d) queue-same set-same;
   }
 
@@ -119,7 +120,7 @@ module _ (s : State) (client : ℕ) (kind : Kind) (at : ℕ) where
   on-sets : (p : Plan (Table (Object SemSet))) → Ends (λ answer t. is_same kinds.Sems kind ≡ true → finite.get t.objects at ≡ set_at s.sems at) p → Ends (λ answer u. KeepsSet u) (on_part (λ sets. record s.sems { sets = sets }) p)
   on-sets (check ⨾ rest) ends = on-sets rest ends
   on-sets (plans.Refuse rule plain) ends = tt
-  on-sets (plans.Grant answer new) ends = λ is. (ends is, λ c ne num. refl)
+  on-sets (plans.Grant answer new) ends = λ is. (ends is, λ c ne living num. refl)
 
   entry : (u : Sems) (c num : ℕ) → finite.get u.undo (key c at num) ≡ finite.get s.sems.undo (key c at num) → adj_of u.undo c at num ≡ adj_of s.sems.undo c at num
   entry u c num same = ap (λ o. unwrap_or o (pos 0)) same
@@ -134,7 +135,7 @@ module _ (s : State) (client : ℕ) (kind : Kind) (at : ℕ) where
   values-kept : (now id : ℕ) (semaphores : List Semaphore) (which : ℕ → Bool) → Elsewhere kinds.Sems id → KeepsSet (with_values s.sems now id semaphores which)
   values-kept now id semaphores which other is =
       let no = elsewhere kinds.Sems id other is in
-      (changed-apart s.sems.sets id at _ no, λ c ne num. entry (with_values s.sems now id semaphores which) c num (cleared-apart s.sems.undo id which (key c at num) no))
+      (changed-apart s.sems.sets id at _ no, λ c ne living num. entry (with_values s.sems now id semaphores which) (process_at s c) num (cleared-apart s.sems.undo id which (key (process_at s c) at num) no))
 
   queue-changed : (id : ℕ) (f : Object Queue → Object Queue) → Elsewhere kinds.Queue id → KeepsQueue (changed s.queues id f)
   queue-changed id f other is = changed-apart s.queues id at f (elsewhere kinds.Queue id other is)
@@ -162,46 +163,76 @@ module _ (s : State) (client : ℕ) (kind : Kind) (at : ℕ) where
   operated-kept : (id : ℕ) (ops : List SemOper) (set : SemSet) → Elsewhere kinds.Sems id → KeepsSet (operated s.sems (caller s client) id ops set)
   operated-kept id ops set other is =
       let no = elsewhere kinds.Sems id other is in
-      (changed-apart s.sems.sets id at _ no, λ c ne num. entry (operated s.sems (caller s client) id ops set) c num (lowered-apart client id ops s.sems.undo (key c at num) no))
+      (changed-apart s.sems.sets id at _ no, λ c ne living num. entry (operated s.sems (caller s client) id ops set) (process_at s c) num (lowered-apart (process_at s client) id ops s.sems.undo (key (process_at s c) at num) no))
 
   operating : (id : ℕ) (ops : List SemOper) → Elsewhere kinds.Sems id → Ends (λ answer new. Kept new) (on_part (λ sems. record s { sems = sems }) (operate s.limits s.sems (caller s client) id ops))
   operating id ops other =
       on-sems (operate s.limits s.sems (caller s client) id ops) (on-set id _ (λ set there.
-      Ends-order (λ answer u. KeepsSet u) (trial_checks set.contents.semaphores (adj_of s.sems.undo client id) [] ops) (plans.Grant Done (operated s.sems (caller s client) id ops set.contents))
+      Ends-order (λ answer u. KeepsSet u) (trial_checks set.contents.semaphores (adj_of s.sems.undo (process_at s client) id) [] ops) (plans.Grant Done (operated s.sems (caller s client) id ops set.contents))
       (operated-kept id ops set.contents other)))
 
   put-kept : (of : Kind) (id : ℕ) (new : Settings) → Elsewhere of id → Kept (with_set s of id new)
   put-kept kinds.Queue id new other = stays-queues _ (queue-changed id _ other)
-  put-kept kinds.Sems id new other = stays-sems _ (λ is. (changed-apart s.sems.sets id at _ (elsewhere kinds.Sems id other is), λ c ne num. refl))
+  put-kept kinds.Sems id new other = stays-sems _ (λ is. (changed-apart s.sems.sets id at _ (elsewhere kinds.Sems id other is), λ c ne living num. refl))
   put-kept kinds.Segment id new other = stays-shared _
 
   gone-kept : (of : Kind) (id : ℕ) → Elsewhere of id → Kept (removed s of id)
   gone-kept kinds.Queue id other = stays-queues _ (λ is. get-remove-other s.queues.objects id at (elsewhere kinds.Queue id other is))
   gone-kept kinds.Sems id other = stays-sems _ (λ is.
       let no = elsewhere kinds.Sems id other is in
-      (get-remove-other s.sems.sets.objects id at no, λ c ne num. entry (without_set s.sems id) c num (cleared-apart s.sems.undo id (λ _. true) (key c at num) no)))
+      (get-remove-other s.sems.sets.objects id at no, λ c ne living num. entry (without_set s.sems id) (process_at s c) num (cleared-apart s.sems.undo id (λ _. true) (key (process_at s c) at num) no)))
   gone-kept kinds.Segment id other = stays-shared _
 
-  -- exit
-  exited-kept : is_same kinds.Sems kind && owes s.sems client at ≡ false → KeepsSet (after_exit s.sems (caller s client))
-  exited-kept other is =
-      let none : owes s.sems client at ≡ false = off (is_same kinds.Sems kind) (owes s.sems client at) other is in (
-        get-entries (set_after_exit s.sems (caller s client)) s.sems.sets at ∙ by none (set_at s.sems at) refl,
-        λ c ne num. entry (after_exit s.sems (caller s client)) c num (without-apart s.sems.undo client (key c at num) ne),
-      )
-    where
-      by : owes s.sems client at ≡ false → (o : Option (Object SemSet)) → set_at s.sems at ≡ o → option_map (set_after_exit s.sems (caller s client) at) (set_at s.sems at) ≡ set_at s.sems at
-      by none None is = rw is refl
-      by none (Some set) is = rw is (ap (λ (x : Object SemSet). Some x) (exited-none s.sems (caller s client) at set (
-          ap (λ (o : Option (Object SemSet)). unwrap_or (option_map (λ (set : Object SemSet). any_from (adj_of s.sems.undo client at) 0 set.contents.semaphores) o) false) (sym is) ∙ none
-          )))
+  -- a process ends, of which no client that lives is a thread
+  abbrev own : ℕ
+  own = process_at s client
 
-  exit-kept : is_same kinds.Sems kind && owes s.sems client at ≡ false → (shared : Shared) → Kept (record s { exited = s.exited ++ client ∷ []; sems = after_exit s.sems (caller s client); shared = shared })
-  exit-kept other shared = record {
+  module _ (who : Caller) (new : State) (others : (c : ℕ) → c ≢ client → AreLiving s new c → process_at s c ≢ who.process) (owed : is_same kinds.Sems kind && owes s.sems who.process at ≡ false)
+      (queues : new.queues ≡ s.queues) (sems : new.sems ≡ after_exit s.sems who) where
+    set-kept : is_same kinds.Sems kind ≡ true → set_at (after_exit s.sems who) at ≡ set_at s.sems at
+    set-kept is = get-entries (set_after_exit s.sems who) s.sems.sets at ∙ by (off (is_same kinds.Sems kind) (owes s.sems who.process at) owed is) (set_at s.sems at) refl
+      where
+        by : owes s.sems who.process at ≡ false → (o : Option (Object SemSet)) → set_at s.sems at ≡ o → option_map (set_after_exit s.sems who at) (set_at s.sems at) ≡ set_at s.sems at
+        by none None is = rw is refl
+        by none (Some set) is = rw is (ap (λ (x : Object SemSet). Some x) (exited-none s.sems who at set (
+            ap (λ (o : Option (Object SemSet)). unwrap_or (option_map (λ (set : Object SemSet). any_from (adj_of s.sems.undo who.process at) 0 set.contents.semaphores) o) false) (sym is) ∙ none
+            )))
+
+    process-seen : IsSeenAlike kind at client s new
+    process-seen = by kind set-kept
+      where
+        by : (k : Kind) → (is_same kinds.Sems k ≡ true → set_at (after_exit s.sems who) at ≡ set_at s.sems at) → IsSeenAlike k at client s new
+        by kinds.Queue set = ap (λ (u : Queues). queue_at u at) queues
+        by kinds.Sems set = (
+            ap (λ (u : Sems). set_at u at) sems ∙ set refl,
+            λ c ne living num. ap (λ (u : Sems). adj_of u.undo (process_at s c) at num) sems ∙ entry (after_exit s.sems who) (process_at s c) num (without-apart s.sems.undo who.process (key (process_at s c) at num) (others c ne living)),
+          )
+        by kinds.Segment set = tt
+
+  -- the end of a thread; of the last one that of the process, where another client is of another process
+  abbrev rest : State
+  rest = ended s client
+
+  thread-other : (thread : Thread) (c : ℕ) → c ≢ client → get_or (set s.threads client thread) c no_thread ≡ thread_at s c
+  thread-other thread c ne = get_or-set_other s.threads client c thread no_thread ne
+
+  of-another : is_running rest own ≡ false → (c : ℕ) → c ≢ client → has_exited s c ≡ false → process_at s c ≢ own
+  of-another none c ne living is =
+      let same : thread_at rest c ≡ thread_at s c = thread-other (record (thread_at s client) { has_ended = true }) c ne in
+      none-runs rest.threads own c none (ap (λ (t : Thread). t.has_ended) same ∙ living) (ap (λ (t : Thread). t.process) same ∙ is)
+
+  exit-kept : is_same kinds.Sems kind && owes s.sems own at ≡ false → (running : Bool) → is_running rest own ≡ running → Kept (cond running rest (process_ended rest (caller s client)))
+  exit-kept other true is = record {
     limits = refl;
-    creds = λ c ne. refl;
-    alive = λ c ne. ended-other s.exited client c ne;
-    object = seen (record s { exited = s.exited ++ client ∷ []; sems = after_exit s.sems (caller s client); shared = shared }) queue-same (exited-kept other);
+    creds = λ c ne living. refl;
+    alive = λ c ne living. thread-other _ c ne;
+    object = seen rest queue-same set-same;
+  }
+  exit-kept other false is = record {
+    limits = refl;
+    creds = λ c ne living. refl;
+    alive = λ c ne living. thread-other _ c ne;
+    object = process-seen (caller s client) (process_ended rest (caller s client)) (λ c ne living. of-another is c ne living.0) other refl refl;
   }
 
   -- each call
@@ -252,4 +283,4 @@ module _ (s : State) (client : ℕ) (kind : Kind) (at : ℕ) where
   stays (SetCreds euid egid groups) other =
       let new = became euid egid groups (creds_at s client) in
       Ends-order (λ answer new. Kept new) (if is_some groups then Needs SetGroups ∷ [] else []) (plans.Grant Done (with_creds s client new)) (stays-creds new)
-  stays Exit other = exit-kept other (after_detaches s.shared (caller s client))
+  stays Exit other = exit-kept other (is_running rest own) refl

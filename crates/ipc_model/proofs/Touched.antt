@@ -22,7 +22,7 @@ use Rattle.ipc_perm.specs.Access.{Permission, to_read}
 use Rattle.msg_queue.specs.declared.messages.Message.{Message}
 use Rattle.sem_set.specs.Trials.{are_in}
 use Rattle.sem_undo.specs.Entries.{adj_of}
-use Rattle.ipc_model.specs.State.{Caller, Queue, Queues, SemSet, Sems, State, caller, creds_at, has_exited}
+use Rattle.ipc_model.specs.State.{Caller, Queue, Queues, SemSet, Sems, State, Thread, caller, creds_at, has_exited, process_at}
 use Rattle.ipc_model.specs.Decision.{proceeds}
 use Rattle.ipc_model.specs.Plan.{Grant, Needs, Passes, Plan, decision, in_order, on_part, ◌⨾◌}
 use Rattle.ipc_model.specs.Cancelled.{is_same, waits_on}
@@ -31,7 +31,7 @@ use Rattle.ipc_model.specs.Semaphores.{operate, operate_found, operated, set_at,
 use Rattle.ipc_model.specs.Decide.{OnQueues, OnSems, decide, part_plan, plan, plan_alive, waits_at, whole}
 use Rattle.ipc_model.specs.Step.{first_ready, is_ready}
 use Rattle.ipc_model.specs.Touched.{is_id}
-use Rattle.ipc_model.proofs.Stays.{IsSeenAlike, Stays}
+use Rattle.ipc_model.proofs.Stays.{AreLiving, IsSeenAlike, Stays}
 use Rattle.ipc_model.proofs.Apart.{next-free}
 use Rattle.ipc_model.proofs.Alike.{blank, blank-found, blank-on, blank-order, proceeds-alike}
 use Rattle.ipc_model.proofs.Plans.{never_waits, proceeds-never}
@@ -44,7 +44,7 @@ take-seen : (a b : Queues) (who other : Caller) (id : ℕ) (asked : Receive) (qu
 take-seen a b who other id asked queue None = refl
 take-seen a b who other id asked queue (Some taken) = refl
 
-module _ (s new : State) (client c : ℕ) (kind : Kind) (at : ℕ) (stays : Stays s client kind at new) (other : c ≢ client) where
+module _ (s new : State) (client c : ℕ) (kind : Kind) (at : ℕ) (stays : Stays s client kind at new) (other : c ≢ client) (living : AreLiving s new c) where
   queues-seen : (p q : Plan Queues) → blank p ≡ blank q → blank (whole new (OnQueues p)) ≡ blank (whole s (OnQueues q))
   queues-seen p q same = blank-on (λ queues. record new { queues = queues }) p ∙ same ∙ sym (blank-on (λ queues. record s { queues = queues }) q)
 
@@ -59,13 +59,14 @@ module _ (s new : State) (client c : ℕ) (kind : Kind) (at : ℕ) (stays : Stay
       by kinds.Sems seen on = absurd (false≢true on)
       by kinds.Segment seen on = absurd (false≢true on)
 
-  set-same : (id : ℕ) → is_same kinds.Sems kind && eqb id at ≡ true → (set_at new.sems id ≡ set_at s.sems id) × (adj_of new.sems.undo c id ≡ adj_of s.sems.undo c id)
+  set-same : (id : ℕ) → is_same kinds.Sems kind && eqb id at ≡ true → (set_at new.sems id ≡ set_at s.sems id) × (adj_of new.sems.undo (process_at new c) id ≡ adj_of s.sems.undo (process_at s c) id)
   set-same id on = by kind stays.object on
     where
-      by : (k : Kind) → IsSeenAlike k at client s new → is_same kinds.Sems k && eqb id at ≡ true → (set_at new.sems id ≡ set_at s.sems id) × (adj_of new.sems.undo c id ≡ adj_of s.sems.undo c id)
+      by : (k : Kind) → IsSeenAlike k at client s new → is_same kinds.Sems k && eqb id at ≡ true → (set_at new.sems id ≡ set_at s.sems id) × (adj_of new.sems.undo (process_at new c) id ≡ adj_of s.sems.undo (process_at s c) id)
       by kinds.Queue seen on = absurd (false≢true on)
       by kinds.Sems seen on =
-          subst (λ (i : ℕ). (set_at new.sems i ≡ set_at s.sems i) × (adj_of new.sems.undo c i ≡ adj_of s.sems.undo c i)) (sym (eqb-true id at on)) (seen.0, λ i num. seen.1 c other num i)
+          subst (λ (i : ℕ). (set_at new.sems i ≡ set_at s.sems i) × (adj_of new.sems.undo (process_at new c) i ≡ adj_of s.sems.undo (process_at s c) i)) (sym (eqb-true id at on))
+          (seen.0, ap (λ (t : Thread). adj_of new.sems.undo t.process at) (stays.alive c other living) ∙ (λ i num. seen.1 c other living num i))
       by kinds.Segment seen on = absurd (false≢true on)
 
   operate-seen : (id : ℕ) (ops : List SemOper) → is_same kinds.Sems kind && eqb id at ≡ true
@@ -77,7 +78,7 @@ module _ (s new : State) (client c : ℕ) (kind : Kind) (at : ℕ) (stays : Stay
       ∙ ap (λ p. Passes (nat_lt 0 (length ops)) NoOperations tt ⨾ Passes (nat_le (length ops) s.limits.sem_opm) TooManyOperations tt ⨾ p)
       (blank-found (set_at s.sems id) BadId tt _ _ (λ (set : Object SemSet).
       ap (λ p. Needs (Permission set.perm (wanted_by ops)) ⨾ Passes (are_in set.contents.semaphores ops) SemOutOfSet tt ⨾ p)
-      (ap (λ adj. blank (in_order (trial_checks set.contents.semaphores adj [] ops) (Grant Done (operated new.sems (caller new c) id ops set.contents)))) same.1 ∙ blank-order (trial_checks set.contents.semaphores (adj_of s.sems.undo c id) [] ops) (Grant Done (operated new.sems (caller new c) id ops set.contents)) (Grant Done (operated s.sems (caller s c) id ops set.contents)) refl))))
+      (ap (λ adj. blank (in_order (trial_checks set.contents.semaphores adj [] ops) (Grant Done (operated new.sems (caller new c) id ops set.contents)))) same.1 ∙ blank-order (trial_checks set.contents.semaphores (adj_of s.sems.undo (process_at s c) id) [] ops) (Grant Done (operated new.sems (caller new c) id ops set.contents)) (Grant Done (operated s.sems (caller s c) id ops set.contents)) refl))))
 
   alive-seen : (call : Call) → waits_on kind at call ≡ true → blank (plan_alive new c call) ≡ blank (plan_alive s c call)
   unfolding part_plan
@@ -98,11 +99,12 @@ module _ (s new : State) (client c : ℕ) (kind : Kind) (at : ℕ) (stays : Stay
   alive-seen call on = absurd (false≢true on)
 
 -- so such a call can proceed or waits as before
-pub stays_alike : (s new : State) (client c : ℕ) (kind : Kind) (at : ℕ) → Stays s client kind at new → c ≢ client → (call : Call) → waits_on kind at call ≡ true → proceeds (decide new c call) ≡ proceeds (decide s c call)
-stays_alike s new client c kind at stays other call on =
-    ap (λ d. proceeds (decision d (plan new c call))) (stays.creds c other)
+pub stays_alike : (s new : State) (client c : ℕ) (kind : Kind) (at : ℕ) → Stays s client kind at new → c ≢ client → AreLiving s new c → (call : Call) → waits_on kind at call ≡ true → proceeds (decide new c call) ≡ proceeds (decide s c call)
+stays_alike s new client c kind at stays other living call on =
+    ap (λ d. proceeds (decision d (plan new c call))) (stays.creds c other living)
     ∙ proceeds-alike (creds_at s c) (plan new c call) (plan s c call)
-    ((λ i. Passes (not (stays.alive c other i)) Ended tt ⨾ blank (plan_alive new c call)) ∙ ap (λ p. Passes (not (has_exited s c)) Ended tt ⨾ p) (alive-seen s new client c kind at stays other call on))
+    ((λ i. Passes (not (stays.alive c other living i).has_ended) Ended tt ⨾ blank (plan_alive new c call))
+    ∙ ap (λ p. Passes (not (has_exited s c)) Ended tt ⨾ p) (alive-seen s new client c kind at stays other living call on))
 
 -- the object on which a call waits is there
 abbrev pub is_there : State → Kind → ℕ → Bool

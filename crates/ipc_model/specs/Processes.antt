@@ -1,30 +1,37 @@
 -- The calls on processes: interrupts, the end of a waiting call as a caught signal brings it (EINTR of msgop(2); the
 -- call is the project's own), and exit (_exit(2); semop(2), SEM_UNDO; shmop(2)).
-use Rattle.std.specs.Prelude.{ℕ, ◌-◌, ◌==◌, nat_le, List, [], ◌∷◌, ◌++◌, length, Option, None, is_some, unwrap_or, if◌then◌else◌, slice_get, slice_set}
+use Rattle.std.specs.Prelude.{ℕ, nat_le, true, List, [], ◌∷◌, length, Option, is_some, option_and_then, unwrap_or, if◌then◌else◌, slice_get, slice_set}
+use Rattle.std.specs.List.{position}
 use Rattle.ipc_call.specs.declared.rules.Rule.TheVariants.{NoProcess, TooManyGroups}
 use Rattle.ipc_call.specs.declared.replies.Answer.TheVariants.{Done}
 use Rattle.ipc_creds.specs.Credentials.{Credentials, became, groups_max}
 use Rattle.ipc_perm.specs.Access.{BecomeGroup, BecomeUser, SameUser, SetGroups}
-use Rattle.ipc_model.specs.State.{Caller, State, has_exited}
+use Rattle.ipc_model.specs.State.{Caller, State, has_pid, is_running, thread_at}
 use Rattle.ipc_model.specs.Semaphores.{after_exit}
 use Rattle.ipc_model.specs.Segments.{after_detaches}
 use Rattle.ipc_model.specs.Plan.{Needs, Passes, Plan, Grant, found, in_order, ◌⨾◌}
 
--- the credentials of the client of a process, which is its number plus 1; one that ended has none
+-- the credentials of the first thread of the process of a pid
 abbrev pub process : State → ℕ → Option Credentials
-process s pid = if pid == 0 then None else (if has_exited s (pid - 1) then None else slice_get s.clients (pid - 1))
+process s pid = option_and_then (λ client. slice_get s.clients client) (position (has_pid pid) s.threads)
 
 -- a waiting call of the target is cancelled after the grant
 abbrev pub interrupt : State → ℕ → Plan State
 interrupt s pid = found (process s pid) NoProcess _ (λ target. Needs (SameUser target.euid) ⨾ Grant Done s)
 
--- what exit undoes is undone, all attachments of the client go, and it has ended
+-- the end of a process: what exit undoes is undone, and all its attachments go
+abbrev pub process_ended : State → Caller → State
+process_ended s who = record s { sems = after_exit s.sems who; shared = after_detaches s.shared who }
+
+-- a client's thread has ended
+abbrev pub ended : State → ℕ → State
+ended s client = record s { threads = slice_set s.threads client (record (thread_at s client) { has_ended = true }) }
+
+-- exit: the thread ends, and with its last one the process
 abbrev pub exit : State → Caller → Plan State
-exit s who = Grant Done (record s {
-  exited = s.exited ++ who.client ∷ [];
-  sems = after_exit s.sems who;
-  shared = after_detaches s.shared who;
-})
+exit s who =
+    let rest = ended s who.client in
+    Grant Done (if is_running rest who.process then rest else process_ended rest who)
 
 -- a client with other credentials
 abbrev pub with_creds : State → ℕ → Credentials → State

@@ -10,14 +10,16 @@ use Rattle.ipc_call.specs.declared.calls.Call.{Call}
 use Rattle.ipc_call.specs.declared.calls.Call.TheVariants.{IpcStat, IpcSet, IpcRmid, Interrupt, GetNcnt, GetZcnt, SetCreds, Exit, Listing}
 use Rattle.ipc_call.specs.declared.calls.Kind.TheVariants as kinds
 use Rattle.ipc_call.specs.declared.replies.Waiting.{Waiting}
+use Rattle.ipc_call.specs.declared.replies.Answer.TheVariants.{Done}
 use Rattle.ipc_call.specs.declared.replies.Completion.{Completion}
 use Rattle.ipc_call.specs.declared.rules.Rule.{Rule}
 use Rattle.ipc_call.specs.declared.rules.Rule.TheVariants.{BadId, TimedOut}
-use Rattle.ipc_model.specs.State.{State, caller, creds_at}
+use Rattle.ipc_model.specs.State.{State, caller, creds_at, is_running, process_at}
 use Rattle.ipc_model.specs.Plan.{IsPlain, Plan, decision, found, on_part, ◌⨾◌}
 use Rattle.ipc_model.specs.Plan as plans
 use Rattle.ipc_model.specs.Controls.{status_of}
 use Rattle.ipc_model.specs.Listings.{rows_to}
+use Rattle.ipc_model.specs.Processes.{ended, process_ended}
 use Rattle.ipc_model.specs.Decision.{Decision, Refused, Waits, Granted, outcome_of}
 use Rattle.ipc_model.specs.Decide.{OnQueues, OnSems, OnShared, OnState, PartPlan, decide_alive, is_late, is_reached, part_plan, plan_alive, unless_late, whole}
 use Rattle.ipc_model.specs.Cancelled.{cancelled}
@@ -102,6 +104,12 @@ module _ (s : State) (ws : List Waiting) where
   alone-part (OnShared p) on = sym (on-on (with_list ws) (λ shared. record s { shared = shared }) p)
   alone-part (OnState p) on = absurd (true≢false (sym on))
 
+  alone-exit : (client : ℕ) (running : Bool)
+      → plans.Grant Done (cond running (ended (with_list ws s) client) (process_ended (ended (with_list ws s) client) (caller (with_list ws s) client)))
+      ≡ plans.Grant Done (with_list ws (cond running (ended s client) (process_ended (ended s client) (caller s client))))
+  alone-exit client true = refl
+  alone-exit client false = refl
+
   alone-alive : (client : ℕ) (call : Call) → is_on_waiting call ≡ false → plan_alive (with_list ws s) client call ≡ on_part (with_list ws) (plan_alive s client call)
   unfolding part_plan rows_to
   alone-alive client (GetNcnt id num) alone = absurd (true≢false alone)
@@ -117,7 +125,7 @@ module _ (s : State) (ws : List Waiting) where
   alone-alive client (Listing kinds.Segment) alone = refl
   alone-alive client (SetCreds euid egid None) alone = refl
   alone-alive client (SetCreds euid egid (Some groups)) alone = refl
-  alone-alive client Exit alone = refl
+  alone-alive client Exit alone = alone-exit client (is_running (ended s client) (process_at s client))
   alone-alive client call alone = alone-part (part_plan s (caller s client) call) refl
 
   late-whole : (late : Bool) (d : Decision State) → unless_late late (on_whole (with_list ws) d) ≡ on_whole (with_list ws) (unless_late late d)

@@ -9,3 +9,4 @@ pub mod Parked
 pub mod Quiet
 pub mod Reserved
 pub mod Settling
+pub mod Threads

@@ -8,7 +8,7 @@ use Rattle.ipc_call.specs.declared.calls.SemOper.{SemOper}
 use Rattle.ipc_call.specs.declared.perms.Perm.{Perm}
 use Rattle.ipc_ids.specs.Table.{Table}
 use Rattle.ipc_objects.specs.declared.object.Object.{Object}
-use Rattle.ipc_model.specs.State.{Sems, State, waiting_of}
+use Rattle.ipc_model.specs.State.{Sems, State, process_at, waiting_of}
 use Rattle.ipc_model.specs.Gets.{object_of_key}
 use Rattle.ipc_model.specs.Semaphores.{stopping}
 
@@ -21,11 +21,11 @@ object_with_key s kinds.Queue key = key_in s.queues key
 object_with_key s kinds.Sems key = key_in s.sems.sets key
 object_with_key s kinds.Segment key = key_in s.shared.segments key
 
--- the operation at which a call of a client stops that is a semop and waits
+-- the operation at which a call of a process stops that is a semop and waits
 abbrev pub stop_of : Sems → ℕ → Call → Option SemOper
-stop_of sems client (SemOp id ops) = stopping sems client id ops
-stop_of sems client call = None
+stop_of sems process (SemOp id ops) = stopping sems process id ops
+stop_of sems process call = None
 
 -- the operation at which the waiting semop of a client stops
 abbrev pub stopped_at : State → ℕ → Option SemOper
-stopped_at s client = option_and_then (λ w. stop_of s.sems client w.call) (waiting_of s client)
+stopped_at s client = option_and_then (λ w. stop_of s.sems (process_at s client) w.call) (waiting_of s client)

@@ -1,6 +1,6 @@
 -- What is true of the calls that wait, and what a granted call ends of them.
-use Rattle.std.specs.Prelude.{◌≡◌, ⊤, Ok, Err, Result, ℕ, ◌+◌, ◌<◌, ◌==◌, Bool, true, false, List, [], ◌∷◌, filter, flat_map, is_none, Option, Some, None, IfSome, IsSome, if◌then◌else◌}
-use Rattle.std.specs.List.{AllByRecursion, list_any}
+use Rattle.std.specs.Prelude.{◌≡◌, ⊤, Ok, Err, Result, ℕ, ◌+◌, ◌<◌, ◌==◌, Bool, true, false, List, [], ◌∷◌, filter, flat_map, is_none, Option, Some, None, IfSome, IsSome, if◌then◌else◌, slice_index_or}
+use Rattle.std.specs.List.{AllByRecursion}
 use Rattle.ipc_call.specs.declared.replies.Waiting.{Waiting}
 use Rattle.ipc_call.specs.declared.calls.Call.{Call}
 use Rattle.ipc_call.specs.declared.calls.Call.TheVariants.{MsgSnd, MsgRcv, SemOp, SemGet, GetNcnt, GetZcnt, GetVal, GetPid, GetAll, SetVal, SetAll, ShmGet, ShmAt, ShmDt, ShmRead, ShmWrite, IpcSet, IpcRmid, Interrupt}
@@ -13,7 +13,7 @@ use Rattle.msg_calls.specs.WithRoom.{QueueWithRoom, one_if, room}
 use Rattle.sem_calls.specs.WithRows.{SetsWithRows, HasRow}
 use Rattle.ipc_perm.specs.declared.access.Verdict.{Verdict}
 use Rattle.ipc_perm.specs.declared.access.Verdict.TheVariants.{Allowed, Denied}
-use Rattle.ipc_model.specs.State.{Sems, State, creds_at, pid_at}
+use Rattle.ipc_model.specs.State.{Sems, State, Thread, creds_at, no_thread, pid_at}
 use Rattle.ipc_model.specs.Semaphores.{set_at}
 use Rattle.sem_set.specs.Trials.{are_in}
 use Rattle.ipc_model.specs.Decide.{decide_alive, is_late, is_negative, is_zero, needs, unless_late}
@@ -73,8 +73,8 @@ is_awaited awaits.Zero num o = is_zero num o
 
 -- what a waiting call has reserved of the sets: a semop, a row of semadj
 abbrev pub HasRowFor : SetsWithRows → ℕ → Call → Type 0
-HasRowFor sets client (SemOp id ops) = HasRow sets client id ops
-HasRowFor sets client call = Unit {0}
+HasRowFor sets process (SemOp id ops) = HasRow sets process id ops
+HasRowFor sets process call = Unit {0}
 
 -- the set of a semop is there, with the semaphores that it names
 abbrev pub MayReserve : Sems → Call → Type 0
@@ -83,9 +83,9 @@ MayReserve sems (SemOp id ops) =
 MayReserve sems call = Unit {0}
 
 -- the client of each hasn't ended, and what it needs of the sets is reserved
-unfoldable pub AreHeld : SetsWithRows → List ℕ → List Waiting → Type 0
-AreHeld sets ended ws =
-    AllByRecursion (λ w. (list_any (λ other. other == w.client) ended ≡ false) × HasRowFor sets w.client w.call) ws
+unfoldable pub AreHeld : SetsWithRows → List Thread → List Waiting → Type 0
+AreHeld sets threads ws = AllByRecursion (λ w. ((slice_index_or threads w.client no_thread).has_ended ≡ false)
+    × HasRowFor sets (slice_index_or threads w.client no_thread).process w.call) ws
 
 -- what a call of a client that hasn't ended leaves before it may wait, and the waiting calls that its grant ends
 abbrev pub left_alive : State → ℕ → Call → Moved

@@ -42,7 +42,7 @@ pub enum Cancelling {
     Denied(Kind, u32),
     /// They wait on this object, and it is removed.
     Removed(Kind, u32),
-    /// Their client has this process, which is interrupted.
+    /// Their client is a thread of the process of this pid, which is interrupted.
     Interrupted(u32),
 }
 
@@ -99,7 +99,7 @@ impl Namespace {
         match cancelling {
             Cancelling::Denied(kind, id) if waits_on(kind, id, call) => self.denial(client, call),
             Cancelling::Removed(kind, id) if waits_on(kind, id, call) => Some(Rule::Removed),
-            Cancelling::Interrupted(pid) if u64::from(pid) == u64::from(client) + 1 => Some(
+            Cancelling::Interrupted(pid) if pid == self.pid_of(client) => Some(
                 Rule::Interrupted,
             ),
             _ => None,

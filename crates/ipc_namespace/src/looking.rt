@@ -4,11 +4,12 @@ ghost use Rattle.std.specs.Prelude.{◌≡◌, IfOk, option_copied, option_map, 
 ghost use Rattle.ipc_call.specs.declared.replies.Waiting.{Waiting as WaitingCall};
 ghost use Rattle.ipc_model.specs.Controls.{perm_of as perm_in, status_of as status_in};
 ghost use Rattle.ipc_model.specs.Semaphores.{values_at};
-ghost use Rattle.ipc_model.specs.State.{has_exited as exited_before, waiting_of as waiting_in};
+ghost use Rattle.ipc_model.specs.State.{has_exited as exited_before, pid_at, process_at, waiting_of as waiting_in};
 ghost use Rattle.ipc_namespace.specs.Looking.{object_with_key, stopped_at as stopping_at};
 ghost use Rattle.sem_undo.specs.Entries.{adj_of};
 ghost use Rattle.shm_seg.specs.Attachments.{attachment_at};
 
+use crate::callers::process_in;
 use crate::namespace::Namespace;
 use ipc_call::{Call, Kind, Limits, Memory, SemOper, Status};
 use ipc_creds::Creds;
@@ -31,11 +32,31 @@ impl Namespace {
         self.clients.get(client as usize)
     }
 
-    /// Whether the client has called exit.
+    /// Whether the client has ended.
     pub fn has_exited(&self, client: u32) -> bool
         ensures { result ≡ exited_before self.now client }
     {
-        self.exited.iter().any(|other| *other == client)
+        match self.threads.get(client as usize) {
+            None => true,
+            Some(thread) => thread.has_ended,
+        }
+    }
+
+    /// The serial number of the client's process, 0 for a client that isn't there.
+    pub fn process_of(&self, client: u32) -> u64
+        ensures { result ≡ process_at self.now client }
+    {
+        process_in(&self.threads, client)
+    }
+
+    /// The pid of the client's process (getpid(2)), 0 for a client that isn't there.
+    pub fn pid_of(&self, client: u32) -> u32
+        ensures { result ≡ pid_at self.now client }
+    {
+        match self.threads.get(client as usize) {
+            None => 0,
+            Some(thread) => thread.pid,
+        }
     }
 
     /// The permissions of the object of an identifier.
@@ -89,18 +110,18 @@ impl Namespace {
         self.sets.values(id)
     }
 
-    /// What the exit of a client would add to a semaphore, its semadj there (semop(2)).
+    /// The semadj of a client's process at a semaphore, which the end of that process adds (semop(2)).
     pub fn semadj_of(&self, client: u32, id: u32, num: u16) -> i32
-        ensures { result ≡ adj_of self.now.sems.undo client id num }
+        ensures { result ≡ adj_of self.now.sems.undo (process_at self.now client) id num }
     {
-        self.sets.semadj(client, id, num)
+        self.sets.semadj(self.process_of(client), id, num)
     }
 
-    /// What a client has attached under a number.
+    /// What a client's process has attached under a number.
     pub fn attachment_of(&self, client: u32, att: u32) -> Option<Attachment>
-        ensures { result ≡ attachment_at self.now.shared.attached client att }
+        ensures { result ≡ attachment_at self.now.shared.attached (process_at self.now client) att }
     {
-        self.segments.attachment(client, att)
+        self.segments.attachment(self.process_of(client), att)
     }
 
     /// The client's call that waits, as what it waits, with its deadline.
@@ -116,10 +137,11 @@ impl Namespace {
         ensures stop { result ≡ stopping_at self.old client }
         ensures same { self.new ≡ self.old }
     {
+        let process = self.process_of(client);
         let arrival = self.parked.get(client)?;
         let Call::SemOp { id, ops } = &arrival.call else {
             return None;
         };
-        self.sets.stopping(client, *id, ops.as_slice())
+        self.sets.stopping(process, *id, ops.as_slice())
     }
 }

@@ -2,7 +2,7 @@
 
 ghost use Rattle.std.specs.Prelude.{◌≡◌, ◌+◌, ◌<◌, ◌≤◌, true, false, [], ◌∷◌, ◌++◌, length, vec_len, vec_capacity, IsTrue, IfOk, IfSome, IfNone, IsSome, OnOk, OnErr, Err, is_some, option_map, Some, None};
 ghost use Rattle.ipc_call.specs.Limits.{are_in_range};
-ghost use Rattle.ipc_model.specs.State.{opening, has_exited as exited_before, is_waiting as waits, waiting_of};
+ghost use Rattle.ipc_model.specs.State.{first_threads as threads_from, opening, has_exited as exited_before, is_waiting as waits, waiting_of};
 ghost use Rattle.ipc_model.specs.Decision.{left_by, outcome_of};
 ghost use Rattle.ipc_model.specs.Decide.{decide_alive as decision_alive, decide_call as decision_made, deadline_of, is_reached, waits_as, waits_at};
 ghost use Rattle.std.specs.List.{AllByRecursion, find};
@@ -17,13 +17,14 @@ use crate::callers::caller_of;
 use crate::reserving::{release_in, reserve_in, reserve_row, sent_to};
 use crate::semaphore_calls::Awaited;
 use ipc_call::{
-    Answer, Call, Completion, Get, Limits, Memory, Outcome, Receive, Rule, Sending, Settings,
+    Answer, Call, Completion, Get, Limits, Memory, Outcome, Receive, Rule, Sending, Settings, Thread,
 };
 use ipc_creds::Creds;
 use ipc_parked::{Arrival, Parked, Touched};
 use msg_calls::Queues;
 use sem_calls::Sets;
 use shm_calls::Segments;
+use std::alloc::Global;
 use std::marker::Model;
 
 /// The state of a namespace: its objects, its clients, its clock in seconds, and the calls that wait
@@ -32,7 +33,7 @@ use std::marker::Model;
 pub struct Namespace {
     pub(super) limits: Limits,
     pub(super) clients: Vec<Creds>,
-    pub(super) exited: Vec<u32>,
+    pub(super) threads: Vec<Thread>,
     pub(super) clock: u64,
     pub(super) queues: Queues,
     pub(super) sets: Sets,
@@ -41,7 +42,7 @@ pub struct Namespace {
 }
 
 impl Model for Namespace {
-    ghost use Rattle.std.specs.Prelude.{◌≤◌, length, vec_len};
+    ghost use Rattle.std.specs.Prelude.{◌≡◌, ◌≤◌, length, vec_len};
     ghost use Rattle.std.specs.FinMap as map;
     ghost use Rattle.std.specs.Coded.{codes};
     ghost use Rattle.msg_calls.specs.WithRoom.{queues_of};
@@ -57,7 +58,7 @@ impl Model for Namespace {
     ghost view = { λ n. record {
       limits = n.limits;
       clients = n.clients.items;
-      exited = n.exited.items;
+      threads = n.threads.items;
       clock = n.clock;
       queues = queues_of n.queues;
       sems = sems_of n.sets;
@@ -65,28 +66,28 @@ impl Model for Namespace {
       parked = waiting n.parked;
     } };
 
-    ghost invariant = { λ n. (vec_len n.clients ≤ 64) × AreParked (length n.clients.items) (waiting n.parked) × IsReserved n.queues (waiting n.parked) × AreHeld n.sets n.exited.items (waiting n.parked) };
+    ghost invariant = { λ n. ((vec_len n.clients ≤ 64) × (vec_len n.threads ≡ vec_len n.clients)) × AreParked (length n.clients.items) (waiting n.parked) × IsReserved n.queues (waiting n.parked) × AreHeld n.sets n.threads.items (waiting n.parked) };
 }
 
 impl Namespace {
     /// A namespace before its first event, of at most 64 clients.
-    #[tactic(auto, using(crate::proofs::Parked::none_parked, crate::proofs::Held::none_held))]
-    pub fn new(limits: Limits, clients: Vec<Creds>) -> Namespace
+    pub fn new(limits: Limits, clients: Vec<Creds>) -> Result<Namespace, Memory>
         requires limits { IsTrue (are_in_range limits) }
         requires few { vec_len clients ≤ 64 }
-        ensures { result ≡ opening limits clients.items }
+        ensures { IfOk result (λ namespace. namespace ≡ opening limits clients.items) }
     {
         let alloc = *clients.allocator();
-        Namespace {
+        let threads = first_threads(alloc, clients.as_slice())?;
+        Ok(Namespace {
             limits,
             clients,
-            exited: Vec::new(alloc),
+            threads,
             clock: 0,
             queues: Queues::new(alloc, limits.slots, limits.first_seq),
             sets: Sets::new(alloc, limits.slots, limits.first_seq),
             segments: Segments::new(alloc, limits.slots, limits.first_seq),
             parked: Parked::new(alloc),
-        }
+        })
     }
 
     /// How many clients there are, at most 64.
@@ -376,7 +377,7 @@ impl Namespace {
             Call::SetCreds { euid, egid, groups } => {
                 self.set_creds(client, *euid, *egid, groups)
             }
-            Call::Exit => self.exit(client),
+            Call::Exit => Ok(self.exit(client)),
             _ => unreachable!(),
         }?;
         Ok(Some(outcome))
@@ -434,7 +435,8 @@ impl Namespace {
         ensures ok { OnOk result (self.new ≡ record self.old { parked = self.old.parked ++ record { client = client; call = arrival.call; deadline = arrival.deadline } ∷ [] }) }
         ensures err { OnErr result (self.new ≡ self.old) }
     {
-        reserve_row(&mut self.sets, client, &arrival.call)?;
+        let process = self.process_of(client);
+        reserve_row(&mut self.sets, process, &arrival.call)?;
         let queue = sent_to(&arrival.call);
         reserve_in(&mut self.queues, queue)?;
         let parked = self.parked.park(client, arrival);
@@ -503,7 +505,7 @@ impl Namespace {
         ensures shorter { IfSome result (λ _. length self.new.parked + 1 ≡ length self.old.parked) }
     {
         let call = self.parked.call_of(client);
-        let who = caller_of(&self.clients, client, self.clock);
+        let who = caller_of(&self.clients, &self.threads, client, self.clock);
         match call {
             Call::MsgSnd {
                 id,
@@ -566,7 +568,7 @@ impl Namespace {
         else {
             unreachable!()
         };
-        let who = caller_of(&self.clients, client, self.clock);
+        let who = caller_of(&self.clients, &self.threads, client, self.clock);
         self.queues.send_reserved(&who, id, mtype, text);
         Completion {
             client,
@@ -629,4 +631,20 @@ fn is_granted(own: &Option<Outcome>) -> bool
     ensures { result ≡ is_grant own.now }
 {
     matches!(own, Some(Ok(_)))
+}
+
+/// Each client as the only thread of a process of its own. Memory (ENOMEM) comes where an allocation fails.
+fn first_threads(alloc: Global, clients: &[Creds]) -> Result<Vec<Thread>, Memory>
+    requires few { length clients.now ≤ 64 }
+    ensures { IfOk result (λ threads. threads.items ≡ threads_from 0 clients.now) }
+{
+    let mut threads = Vec::with_capacity(alloc, clients.len())?;
+    for client in 0..clients.len() {
+        threads.push(Thread {
+            process: client as u64,
+            pid: client as u32 + 1,
+            has_ended: false,
+        })?;
+    }
+    Ok(threads)
 }

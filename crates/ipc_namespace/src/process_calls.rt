@@ -5,8 +5,9 @@ ghost use Rattle.ipc_model.specs.State.{is_waiting as waits};
 ghost use Rattle.ipc_model.specs.Decision.{left_by, outcome_of, without_answer};
 ghost use Rattle.ipc_model.specs.Plan.{decision};
 ghost use Rattle.ipc_model.specs.Decide.{decide_alive as decision_on};
-ghost use Rattle.ipc_model.specs.Processes.{interrupt as interrupt_by, process as process_of, set_creds as creds_set};
-ghost use Rattle.ipc_model.specs.State.{caller, creds_at};
+ghost use Rattle.ipc_model.specs.Processes.{interrupt as interrupt_by, process as process_of, process_ended, set_creds as creds_set};
+ghost use Rattle.ipc_model.specs.State.{caller, creds_at, has_pid, is_running as running, process_at};
+ghost use Rattle.std.specs.List.{position};
 ghost use Rattle.ipc_namespace.specs.Namespace.{left_alive as moved_by};
 
 use crate::callers::caller_of;
@@ -50,14 +51,29 @@ impl Namespace {
         allowed(may_interrupt(creds, target.euid()))
     }
 
-    /// The credentials of the client of a process.
+    /// The credentials of the first client that is a thread of the process of a pid.
     fn process(&self, pid: u32) -> Option<&Creds>
         ensures { option_copied result ≡ process_of self.now pid }
     {
-        if pid == 0 || self.has_exited(pid - 1) {
-            return None;
-        }
-        self.clients.get(pid as usize - 1)
+        self.clients.get(self.thread_of(pid)?)
+    }
+
+    /// The first client that is a thread of the process of a pid.
+    fn thread_of(&self, pid: u32) -> Option<usize>
+        ensures { result ≡ position (has_pid pid) self.now.threads }
+    {
+        self.threads
+            .iter()
+            .position(|thread| thread.pid == pid && !thread.has_ended)
+    }
+
+    /// Whether the process has a thread.
+    fn is_running(&self, process: u64) -> bool
+        ensures { result ≡ running self.now process }
+    {
+        self.threads
+            .iter()
+            .any(|thread| thread.process == process && !thread.has_ended)
     }
 
     /// setcreds: the client takes on another effective user and group, and other supplementary groups where some are given.
@@ -101,23 +117,33 @@ impl Namespace {
         may_become(&self.clients[client as usize], euid, egid, groups.is_some())
     }
 
-    /// exit: what the client's semops did with SEM_UNDO is undone, what it has attached is detached, and it has ended. The
-    /// error comes only where an allocation fails, and then nothing has changed.
+    /// exit: the client's thread ends, and with the last one its process: what its semops did with SEM_UNDO is undone, and what
+    /// it has attached is detached. It takes no memory.
     #[tactic(auto, unfolding(ipc_model::specs::Decide::part_plan))]
-    pub(super) fn exit(&mut self, client: u32) -> Result<Outcome, Memory>
+    pub(super) fn exit(&mut self, client: u32) -> Outcome
         requires known { client < length self.old.clients }
         requires free { waits self.old client ≡ false }
-        ensures outcome { IfOk result (λ outcome. outcome_of (decision_on self.old client Call.Exit) ≡ Some outcome) }
-        ensures state { OnOk result (self.new ≡ left_by self.old (decision_on self.old client Call.Exit)) }
+        ensures outcome { outcome_of (decision_on self.old client Call.Exit) ≡ Some result }
+        ensures state { self.new ≡ left_by self.old (decision_on self.old client Call.Exit) }
         ensures parked { self.new.parked ≡ self.old.parked }
-        ensures err { OnErr result (self.new ≡ self.old) }
     {
-        self.exited.reserve(1)?;
-        let who = caller_of(&self.clients, client, self.clock);
+        self.threads[client as usize].has_ended = true;
+        let process = self.threads[client as usize].process;
+        if !self.is_running(process) {
+            self.end_process(client);
+        }
+        Ok(Answer::Done)
+    }
+
+    /// The process of a client without a thread ends.
+    fn end_process(&mut self, client: u32)
+        requires known { client < length self.old.clients }
+        requires last { running self.old (process_at self.old client) ≡ false }
+        ensures { self.new ≡ process_ended self.old (caller self.old client) }
+    {
+        let who = caller_of(&self.clients, &self.threads, client, self.clock);
         self.sets.exit(&who);
         self.segments.exit(&who);
-        self.exited.push(client).unwrap();
-        Ok(Ok(Answer::Done))
     }
 }
 

@@ -48,15 +48,15 @@ pub fn release_in(queues: &mut Queues, queue: Option<u32>)
 
 /// Makes the row of semadj that the completion of a semop needs. Memory comes where a growth was refused, and then nothing
 /// has changed.
-pub fn reserve_row(sets: &mut Sets, client: u32, call: &Call) -> Result<(), Memory>
+pub fn reserve_row(sets: &mut Sets, process: u64, call: &Call) -> Result<(), Memory>
     requires there { MayReserve (sems_of sets.old) call.now }
     ensures sems { OnOk result (sems_of sets.new ≡ sems_of sets.old) }
-    ensures row { OnOk result (HasRowFor sets.new client call.now) }
+    ensures row { OnOk result (HasRowFor sets.new process call.now) }
     ensures rows { OnOk result ((c s n : ℕ) → n < row_at sets.old c s → n < row_at sets.new c s) }
     ensures err { OnErr result (sets.new ≡ sets.old) }
 {
     match call {
-        Call::SemOp { id, ops } => sets.reserve(client, *id, ops.as_slice()),
+        Call::SemOp { id, ops } => sets.reserve(process, *id, ops.as_slice()),
         _ => Ok(()),
     }
 }

@@ -2,13 +2,13 @@
 
 ghost use Rattle.std.specs.Prelude.{◌≡◌, ◌<◌, true, length, slice_get, IfOk, IfSome, OnOk, OnErr, Some};
 ghost use Rattle.std.specs.List.{count_by};
-ghost use Rattle.ipc_model.specs.State.{creds_at};
+ghost use Rattle.ipc_model.specs.State.{creds_at, process_at};
 ghost use Rattle.ipc_model.specs.Plan.{decision};
 ghost use Rattle.ipc_model.specs.Decision.{left_by, outcome_of};
 ghost use Rattle.ipc_model.specs.Decide.{decide_alive as decision_on, get_waiting, waits_for};
 ghost use Rattle.ipc_namespace.specs.Namespace.{is_awaited, is_on_sets};
 
-use crate::callers::caller_of;
+use crate::callers::{caller_of, process_in};
 use crate::namespace::Namespace;
 use ipc_call::{Answer, Call, Get, GetSet, Items, Memory, Outcome, SemOper};
 
@@ -50,7 +50,7 @@ impl Namespace {
         ensures parked { self.new.parked ≡ self.old.parked }
         ensures err { OnErr result (self.new ≡ self.old) }
     {
-        let who = caller_of(&self.clients, client, self.clock);
+        let who = caller_of(&self.clients, &self.threads, client, self.clock);
         self.sets.semop(&self.limits, &who, id, ops.as_slice())
     }
 
@@ -60,14 +60,14 @@ impl Namespace {
         ensures outcome { outcome_of (decision (creds_at self.old client) (get_waiting self.old id num (is_awaited awaited num))) ≡ Some result }
         ensures same { self.new ≡ self.old }
     {
-        let who = caller_of(&self.clients, client, self.clock);
+        let who = caller_of(&self.clients, &self.threads, client, self.clock);
         self.sets.with_semaphore(&who, id, num)?;
         Ok(Answer::Value(self.waiting_at(id, num, awaited)))
     }
 
     /// How many calls wait at a semaphore, at most 64.
     fn waiting_at(&mut self, id: u32, num: u32, awaited: Awaited) -> u32
-        ensures count { result ≡ count_by (λ w. waits_for self.old.sems id (is_awaited awaited num) w.client w.call) self.old.parked }
+        ensures count { result ≡ count_by (λ w. waits_for self.old.sems id (is_awaited awaited num) (process_at self.old w.client) w.call) self.old.parked }
         ensures same { self.new ≡ self.old }
     {
         let mut count = 0;
@@ -82,7 +82,7 @@ impl Namespace {
     /// Whether the waiting call at an index waits at the semaphore.
     fn waits_at(&mut self, index: usize, id: u32, num: u32, awaited: Awaited) -> bool
         requires { index < length self.old.parked }
-        ensures awaits { IfSome (slice_get self.old.parked index) (λ w. result ≡ waits_for self.old.sems id (is_awaited awaited num) w.client w.call) }
+        ensures awaits { IfSome (slice_get self.old.parked index) (λ w. result ≡ waits_for self.old.sems id (is_awaited awaited num) (process_at self.old w.client) w.call) }
         ensures same { self.new ≡ self.old }
     {
         let Some((client, arrival)) = self.parked.nth(index) else {
@@ -94,7 +94,8 @@ impl Namespace {
         if *set != id {
             return false;
         }
-        match self.sets.stopping(client, id, ops.as_slice()) {
+        let process = process_in(&self.threads, client);
+        match self.sets.stopping(process, id, ops.as_slice()) {
             None => false,
             Some(oper) => awaited.is_at(num, oper),
         }
@@ -111,7 +112,7 @@ impl Namespace {
         ensures parked { self.new.parked ≡ self.old.parked }
         ensures err { OnErr result (self.new ≡ self.old) }
     {
-        let who = caller_of(&self.clients, client, self.clock);
+        let who = caller_of(&self.clients, &self.threads, client, self.clock);
         match call {
             Call::SemGet { key, nsems, flags } => {
                 let get = Get {

@@ -25,7 +25,7 @@ use Rattle.ipc_objects.specs.declared.object.Object.{Object}
 use Rattle.msg_queue.specs.declared.messages.Message.{Message}
 use Rattle.shm_seg.specs.Attachments.{attachment_at, free_number}
 use Rattle.sem_undo.specs.Entries.{adj_of}
-use Rattle.ipc_model.specs.State.{Caller, Queue, Queues, SemSet, Sems, Shared, State, caller, creds_at, pid_at}
+use Rattle.ipc_model.specs.State.{Caller, Queue, Queues, SemSet, Sems, Shared, State, caller, creds_at, pid_at, process_at}
 use Rattle.ipc_model.specs.Decision.{Decision, Outcome, Refused, Waits, Granted, outcome_of, proceeds}
 use Rattle.ipc_model.specs.Plan.{Needs, Plan, on_part}
 use Rattle.ipc_model.specs.Plan as plans
@@ -108,11 +108,11 @@ gives-plan s client (SemGet key nsems flags) =
 gives-plan s client (SemOp id ops) =
     let call = SemOp id ops in
     on-sems s call (operate s.limits s.sems (caller s client) id ops) (Ends-found (Gives call) (set_at s.sems id) BadId tt _ (λ (set : Object SemSet) is.
-    Ends-order (Gives call) (trial_checks set.contents.semaphores (adj_of s.sems.undo client id) [] ops) (plans.Grant Done (operated s.sems (caller s client) id ops set.contents)) refl))
+    Ends-order (Gives call) (trial_checks set.contents.semaphores (adj_of s.sems.undo (process_at s client) id) [] ops) (plans.Grant Done (operated s.sems (caller s client) id ops set.contents)) refl))
 gives-plan s client (SemTimedOp id ops timeout) =
     let call = SemTimedOp id ops timeout in
     on-sems s call (operate s.limits s.sems (caller s client) id ops) (Ends-found (Gives call) (set_at s.sems id) BadId tt _ (λ (set : Object SemSet) is.
-    Ends-order (Gives call) (trial_checks set.contents.semaphores (adj_of s.sems.undo client id) [] ops) (plans.Grant Done (operated s.sems (caller s client) id ops set.contents)) refl))
+    Ends-order (Gives call) (trial_checks set.contents.semaphores (adj_of s.sems.undo (process_at s client) id) [] ops) (plans.Grant Done (operated s.sems (caller s client) id ops set.contents)) refl))
 gives-plan s client (GetVal id num) = on-sems s (GetVal id num) (get_value s.sems id num) (Ends-found (Gives (GetVal id num)) (set_at s.sems id) BadId tt _ (λ set is. refl))
 gives-plan s client (GetPid id num) = on-sems s (GetPid id num) (get_pid s.sems id num) (Ends-found (Gives (GetPid id num)) (set_at s.sems id) BadId tt _ (λ set is. refl))
 gives-plan s client (GetNcnt id num) = on-sems s (GetNcnt id num) (get_waiting s id num (is_negative num)) (Ends-found (Gives (GetNcnt id num)) (set_at s.sems id) BadId tt _ (λ set is. refl))
@@ -130,12 +130,12 @@ gives-plan s client (ShmGet key size flags) =
 gives-plan s client (ShmAt id flags) =
     let call = ShmAt id flags in
     on-shared s call (attach s.shared (caller s client) id flags)
-    (Ends-found (Gives call) (segment_at s.shared id) BadId tt _ (λ segment there. Ends-found (Gives call) (free_number s.shared.attached client) TooManyAttached tt _ (λ number free. refl)))
-gives-plan s client (ShmDt att) = on-shared s (ShmDt att) (detach s.shared (caller s client) att) (Ends-found (Gives (ShmDt att)) (attachment_at s.shared.attached client att) NotAttached tt _ (λ a is. refl))
+    (Ends-found (Gives call) (segment_at s.shared id) BadId tt _ (λ segment there. Ends-found (Gives call) (free_number s.shared.attached (process_at s client)) TooManyAttached tt _ (λ number free. refl)))
+gives-plan s client (ShmDt att) = on-shared s (ShmDt att) (detach s.shared (caller s client) att) (Ends-found (Gives (ShmDt att)) (attachment_at s.shared.attached (process_at s client) att) NotAttached tt _ (λ a is. refl))
 gives-plan s client (ShmRead att offset len) =
-    on-shared s (ShmRead att offset len) (read_bytes s.shared (caller s client) att offset len) (Ends-found (Gives (ShmRead att offset len)) (behind s.shared client att) NotAttached tt _ (λ there is. refl))
+    on-shared s (ShmRead att offset len) (read_bytes s.shared (caller s client) att offset len) (Ends-found (Gives (ShmRead att offset len)) (behind s.shared (process_at s client) att) NotAttached tt _ (λ there is. refl))
 gives-plan s client (ShmWrite att offset bytes) =
-    on-shared s (ShmWrite att offset bytes) (write_bytes s.shared (caller s client) att offset bytes) (Ends-found (Gives (ShmWrite att offset bytes)) (behind s.shared client att) NotAttached tt _ (λ there is. refl))
+    on-shared s (ShmWrite att offset bytes) (write_bytes s.shared (caller s client) att offset bytes) (Ends-found (Gives (ShmWrite att offset bytes)) (behind s.shared (process_at s client) att) NotAttached tt _ (λ there is. refl))
 gives-plan s client (IpcStat kind id) = Ends-found (Gives (IpcStat kind id)) (status_of s kind id) BadId tt _ (λ told is. status-kind s kind id told is)
 gives-plan s client (IpcSet kind id uid gid mode qbytes) =
     let call = IpcSet kind id uid gid mode qbytes in

@@ -65,7 +65,7 @@ impl Ledger {
         let opening = copies(alloc, clients.as_slice())?;
         Ok(Ledger {
             opening,
-            namespace: Namespace::new(limits, clients),
+            namespace: Namespace::new(limits, clients)?,
             journal: Journal::new(alloc),
             events: 0,
             ended: Vec::new(alloc),

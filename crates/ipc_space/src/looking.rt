@@ -5,7 +5,7 @@ ghost use Rattle.ipc_call.specs.declared.replies.Waiting.{Waiting as WaitingCall
 ghost use Rattle.ipc_history.specs.History.{run};
 ghost use Rattle.ipc_model.specs.Controls.{perm_of as perm_in, status_of as status_in};
 ghost use Rattle.ipc_model.specs.Semaphores.{values_at};
-ghost use Rattle.ipc_model.specs.State.{has_exited as exited_before, waiting_of as waiting_in};
+ghost use Rattle.ipc_model.specs.State.{has_exited as exited_before, process_at, waiting_of as waiting_in};
 ghost use Rattle.ipc_namespace.specs.Looking.{object_with_key, stopped_at as stopping_at};
 ghost use Rattle.sem_undo.specs.Entries.{adj_of};
 ghost use Rattle.shm_seg.specs.Attachments.{attachment_at};
@@ -67,17 +67,17 @@ impl Space {
         self.ledger.namespace().values_of(id)
     }
 
-    /// What the exit of a client would add to a semaphore, its semadj there (semop(2)): above 0 where the client has taken
-    /// some with SEM_UNDO.
+    /// The semadj of a client's process at a semaphore, which the end of that process adds (semop(2)): above 0 where it has
+    /// taken some with SEM_UNDO.
     pub fn semadj_of(&self, client: u32, id: u32, num: u16) -> i32
-        ensures { result ≡ adj_of (run self.now).sems.undo client id num }
+        ensures { result ≡ adj_of (run self.now).sems.undo (process_at (run self.now) client) id num }
     {
         self.ledger.namespace().semadj_of(client, id, num)
     }
 
-    /// What a client has attached under a number.
+    /// What a client's process has attached under a number.
     pub fn attachment_of(&self, client: u32, att: u32) -> Option<Attachment>
-        ensures { result ≡ attachment_at (run self.now).shared.attached client att }
+        ensures { result ≡ attachment_at (run self.now).shared.attached (process_at (run self.now) client) att }
     {
         self.ledger.namespace().attachment_of(client, att)
     }

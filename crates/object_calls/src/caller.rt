@@ -14,7 +14,7 @@ use std::marker::Model;
 #[derive(Debug, Drop)]
 pub struct Caller<'a> {
     client: u32,
-    process: u32,
+    process: u64,
     pid: u32,
     creds: &'a Creds,
     now: u64,
@@ -30,7 +30,7 @@ impl<'a> Model for Caller<'a> {
 
 impl<'a> Caller<'a> {
     /// The client of a number, of the process of a number with its pid, at a time in seconds.
-    pub fn new(client: u32, process: u32, pid: u32, creds: &'a Creds, now: u64) -> Caller<'a>
+    pub fn new(client: u32, process: u64, pid: u32, creds: &'a Creds, now: u64) -> Caller<'a>
         ensures { result ≡ record { client = client; process = process; pid = pid; creds = creds.now; now = now } }
     {
         Caller {
@@ -43,7 +43,7 @@ impl<'a> Caller<'a> {
     }
 
     /// The number of its process, by which semadj and attachments are kept.
-    pub fn process(&self) -> u32
+    pub fn process(&self) -> u64
         ensures { result ≡ self.entry.now.process }
     {
         self.process

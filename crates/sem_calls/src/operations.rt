@@ -88,28 +88,28 @@ impl Sets {
     }
 
     /// The operation at which a semop stops that waits (GETNCNT and GETZCNT of semctl(2)); None where it doesn't wait.
-    pub fn stopping(&mut self, client: u32, id: u32, ops: &[SemOper]) -> Option<SemOper>
-        ensures stop { result ≡ stopping_at (sems_of self.old) client id ops.now }
+    pub fn stopping(&mut self, process: u64, id: u32, ops: &[SemOper]) -> Option<SemOper>
+        ensures stop { result ≡ stopping_at (sems_of self.old) process id ops.now }
         ensures same { self.new ≡ self.old }
     {
         let set = self.sets.get(id)?;
         if !are_in(&set.contents, ops) {
             return None;
         }
-        match self.try_on(client, id, ops) {
+        match self.try_on(process, id, ops) {
             Trial::Wait(place) => ops.get(place).copied(),
             Trial::Go | Trial::Refuse(_) => None,
         }
     }
 
-    /// Makes the row of semadj that the operations of a client on the set of an identifier need, where exit undoes one
+    /// Makes the row of semadj that the operations of a process on the set of an identifier need, where exit undoes one
     /// of them. Memory comes where a growth was refused, and then nothing has changed.
-    pub fn reserve(&mut self, client: u32, id: u32, ops: &[SemOper]) -> Result<(), Memory>
+    pub fn reserve(&mut self, process: u64, id: u32, ops: &[SemOper]) -> Result<(), Memory>
         requires there { IsSome (set_at (sems_of self.old) id) }
         requires numbers { IfSome (set_at (sems_of self.old) id)
             (λ set. are_numbers_of set.contents.semaphores ops.now ≡ true) }
         ensures sems { OnOk result (sems_of self.new ≡ sems_of self.old) }
-        ensures row { OnOk result (HasRow self.new client id ops.now) }
+        ensures row { OnOk result (HasRow self.new process id ops.now) }
         ensures rows { OnOk result ((c s n : ℕ) → n < row_at self.old c s → n < row_at self.new c s) }
         ensures err { OnErr result (self.new ≡ self.old) }
     {
@@ -118,7 +118,7 @@ impl Sets {
         };
         if undoes_some(ops) {
             let nsems = set.contents.semaphores.len();
-            self.undo.ensure_row(client, id, nsems)?;
+            self.undo.ensure_row(process, id, nsems)?;
         }
         Ok(())
     }
@@ -150,20 +150,20 @@ impl Sets {
         end_by(self.try_on(who.process(), id, ops))
     }
 
-    /// Tries the operations of a client on the set of an identifier, which there is and has the semaphores that they
+    /// Tries the operations of a process on the set of an identifier, which there is and has the semaphores that they
     /// name.
-    fn try_on(&mut self, client: u32, id: u32, ops: &[SemOper]) -> Trial
+    fn try_on(&mut self, process: u64, id: u32, ops: &[SemOper]) -> Trial
         requires there { IsSome (set_at (sems_of self.old) id) }
         requires numbers { IfSome (set_at (sems_of self.old) id)
             (λ set. are_numbers_of set.contents.semaphores ops.now ≡ true) }
         ensures told { IfSome (set_at (sems_of self.old) id)
-            (λ set. result ≡ trial_on set.contents.semaphores (adj_of self.old.undone.entries client id) ops.now) }
+            (λ set. result ≡ trial_on set.contents.semaphores (adj_of self.old.undone.entries process id) ops.now) }
         ensures same { self.new ≡ self.old }
     {
         let Some(set) = self.sets.contents_mut(id) else {
             unreachable!()
         };
-        set.semaphores.trial(ops, self.undo.row(client, id))
+        set.semaphores.trial(ops, self.undo.row(process, id))
     }
 
     /// Does the operations, which were decided and for which there is a row (semop(2)). It takes no memory.
@@ -194,25 +194,25 @@ fn end_by(trial: Trial) -> Option<Result<(), Rule>>
     }
 }
 
-/// Lowers a client's semadj at a set by each operation that exit undoes.
-fn lower_all(undo: &mut Undo, client: u32, id: u32, ops: &[SemOper])
-    requires row { AllByRecursion (λ o. undoes_at o ≡ true → o.num < row_len undo.old client id) ops.now }
-    requires range { StayInRange undo.old.entries client id ops.now }
-    ensures { undo.new ≡ record undo.old { entries = lowered undo.old.entries client id ops.now } }
+/// Lowers a process's semadj at a set by each operation that exit undoes.
+fn lower_all(undo: &mut Undo, process: u64, id: u32, ops: &[SemOper])
+    requires row { AllByRecursion (λ o. undoes_at o ≡ true → o.num < row_len undo.old process id) ops.now }
+    requires range { StayInRange undo.old.entries process id ops.now }
+    ensures { undo.new ≡ record undo.old { entries = lowered undo.old.entries process id ops.now } }
 {
     for oper in ops {
-        lower(undo, client, id, *oper);
+        lower(undo, process, id, *oper);
     }
 }
 
-/// Lowers a client's semadj at a set by an operation, where exit undoes it.
-fn lower(undo: &mut Undo, client: u32, id: u32, oper: SemOper)
-    requires row { undoes_at oper ≡ true → oper.num < row_len undo.old client id }
-    requires range { undoes_at oper ≡ true → is_semadj (adj_of undo.old.entries client id oper.num -ℤ oper.op) ≡ true }
-    ensures { undo.new ≡ record undo.old { entries = lowered_by undo.old.entries client id oper } }
+/// Lowers a process's semadj at a set by an operation, where exit undoes it.
+fn lower(undo: &mut Undo, process: u64, id: u32, oper: SemOper)
+    requires row { undoes_at oper ≡ true → oper.num < row_len undo.old process id }
+    requires range { undoes_at oper ≡ true → is_semadj (adj_of undo.old.entries process id oper.num -ℤ oper.op) ≡ true }
+    ensures { undo.new ≡ record undo.old { entries = lowered_by undo.old.entries process id oper } }
 {
     if undoes(u32::from(oper.flags)) {
-        undo.lower(client, id, oper.num, oper.op);
+        undo.lower(process, id, oper.num, oper.op);
     }
 }
 

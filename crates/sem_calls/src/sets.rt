@@ -109,10 +109,10 @@ impl Sets {
     }
 
     /// What the exit of a client would add to a semaphore of the set of an identifier, its semadj there (semop(2)).
-    pub fn semadj(&self, client: u32, id: u32, num: u16) -> i32
-        ensures { result ≡ adj_of (sems_of self.now).undo client id num }
+    pub fn semadj(&self, process: u64, id: u32, num: u16) -> i32
+        ensures { result ≡ adj_of (sems_of self.now).undo process id num }
     {
-        self.undo.adj(client, id, num)
+        self.undo.adj(process, id, num)
     }
 
     /// Sets the owner and the mode of the set of an identifier, which there is, at a time in seconds (IPC_SET of

@@ -21,7 +21,7 @@ itself s = grind arith
 -- how many clients are left
 abbrev pub left : Option ℕ → ℕ
 left None = 0
-left (Some n) = 4294967296 - n
+left (Some n) = 18446744073709551616 - n
 
 module _ (next : Option ℕ) (set : ℕ) (change : Option (List ℤ) → Option (List ℤ)) (none : change None ≡ None) (u : Rows) (noted : IsNoted u) where
   -- none of those before the first has a row
@@ -33,7 +33,7 @@ module _ (next : Option ℕ) (set : ℕ) (change : Option (List ℤ) → Option 
       inner false h = refl
 
       outer : (b : Bool) → (b ≡ true → s ≡ set) → row_of u c s ≡ (if b then (if is_before next c then change (row_of u c s) else row_of u c s) else row_of u c s)
-      outer true here = inner (is_before next c) (λ before. noted c s (ap (λ k. finite.get u.clients (key k c)) (here refl) ∙ empty c before))
+      outer true here = inner (is_before next c) (λ before. noted.clients c s (ap (λ k. finite.get u.clients (key k c)) (here refl) ∙ empty c before))
       outer false here = refl
 
 before_next : (client : ℕ) (next : Option ℕ) → IfSome next (λ n. client < n) → (c : ℕ) → c ≤ client → is_before next c ≡ true
@@ -66,7 +66,7 @@ module _ (client set : ℕ) (next : Option ℕ) (change : Option (List ℤ) → 
 
   between : (c : ℕ) → client < c → (b : Bool) → is_before next c ≡ b → row_of u' c set ≡ (if b then change (old c set) else old c set)
   between c l true before =
-      let gone : row_of u' c set ≡ None = noted c set (empty c l before) in
+      let gone : row_of u' c set ≡ None = noted.clients c set (empty c l before) in
       gone ∙ sym none ∙ ap change (sym gone ∙ now_after c l)
   between c l false before = now_after c l
 

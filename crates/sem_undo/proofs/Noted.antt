@@ -1,9 +1,9 @@
 -- Which clients are noted at a set, where rows come and go.
-use Rattle.std.proofs.Common.{◌≡◌, ◌∙◌, ℕ, ℤ, ap, refl, sym, Bool, false, Bor, List}
-use Rattle.std.specs.Prelude.{Option, Some, None, is_some, option_copied, if◌then◌else◌}
+use Rattle.std.proofs.Common.{◌≡◌, ◌∙◌, ◌<◌, ◌≤◌, ℕ, ℤ, ap, arith, refl, subst, sym, ⊎_elim, Bool, false, Bor, List}
+use Rattle.std.specs.Prelude.{Option, Some, None, IsSome, is_some, option_copied, if◌then◌else◌}
 use Rattle.std.specs.FinMap as finite
 use Rattle.std.specs.Global.{Vec}
-use Rattle.std.proofs.lemmas.Bool.{true≢false}
+use Rattle.std.proofs.lemmas.Bool.{cases_lt, true≢false}
 use Rattle.std.proofs.lemmas.Option.{none-some}
 use Rattle.client_map.specs.declared.map.Key.{Key}
 use Rattle.client_map.specs.Keys.{key, key_cmp}
@@ -14,7 +14,7 @@ use Rattle.sem_undo.proofs.Changes.{by_place, is_here_apart, is_here_here}
 abbrev pub Index : Type 0
 Index = finite.FinMap key_cmp Unit
 
--- as `IsNoted`, of an index and rows
+-- as `IsNoted` says it of the clients, of an index and rows
 abbrev pub Notes : Index → RowMap → Type 0
 Notes index m = (c s : ℕ) → finite.get index (key s c) ≡ None → row_in m c s ≡ None
 
@@ -77,6 +77,27 @@ noted_back index more index' m m' client set noted same put gone none =
         ap (λ k. row_in m k s) e ∙ ap (λ k. row_in m client k) f ∙ none
         ∙ ap (λ (b : Bool). if b then None else row_in m c s) (sym (is_here_here client set) ∙ ap (λ k. is_here client set k set) (sym e) ∙ ap (λ k. is_here client set c k) (sym f)))
         (λ (ne : c ≡ client → s ≡ set → ⊥). ap (λ (b : Bool). if b then None else row_in m c s) (sym (is_here_apart client set c s ne)))
+
+-- as `IsNoted` again: a set's number has 32 bits
+abbrev pub Fits : RowMap → Type 0
+Fits m = (c s : ℕ) → 4294967296 ≤ s → row_in m c s ≡ None
+
+pub set_fits : (m : RowMap) (client set : ℕ) → Fits m → IsSome (row_in m client set) → set < 4294967296
+set_fits m client set fits there =
+    ⊎_elim
+    (λ (l : set < 4294967296). l)
+    (λ (g : 4294967296 ≤ set). absurd (true≢false (sym (subst (λ o. IsSome o) (fits client set g) there))))
+    (cases_lt set 4294967296)
+
+pub row_there : (o : Option (Vec ℤ)) → IsSome o → IsSome (items_of o)
+row_there None there = there
+row_there (Some row) there = refl
+
+pub fits_still : (m m' : RowMap) (client set : ℕ) (row : Option (List ℤ)) → ((c s : ℕ) → row_in m' c s ≡ (if is_here client set c s then row else row_in m c s)) → set < 4294967296 → Fits m → Fits m'
+fits_still m m' client set row is small fits c s large =
+    is c s
+    ∙ ap (λ (b : Bool). if b then row else row_in m c s) (is_here_apart client set c s (λ _ e. omega (arith, small, large, e)))
+    ∙ fits c s large
 
 -- a look-up that finds nothing
 pub no_row : (r : Option (Bor (Vec ℤ))) (o : Option (Vec ℤ)) → is_some r ≡ false → option_copied r ≡ o → items_of o ≡ None

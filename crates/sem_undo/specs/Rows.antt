@@ -1,5 +1,5 @@
 -- The rows that entries are kept in.
-use Rattle.std.specs.Prelude.{◌≡◌, ◌==◌, nat_lt, ℕ, ◌+◌, ◌-◌, ℤ, pos, Bool, true, if◌then◌else◌}
+use Rattle.std.specs.Prelude.{◌≡◌, ◌≤◌, ◌==◌, nat_lt, ℕ, ◌+◌, ◌-◌, ℤ, pos, Bool, true, if◌then◌else◌}
 use Rattle.std.specs.Prelude.{List, [], ◌∷◌, ◌++◌, length, replicate, slice_set, slice_index_or}
 use Rattle.std.specs.Prelude.{Option, None, Some, option_map, unwrap_or}
 use Rattle.std.specs.FinMap as finite
@@ -64,9 +64,10 @@ lens_in m = lens_of (finite.entries m)
 abbrev pub undone_in : RowMap → Undone
 undone_in m = record { entries = entries_in m; rows = lens_in m }
 
--- a client with a row at a set is noted there
-abbrev pub IsNoted : Rows → Type 0
-IsNoted u = (c s : ℕ) → finite.get u.clients (key s c) ≡ None → row_of u c s ≡ None
+-- a client with a row at a set is noted there, and a set's number has 32 bits
+pub record IsNoted (u : Rows) : Type 0 where
+  pub clients : (c s : ℕ) → finite.get u.clients (key s c) ≡ None → row_of u c s ≡ None
+  pub sets : (c s : ℕ) → 4294967296 ≤ s → row_of u c s ≡ None
 
 -- what the rows at a set become; where no row is there, there is none afterwards
 abbrev pub each_at : ℕ → (Option (List ℤ) → Option (List ℤ)) → (ℕ → ℕ → Option (List ℤ)) → ℕ → ℕ → Option (List ℤ)

@@ -6,7 +6,7 @@ ghost use Rattle.std.specs.Prelude.{if◌then◌else◌, slice_set, IfNone, IfOk
 ghost use Rattle.client_map.specs.Keys.{key};
 ghost use Rattle.sem_undo.specs.Rows.{each_at, grown, is_before, is_here, removed, row_at, row_of, zeroed, zeroed_at, IsNoted};
 
-use client_map::ClientMap;
+use client_map::{ClientMap, narrow};
 use ipc_call::Memory;
 use std::alloc::Global;
 
@@ -32,17 +32,17 @@ impl Rows {
     }
 
     /// The row of a client at a set; empty where there is none.
-    pub(crate) fn row(&self, client: u32, set: u32) -> &[i32]
+    pub(crate) fn row(&self, client: u64, set: u32) -> &[i32]
         ensures { result.now ≡ row_at self.now client set }
     {
-        match self.rows.get(client, set) {
+        match self.rows.get(client, set as u64) {
             None => &[],
             Some(row) => row.as_slice(),
         }
     }
 
     /// Makes the row of a client at a set as long as this, where it is no longer; the semadj that are new are 0.
-    pub(crate) fn grow(&mut self, client: u32, set: u32, nsems: usize) -> Result<(), Memory>
+    pub(crate) fn grow(&mut self, client: u64, set: u32, nsems: usize) -> Result<(), Memory>
         requires noted { IsNoted self.old }
         requires longer { length (row_at self.old client set) ≤ nsems }
         ensures noted { IsNoted self.new }
@@ -53,13 +53,13 @@ impl Rows {
         ensures err { OnErr result (self.new.rows ≡ self.old.rows) }
     {
         let row = grown_row(self.alloc, self.row(client, set), nsems)?;
-        let is_new = self.rows.get(client, set).is_none();
-        self.clients.insert(set, client, ())?;
-        match self.rows.insert(client, set, row) {
+        let is_new = self.rows.get(client, set as u64).is_none();
+        self.clients.insert(set as u64, client, ())?;
+        match self.rows.insert(client, set as u64, row) {
             Ok(()) => Ok(()),
             Err(memory) => {
                 if is_new {
-                    self.clients.remove(set, client);
+                    self.clients.remove(set as u64, client);
                 }
                 Err(memory.into())
             }
@@ -67,7 +67,7 @@ impl Rows {
     }
 
     /// Writes a semadj into a row that is there.
-    pub(crate) fn write(&mut self, client: u32, set: u32, num: usize, adj: i32)
+    pub(crate) fn write(&mut self, client: u64, set: u32, num: usize, adj: i32)
         requires noted { IsNoted self.old }
         requires within { num < length (row_at self.old client set) }
         ensures noted { IsNoted self.new }
@@ -76,7 +76,7 @@ impl Rows {
             then Some (slice_set (row_at self.old client set) num adj)
             else row_of self.old c s) }
     {
-        let row = self.rows.get_mut(client, set).unwrap();
+        let row = self.rows.get_mut(client, set as u64).unwrap();
         row[num] = adj;
     }
 
@@ -120,24 +120,24 @@ impl Rows {
     }
 
     /// The least client that may have a row at a set. None before it has one.
-    fn first_at(&self, set: u32) -> Option<u32>
+    fn first_at(&self, set: u32) -> Option<u64>
         ensures none { (c : ℕ) → is_before result c ≡ true → finite.get self.now.clients (key set c) ≡ None }
-        ensures fits { IfSome result (λ client. client < 2 ^ 32) }
+        ensures fits { IfSome result (λ client. client < 2 ^ 64) }
     {
-        self.clients.first(set)
+        self.clients.first(set as u64)
     }
 
     /// The least client above this one that may have a row at a set. None between them has one.
-    fn next_at(&self, set: u32, client: u32) -> Option<u32>
+    fn next_at(&self, set: u32, client: u64) -> Option<u64>
         ensures none { (c : ℕ) → client < c → is_before result c ≡ true → finite.get self.now.clients (key set c) ≡ None }
         ensures above { IfSome result (λ next. client < next) }
-        ensures fits { IfSome result (λ next. next < 2 ^ 32) }
+        ensures fits { IfSome result (λ next. next < 2 ^ 64) }
     {
-        self.clients.next(set, client)
+        self.clients.next(set as u64, client)
     }
 
     /// Sets a semadj of a row to 0, where there is one.
-    fn zero_at(&mut self, client: u32, set: u32, num: usize)
+    fn zero_at(&mut self, client: u64, set: u32, num: usize)
         requires noted { IsNoted self.old }
         ensures noted { IsNoted self.new }
         ensures rows { (c s : ℕ) → row_of self.new c s
@@ -145,13 +145,13 @@ impl Rows {
             then zeroed_at num (row_of self.old client set)
             else row_of self.old c s) }
     {
-        if let Some(row) = self.rows.get_mut(client, set) {
+        if let Some(row) = self.rows.get_mut(client, set as u64) {
             zero_one(row, num);
         }
     }
 
     /// Sets each semadj of a row to 0, where there is one.
-    fn zero(&mut self, client: u32, set: u32)
+    fn zero(&mut self, client: u64, set: u32)
         requires noted { IsNoted self.old }
         ensures noted { IsNoted self.new }
         ensures rows { (c s : ℕ) → row_of self.new c s
@@ -159,13 +159,13 @@ impl Rows {
             then zeroed (row_of self.old client set)
             else row_of self.old c s) }
     {
-        if let Some(row) = self.rows.get_mut(client, set) {
+        if let Some(row) = self.rows.get_mut(client, set as u64) {
             zero_all(row);
         }
     }
 
     /// Takes out the row of a client at the least set where it has one.
-    pub(crate) fn take_first(&mut self, client: u32) -> Option<(u32, Vec<i32>)>
+    pub(crate) fn take_first(&mut self, client: u64) -> Option<(u32, Vec<i32>)>
         requires noted { IsNoted self.old }
         ensures noted { IsNoted self.new }
         ensures none { IfNone result ((s : ℕ) → row_of self.old client s ≡ None) }
@@ -175,25 +175,25 @@ impl Rows {
         ensures rest { IfSome result (λ r. (c s : ℕ) → row_of self.new c s
             ≡ (if is_here client r.0 c s then None else row_of self.old c s)) }
     {
-        match self.rows.first(client) {
+        match narrow(self.rows.first(client)) {
             None => None,
             Some(set) => {
-                let row = self.rows.remove(client, set).unwrap();
-                self.clients.remove(set, client);
+                let row = self.rows.remove(client, set as u64).unwrap();
+                self.clients.remove(set as u64, client);
                 Some((set, row))
             }
         }
     }
 
     /// Takes out the row of a client at a set.
-    pub(crate) fn remove(&mut self, client: u32, set: u32)
+    pub(crate) fn remove(&mut self, client: u64, set: u32)
         requires noted { IsNoted self.old }
         ensures noted { IsNoted self.new }
         ensures rows { (c s : ℕ) → row_of self.new c s
             ≡ (if is_here client set c s then None else row_of self.old c s) }
     {
-        self.rows.remove(client, set);
-        self.clients.remove(set, client);
+        self.rows.remove(client, set as u64);
+        self.clients.remove(set as u64, client);
     }
 }
 

@@ -45,7 +45,7 @@ impl Undo {
     }
 
     /// The semadj of a client at a set by semaphore number; those past the end of the row are 0.
-    pub fn row(&self, client: u32, set: u32) -> &[i32]
+    pub fn row(&self, client: u64, set: u32) -> &[i32]
         ensures len { length result.now ≡ row_len self.now client set }
         ensures adjs { (num : ℕ) → adj_in result.now num ≡ adj_of self.now.entries client set num }
     {
@@ -53,7 +53,7 @@ impl Undo {
     }
 
     /// The semadj of a client at a semaphore.
-    pub fn adj(&self, client: u32, set: u32, num: u16) -> i32
+    pub fn adj(&self, client: u64, set: u32, num: u16) -> i32
         ensures { result ≡ adj_of self.now.entries client set num }
     {
         match self.row(client, set).get(usize::from(num)) {
@@ -64,7 +64,7 @@ impl Undo {
 
     /// Makes a row for the semaphores of a set, where the client has none that is as long there. The error comes only
     /// where an allocation fails.
-    pub fn ensure_row(&mut self, client: u32, set: u32, nsems: usize) -> Result<(), Memory>
+    pub fn ensure_row(&mut self, client: u64, set: u32, nsems: usize) -> Result<(), Memory>
         ensures ok { OnOk result (self.new ≡ (if nat_lt (row_len self.old client set) nsems
             then record self.old {
               rows = finite.insert self.old.rows (record { client = client; set = set }) nsems;
@@ -79,7 +79,7 @@ impl Undo {
     }
 
     /// Lowers a semadj by what an operation added (semop(2), SEM_UNDO). The client has a row for it.
-    pub fn lower(&mut self, client: u32, set: u32, num: u16, by: i16)
+    pub fn lower(&mut self, client: u64, set: u32, num: u16, by: i16)
         requires row { num < row_len self.old client set }
         requires least { neg_ℤ (pos 32768) ≤ℤ (adj_of self.old.entries client set num -ℤ by) }
         requires most { (adj_of self.old.entries client set num -ℤ by) ≤ℤ pos 32767 }
@@ -121,7 +121,7 @@ impl Undo {
 
     /// Takes out a row of a client: the least set where it has one, and its semadj there by semaphore number; None
     /// once it has none (semop(2), SEM_UNDO).
-    pub fn take_all(&mut self, client: u32) -> Option<(u32, Vec<i32>)>
+    pub fn take_all(&mut self, client: u64) -> Option<(u32, Vec<i32>)>
         ensures none { IfNone result (without_client self.old.entries client ≡ self.old.entries) }
         ensures no_row { IfNone result ((set : ℕ)
             → finite.get self.old.rows (record { client = client; set = set }) ≡ None) }
@@ -142,7 +142,7 @@ impl Undo {
     }
 
     /// Sets a semadj for which the client has a row.
-    fn put(&mut self, client: u32, set: u32, num: usize, adj: i32)
+    fn put(&mut self, client: u64, set: u32, num: usize, adj: i32)
         requires { num < row_len self.old client set }
         ensures { self.new ≡ record self.old {
           entries = with_adj self.old.entries (record { client = client; set = set; num = num }) adj;

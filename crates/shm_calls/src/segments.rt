@@ -64,11 +64,11 @@ impl Segments {
         self.segments.find(key)
     }
 
-    /// What a client has attached under a number.
-    pub fn attachment(&self, client: u32, att: u32) -> Option<Attachment>
-        ensures { result ≡ attachment_at self.now.attached client att }
+    /// What a process has attached under a number.
+    pub fn attachment(&self, process: u64, att: u32) -> Option<Attachment>
+        ensures { result ≡ attachment_at self.now.attached process att }
     {
-        self.attached.get(client, att)
+        self.attached.get(process, att)
     }
 
     /// The segment of an identifier.

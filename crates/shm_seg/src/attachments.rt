@@ -7,7 +7,7 @@ ghost use Rattle.shm_seg.specs.Attachments.{free_number as least_free, none_atta
 ghost use Rattle.shm_seg.specs.Attachments.{with_attachment, without_attachment};
 ghost use Rattle.shm_seg.specs.Inside.{counted_at};
 
-use client_map::ClientMap;
+use client_map::{ClientMap, narrow};
 use ipc_call::Memory;
 use std::alloc::Global;
 use std::collections::BTreeMap;
@@ -61,25 +61,25 @@ impl Attachments {
     }
 
     /// What a client has attached under a number, None where that is nothing.
-    pub fn get(&self, client: u32, number: u32) -> Option<Attachment>
+    pub fn get(&self, client: u64, number: u32) -> Option<Attachment>
         ensures { result ≡ attachment_at self.now client number }
     {
-        self.attached.get(client, number).copied()
+        self.attached.get(client, number as u64).copied()
     }
 
     /// The least number below 4096 under which a client has nothing attached; None where it has 4096 attachments. The
     /// time is logarithmic in the attachments, and linear in the number.
-    pub fn free_number(&self, client: u32) -> Option<u32>
+    pub fn free_number(&self, client: u64) -> Option<u32>
         ensures least { result ≡ least_free self.now client }
         ensures number { IfSome result (λ number. number < 4096) }
         ensures free { IfSome result (λ number. attachment_at self.now client number ≡ None) }
     {
-        self.attached.first_free(client, SHMSEG)
+        narrow(self.attached.first_free(client, SHMSEG as u64))
     }
 
     /// Attaches under a number below 4096 that is free for the client. The error comes only where an allocation fails,
     /// and then nothing has changed. The time is logarithmic in the attachments.
-    pub fn attach(&mut self, client: u32, number: u32, attachment: Attachment) -> Result<(), Memory>
+    pub fn attach(&mut self, client: u64, number: u32, attachment: Attachment) -> Result<(), Memory>
         requires number { number < 4096 }
         requires free { attachment_at self.old client number ≡ None }
         ensures ok { OnOk result (self.new ≡ with_attachment self.old client number attachment) }
@@ -87,11 +87,11 @@ impl Attachments {
     {
         // Memory holds fewer than 2^63 attachments, so that no count overflows.
         prove!(self.attached.len() < usize::MAX);
-        self.attached.insert(client, number, attachment)?;
+        self.attached.insert(client, number as u64, attachment)?;
         match raise(&mut self.counts, attachment.segment) {
             Ok(()) => Ok(()),
             Err(memory) => {
-                self.attached.remove(client, number);
+                self.attached.remove(client, number as u64);
                 Err(memory)
             }
         }
@@ -99,11 +99,11 @@ impl Attachments {
 
     /// Detaches what a client has attached under a number, and gives it; None where that is nothing. The time is
     /// logarithmic in the attachments.
-    pub fn detach(&mut self, client: u32, number: u32) -> Option<Attachment>
+    pub fn detach(&mut self, client: u64, number: u32) -> Option<Attachment>
         ensures told { result ≡ attachment_at self.old client number }
         ensures left { self.new ≡ without_attachment self.old client number }
     {
-        match self.attached.remove(client, number) {
+        match self.attached.remove(client, number as u64) {
             None => None,
             Some(attachment) => {
                 lower(&mut self.counts, attachment.segment);
@@ -114,12 +114,12 @@ impl Attachments {
 
     /// The least number under which a client has something attached; None where it has no attachment. The time is
     /// logarithmic in the attachments.
-    pub fn first(&self, client: u32) -> Option<u32>
+    pub fn first(&self, client: u64) -> Option<u32>
         ensures first { result ≡ first_number self.now client }
         ensures there { IfSome result (λ number. IsSome (attachment_at self.now client number)) }
         ensures none { IfNone result ((number : ℕ) → attachment_at self.now client number ≡ None) }
     {
-        self.attached.first(client)
+        narrow(self.attached.first(client))
     }
 
     /// How many attachments are to a segment, those of all clients (shmctl(2), shm_nattch). The time is logarithmic in

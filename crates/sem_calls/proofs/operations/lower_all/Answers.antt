@@ -11,7 +11,7 @@ use Rattle.sem_calls.proofs.operations.lower_all.Goals as goal
 
 pub loop-oper-preserved : goal.loop-oper-preserved
 loop-oper-preserved c =
-    let client = c.args.client in
+    let client = c.args.process in
     let id = c.args.id in
     let ops = c.args.ops.now in
     let i = c.loop-oper.oper-index in

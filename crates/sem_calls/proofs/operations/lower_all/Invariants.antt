@@ -10,7 +10,7 @@ use Rattle.sem_calls.proofs.operations.lower_all.Given as goal
 abbrev pub invariant-loop-oper : goal.invariant-loop-oper
 invariant-loop-oper l = record {
   rows : l.undo.rows ≡ l.fn.undo.rows;
-  left : lowered l.undo.entries l.client l.id (drop l.oper-index l.ops) ≡ lowered l.fn.undo.entries l.client l.id l.ops;
-  range : StayInRange l.undo.entries l.client l.id (drop l.oper-index l.ops);
-  row : AllByRecursion (λ o. undoes o ≡ true → o.num < row_len l.fn.undo l.client l.id) (drop l.oper-index l.ops);
+  left : lowered l.undo.entries l.process l.id (drop l.oper-index l.ops) ≡ lowered l.fn.undo.entries l.process l.id l.ops;
+  range : StayInRange l.undo.entries l.process l.id (drop l.oper-index l.ops);
+  row : AllByRecursion (λ o. undoes o ≡ true → o.num < row_len l.fn.undo l.process l.id) (drop l.oper-index l.ops);
 }

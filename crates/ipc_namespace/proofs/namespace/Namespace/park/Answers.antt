@@ -4,10 +4,10 @@ use Rattle.std.specs.List.{list_any}
 use Rattle.std.proofs.lemmas.Bool.{true≢false}
 use Rattle.ipc_call.specs.declared.replies.Waiting.{Waiting}
 use Rattle.msg_calls.specs.WithRoom.{one_if, room}
-use Rattle.ipc_model.specs.State.{State, has_exited}
+use Rattle.ipc_model.specs.State.{State, has_exited, process_at}
 use Rattle.ipc_parked.specs.Parked.{waiting}
 use Rattle.ipc_parked.proofs.Listed.{any_waiting, waiting-push}
-use Rattle.ipc_namespace.specs.Namespace.{AreHeld, AreParked, is_at, is_send_to, sends_on}
+use Rattle.ipc_namespace.specs.Namespace.{AreHeld, AreParked, HasRowFor, is_at, is_send_to, sends_on}
 use Rattle.ipc_model.specs.Decision.{Decision, Refused, Waits, Granted, outcome_of, proceeds}
 use Rattle.std.proofs.lemmas.Option.{none-some}
 use Rattle.ipc_namespace.proofs.Calling.{operator-there, sender-there}
@@ -45,10 +45,11 @@ invariant_of-self-else-is_err c =
       subst (λ ws. AreParked (length n.clients.items) ws) (sym longer) (AreParked-push (length n.clients.items) (waiting n.parked) w c.self.invariant.1 known may free),
       λ id. c.in_ok-reserve_in.ensures.room id ∙ ap (λ q. room n.queues id + one_if (is_at id q)) c.sent_to-queue.ensures ∙ ap (λ k. k + one_if (is_send_to id c.args.arrival.call)) (c.self.invariant.2 id)
           ∙ sym (sends_on-push id (waiting n.parked) w) ∙ ap (λ ws. sends_on id ws) (sym longer),
-      subst (λ ws. AreHeld c.reserve_row.new.sets n.exited.items ws) (sym longer)
-          (held-push c.reserve_row.new.sets n.exited.items (waiting n.parked) w
-          (held-longer n.sets c.reserve_row.new.sets n.exited.items c.in_ok-reserve_row.ensures.rows (waiting n.parked) c.self.invariant.3)
-          (subst (λ (s : State). has_exited s c.args.client ≡ false) (sym c.self.view_is) c.requires.alive, c.in_ok-reserve_row.ensures.row)),
+      subst (λ ws. AreHeld c.reserve_row.new.sets n.threads.items ws) (sym longer)
+          (held-push c.reserve_row.new.sets n.threads.items (waiting n.parked) w
+          (held-longer n.sets c.reserve_row.new.sets n.threads.items c.in_ok-reserve_row.ensures.rows (waiting n.parked) c.self.invariant.3)
+          (subst (λ (s : State). has_exited s c.args.client ≡ false) (sym c.self.view_is) c.requires.alive,
+          subst (λ k. HasRowFor c.reserve_row.new.sets k c.args.arrival.call) (c.process_of-process.ensures ∙ sym (ap (λ (s : State). process_at s c.args.client) c.self.view_is)) c.in_ok-reserve_row.ensures.row)),
     )
 
 pub reserve_in-requires : goal.reserve_in-requires
@@ -69,7 +70,7 @@ invariant_of-self-in_err-reserve_in c =
       c.self.invariant.0,
       c.self.invariant.1,
       λ id. ap (λ q. room q id) c.in_err-reserve_in.ensures.err ∙ c.self.invariant.2 id,
-      held-longer n.sets c.reserve_row.new.sets n.exited.items c.in_ok-reserve_row.ensures.rows (waiting n.parked) c.self.invariant.3,
+      held-longer n.sets c.reserve_row.new.sets n.threads.items c.in_ok-reserve_row.ensures.rows (waiting n.parked) c.self.invariant.3,
     )
 
 pub invariant_of-self-then-is_err : goal.invariant_of-self-then-is_err
@@ -80,5 +81,5 @@ invariant_of-self-then-is_err c =
       c.self.invariant.0,
       subst (λ ws. AreParked (length n.clients.items) ws) (sym same) c.self.invariant.1,
       λ id. (let one = c.in_ok-reserve_in.ensures.room id in let less = c.release_in.ensures.room id in omega (arith, one, less)) ∙ c.self.invariant.2 id ∙ ap (λ ws. sends_on id ws) (sym same),
-      subst (λ ws. AreHeld c.reserve_row.new.sets n.exited.items ws) (sym same) (held-longer n.sets c.reserve_row.new.sets n.exited.items c.in_ok-reserve_row.ensures.rows (waiting n.parked) c.self.invariant.3),
+      subst (λ ws. AreHeld c.reserve_row.new.sets n.threads.items ws) (sym same) (held-longer n.sets c.reserve_row.new.sets n.threads.items c.in_ok-reserve_row.ensures.rows (waiting n.parked) c.self.invariant.3),
     )

@@ -6,7 +6,7 @@ use Rattle.std.proofs.lemmas.List.Sums.{count_by_more_no, count_by_more_yes}
 use Rattle.std.proofs.lemmas.Option.{slice_get-get_or}
 use Rattle.ipc_call.specs.declared.calls.Call.TheVariants.{Exit}
 use Rattle.ipc_call.specs.declared.replies.Waiting.{Waiting}
-use Rattle.ipc_model.specs.State.{State}
+use Rattle.ipc_model.specs.State.{State, process_at}
 use Rattle.ipc_model.specs.Decide.{waits_for}
 use Rattle.ipc_parked.specs.Parked.{waiting}
 use Rattle.ipc_parked.proofs.Listed.{length-waiting}
@@ -41,10 +41,10 @@ loop-index-preserved c =
     let s = c.args.self.now in
     let i = c.loop-index.index in
     let inv = c.loop-index.invariant in
-    let test : Waiting → Bool = λ w. waits_for s.sems c.args.id (is_awaited c.args.awaited c.args.num) w.client w.call in
+    let test : Waiting → Bool = λ w. waits_for s.sems c.args.id (is_awaited c.args.awaited c.args.num) (process_at s w.client) w.call in
     let within : i < length s.parked = omega (arith, c.loop-index-test.true, c.len-index-end.ensures, length-waiting c.self.inside.parked, ap (λ (t : State). length t.parked) c.self.view_is) in
     let answers : IfSome (slice_get s.parked i) (λ w. c.waits_at.result ≡ test w) =
-    subst (λ (t : State). IfSome (slice_get t.parked i) (λ w. c.waits_at.result ≡ waits_for t.sems c.args.id (is_awaited c.args.awaited c.args.num) w.client w.call)) inv.same c.waits_at.ensures.awaits in
+    subst (λ (t : State). IfSome (slice_get t.parked i) (λ w. c.waits_at.result ≡ waits_for t.sems c.args.id (is_awaited c.args.awaited c.args.num) (process_at t w.client) w.call)) inv.same c.waits_at.ensures.awaits in
     let next = counted test s.parked i c.waits_at.result within answers in
     let same = c.waits_at.ensures.same ∙ inv.same in
     elim c.if-waits_at.branch [
@@ -65,4 +65,4 @@ returns-clause-count c =
     let s = c.args.self.now in
     let past : length s.parked ≤ c.loop-index.index = omega (arith, c.loop-index-test.false, c.len-index-end.ensures, length-waiting c.self.inside.parked, ap (λ (t : State). length t.parked) c.self.view_is) in
     let all : take c.loop-index.index s.parked ≡ s.parked = take_all c.loop-index.index s.parked past in
-    c.loop-index.invariant.count ∙ ap (λ (ws : List Waiting). count_by (λ w. waits_for s.sems c.args.id (is_awaited c.args.awaited c.args.num) w.client w.call) ws) all
+    c.loop-index.invariant.count ∙ ap (λ (ws : List Waiting). count_by (λ w. waits_for s.sems c.args.id (is_awaited c.args.awaited c.args.num) (process_at s w.client) w.call) ws) all

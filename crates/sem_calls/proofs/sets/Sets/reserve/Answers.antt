@@ -15,15 +15,15 @@ returns-in_ok-ensure_row-clause-row c =
     let set : Object SemSet = c.in-Some.set.now in
     let there : set_at sems c.args.id ≡ Some set = search rules in
     let numbers : are_in set.contents.semaphores c.args.ops.now ≡ true = told-there (set_at sems c.args.id) set (λ (s : Object SemSet). are_in s.contents.semaphores c.args.ops.now ≡ true) there c.requires.numbers in
-    let made = row-made c.self.inside.undo c.args.client c.args.id c.len-nsems.result c.ensure_row.new.self c.in_ok-ensure_row.ensures.ok in
+    let made = row-made c.self.inside.undo c.args.process c.args.id c.len-nsems.result c.ensure_row.new.self c.in_ok-ensure_row.ensures.ok in
     let size = c.len-nsems.ensures ∙ ap (λ (o : Object SemSet). length o.contents.semaphores) c.set.view_is in
-    let long : length set.contents.semaphores ≤ row_len c.ensure_row.new.self c.args.client c.args.id = omega (arith, made, size) in
-    row-enough (row_len c.ensure_row.new.self c.args.client c.args.id) set.contents.semaphores c.args.ops.now long numbers
+    let long : length set.contents.semaphores ≤ row_len c.ensure_row.new.self c.args.process c.args.id = omega (arith, made, size) in
+    row-enough (row_len c.ensure_row.new.self c.args.process c.args.id) set.contents.semaphores c.args.ops.now long numbers
 
 pub returns-in_ok-ensure_row-clause-rows : goal.returns-in_ok-ensure_row-clause-rows
 returns-in_ok-ensure_row-clause-rows c client set n within =
-    rows-grow c.self.inside.undo c.args.client c.args.id c.len-nsems.result c.ensure_row.new.self c.in_ok-ensure_row.ensures.ok client set n
+    rows-grow c.self.inside.undo c.args.process c.args.id c.len-nsems.result c.ensure_row.new.self c.in_ok-ensure_row.ensures.ok client set n
     (subst (λ (held : SetsWithRows). n < row_at held client set) (sym c.self.view_is) within)
 
 pub returns-else-undoes_some-clause-row : goal.returns-else-undoes_some-clause-row
-returns-else-undoes_some-clause-row c = row-needless (row_at c.args.self.now c.args.client c.args.id) c.args.ops.now (sym c.if-undoes_some.ensures)
+returns-else-undoes_some-clause-row c = row-needless (row_at c.args.self.now c.args.process c.args.id) c.args.ops.now (sym c.if-undoes_some.ensures)

@@ -21,14 +21,14 @@ copied : (ops : List SemOper) (place : ℕ) (r : Option (Bor SemOper)) → is_so
 copied ops place None within read = sym (slice_get_past ops place (grind (arith, within)))
 copied ops place (Some o) within read = sym (slice_get_read ops (length ops) place o.now refl (grind (arith, within)) read)
 
-stops : (c : After-try_on) → stops_in c.args.ops.now c.try_on.result ≡ stopping (sems_of c.args.self.now) c.args.client c.args.id c.args.ops.now
+stops : (c : After-try_on) → stops_in c.args.ops.now c.try_on.result ≡ stopping (sems_of c.args.self.now) c.args.process c.args.id c.args.ops.now
 stops c =
     let sems = sems_of c.args.self.now in
     let ops = c.args.ops.now in
     let set : Object SemSet = c.in_ok-set.set.now in
     let there : set_at sems c.args.id ≡ Some set = search rules in
-    stops-as sems c.args.client c.args.id ops set c.try_on.result there (sym (c.if-not-are_in.ensures))
-    (told-there (set_at sems c.args.id) set (λ (s : Object SemSet). c.try_on.result ≡ trial_on s.contents.semaphores (adj_of sems.undo c.args.client c.args.id) ops) there c.try_on.ensures.told)
+    stops-as sems c.args.process c.args.id ops set c.try_on.result there (sym (c.if-not-are_in.ensures))
+    (told-there (set_at sems c.args.id) set (λ (s : Object SemSet). c.try_on.result ≡ trial_on s.contents.semaphores (adj_of sems.undo c.args.process c.args.id) ops) there c.try_on.ensures.told)
 
 pub returns-in-Wait-clause-stop : goal.returns-in-Wait-clause-stop
 returns-in-Wait-clause-stop c =
@@ -38,7 +38,7 @@ returns-in-Wait-clause-stop c =
 pub returns-in-Go : goal.returns-in-Go
 returns-in-Go c = record { stop = none; same = c.try_on.ensures.same }
   where
-    none : None ≡ stopping (sems_of c.args.self.now) c.args.client c.args.id c.args.ops.now
+    none : None ≡ stopping (sems_of c.args.self.now) c.args.process c.args.id c.args.ops.now
     none =
         ⊎_elim (λ (goes : c.try_on.result ≡ trials.Go). sym (ap (stops_in c.args.ops.now) goes)) (λ (refused : (x : Rule) × (c.try_on.result ≡ trials.Refuse x)). sym (ap (stops_in c.args.ops.now) refused.1)) c.in-Go.is
         ∙ stops (goal.at.returns-in-Go c).After-try_on

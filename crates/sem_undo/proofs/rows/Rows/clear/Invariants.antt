@@ -9,7 +9,7 @@ abbrev pub invariant-loop-next : goal.invariant-loop-next
 invariant-loop-next l = record {
   noted : IsNoted l.self;
   rows : (c s : ℕ) → row_of l.self c s ≡ so_far l.next l.set (zeroed_at l.num) (row_of l.fn.self) c s;
-  fits : IfSome l.next (λ client. client < 2 ^ 32);
+  fits : IfSome l.next (λ client. client < 2 ^ 64);
 }
 
 abbrev pub decreases-loop-next : goal.decreases-loop-next

@@ -1,10 +1,10 @@
-use Rattle.std.proofs.Common.{◌≡◌, ◌∙◌, ℕ, arith, refl, sym, ap, length, w32, set, to_z, of_z, List, ℤ}
+use Rattle.std.proofs.Common.{◌≡◌, ◌∙◌, ◌<◌, ℕ, arith, refl, sym, ap, length, w32, set, to_z, of_z, List, ℤ}
 use Rattle.std.specs.Option.{option_copied_mut}
 use Rattle.std.specs.Prelude.{[], Option, unwrap_or}
 use Rattle.std.specs.Vec.{with_item}
 use Rattle.std.proofs.lemmas.Int.{to_z-of_z}
 use Rattle.sem_undo.specs.Rows.{items_of, row_at}
-use Rattle.sem_undo.proofs.Noted.{noted_still}
+use Rattle.sem_undo.proofs.Noted.{fits_still, noted_still}
 use Rattle.sem_undo.proofs.Places.{row_put}
 use Rattle.sem_undo.proofs.rows.Rows.write.Goals as goal
 
@@ -17,8 +17,12 @@ returns-clause-rows c =
 
 pub returns-clause-noted : goal.returns-clause-noted
 returns-clause-noted c =
-    noted_still c.args.self.now.clients _ c.args.self.now.rows _ c.args.client c.args.set c.requires.noted _
-    (returns-clause-rows c) refl
-    (λ none.
-    let empty : length (row_at c.args.self.now c.args.client c.args.set) ≡ 0 = ap (λ (o : Option (List ℤ)). length (unwrap_or o [])) none in
-    absurd (omega (arith, empty, c.requires.within)))
+    let small : c.args.set < 4294967296 = omega (arith, c.ranges.set.fits) in
+    record {
+      clients = noted_still c.args.self.now.clients _ c.args.self.now.rows _ c.args.client c.args.set c.requires.noted.clients _
+          (returns-clause-rows c) refl
+          (λ none.
+          let empty : length (row_at c.args.self.now c.args.client c.args.set) ≡ 0 = ap (λ (o : Option (List ℤ)). length (unwrap_or o [])) none in
+          absurd (omega (arith, empty, c.requires.within)));
+      sets = fits_still c.args.self.now.rows _ c.args.client c.args.set _ (returns-clause-rows c) small c.requires.noted.sets;
+    }

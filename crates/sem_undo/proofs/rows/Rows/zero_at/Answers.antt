@@ -1,8 +1,8 @@
-use Rattle.std.proofs.Common.{◌∙◌, ap, refl, sym}
+use Rattle.std.proofs.Common.{◌∙◌, ◌<◌, ap, arith, refl, sym}
 use Rattle.std.specs.Option.{option_copied_mut}
 use Rattle.std.specs.Prelude.{if◌then◌else◌}
 use Rattle.sem_undo.specs.Rows.{is_here, items_of, row_of, zeroed_at}
-use Rattle.sem_undo.proofs.Noted.{noted_still}
+use Rattle.sem_undo.proofs.Noted.{fits_still, noted_still}
 use Rattle.sem_undo.proofs.Places.{row_put}
 use Rattle.sem_undo.proofs.rows.Rows.zero_at.Goals as goal
 
@@ -14,5 +14,9 @@ returns-in-Some-clause-rows c x s =
 
 pub returns-in-Some-clause-noted : goal.returns-in-Some-clause-noted
 returns-in-Some-clause-noted c =
-    noted_still c.args.self.now.clients _ c.args.self.now.rows _ c.args.client c.args.set c.requires.noted _
-    (returns-in-Some-clause-rows c) refl (λ none. ap (zeroed_at c.args.num) none)
+    let small : c.args.set < 4294967296 = omega (arith, c.ranges.set.fits) in
+    record {
+      clients = noted_still c.args.self.now.clients _ c.args.self.now.rows _ c.args.client c.args.set c.requires.noted.clients _
+          (returns-in-Some-clause-rows c) refl (λ none. ap (zeroed_at c.args.num) none);
+      sets = fits_still c.args.self.now.rows _ c.args.client c.args.set _ (returns-in-Some-clause-rows c) small c.requires.noted.sets;
+    }

@@ -5,5 +5,6 @@ use Rattle.shm_seg.proofs.attachments.Attachments.first.Goals as goal
 
 pub returns-clause-first : goal.returns-clause-first
 returns-clause-first c =
-    first_is c.self.inside.attached c.args.client c.first.result (c.self.invariant.numbered c.args.client) c.first.ensures.none c.first.ensures.there c.first.ensures.least
+    c.narrow.ensures
+    ∙ first_is c.self.inside.attached c.args.client c.first.result (c.self.invariant.numbered c.args.client) c.first.ensures.none c.first.ensures.there c.first.ensures.least
     ∙ ap (λ m. first_number m c.args.client) c.self.view_is
