@@ -1,5 +1,6 @@
-# The library for C: examples print their stored output, bad arguments get their errors, and random calls in threads are answered as ./ipcsh answers
-# them in the order of their places; without a complaint of valgrind where that is there. The crate for Rust over it, where there is cargo: its tests,
+# The library for C: examples print their stored output, bad arguments get their errors, a program with the usual prototypes prints what it prints
+# over the kernel, and random calls in threads are answered as ./ipcsh answers them in the order of their places; without a complaint of valgrind
+# where that is there. What make install installs works (checks/install.sh). The crate for Rust over it, where there is cargo: its tests,
 # and its examples, which print what those in C do.
 
 check_c() { with_program c_checks; }
@@ -11,11 +12,17 @@ c_checks() {
         return
     fi
     attempt 'build c' library_is_built || return 0
-    attempt 'include/ipcsh.h, as C++' is_cpp
+    attempt 'include/*.h, as C++' is_cpp
     attempt 'the header names the rules in their order' names_the_rules
-    for file in examples/c/*.c checks/c/bad.c checks/c/waits.c; do
+    for file in examples/c/*.c checks/c/bad.c checks/c/errors.c checks/c/sysv.c checks/c/waits.c; do
         attempt "$file" prints_with_the_library "${file%.c}"
     done
+    attempt 'docs/C.md, numbers below 0' tells_each_number
+    attempt 'checks/c/sysv.c, with the headers of the system' is_for_the_kernel
+    for name in shmat shmdt semtimedop; do
+        attempt "a program that uses $name" is_refused "$name"
+    done
+    attempt 'make install' installs
     for seed in 1 2 3 4 5 6 7 8 9 10; do
         attempt "2,000 random calls, $seed" random_calls_replay "$seed"
     done
@@ -121,7 +128,31 @@ random_calls_replay() {
 is_cpp() {
     why='the C++ compiler refuses it:'
     command -v c++ >/dev/null || return 0
-    printf '#include "ipcsh.h"\n' | c++ -Wall -Wextra -Werror -I include -fsyntax-only -x c++ - 2>"$scratch/shown"
+    printf '#include "ipcsh_sysv.h"\n' | c++ -Wall -Wextra -Werror -I include -fsyntax-only -x c++ - 2>"$scratch/shown"
+}
+
+# The table of docs/C.md has each number below 0 with its name and its text.
+tells_each_number() {
+    grep '^| -' checks/c/errors.out >"$scratch/wanted"
+    grep '^| -' docs/C.md >"$scratch/printed" || :
+    same 'its table' "$scratch/wanted" "$scratch/printed"
+}
+
+# The program with the usual prototypes is one for the kernel too.
+is_for_the_kernel() {
+    why='cc refuses it:'
+    "${CC-cc}" -std=c11 -Wall -Wextra -Werror -DKERNEL -fsyntax-only checks/c/sysv.c 2>"$scratch/shown"
+}
+
+# is_refused NAME: a program that uses what include/ipcsh_sysv.h leaves out isn't compiled, and is with the headers of the system.
+is_refused() {
+    why='the headers of the system do not have it:'
+    printf '#define _GNU_SOURCE\n#include <sys/sem.h>\n#include <sys/shm.h>\nvoid *use(void) { return (void *)%s; }\n' "$1" >"$scratch/use.c"
+    "${CC-cc}" -std=c11 -w -I include -fsyntax-only "$scratch/use.c" 2>"$scratch/shown" || return 1
+    why='cc takes it'
+    ! "${CC-cc}" -std=c11 -w -I include -include ipcsh_sysv.h -fsyntax-only "$scratch/use.c" 2>"$scratch/shown" || return 1
+    why='cc does not name it:'
+    grep -q "$1" "$scratch/shown"
 }
 
 # The header has the names of rules in the order of their codes in the proved source.

@@ -24,24 +24,46 @@
 extern "C" {
 #endif
 
+/* Why nothing was done, each with its text, which ipcsh_strerror gives. */
+#define IPCSH_EACH_FAULT(it) \
+    it(IPCSH_BUSY, -1, "the handle's call is in flight or waits") \
+    it(IPCSH_UNTAKEN, -2, "the reply to the handle's call isn't taken") \
+    it(IPCSH_NO_CALL, -3, "the handle has no call") \
+    it(IPCSH_UNKNOWN, -5, "a request with the code of no operation, or of no kind of objects") \
+    it(IPCSH_NO_ROOM, -6, "the lists of the reply don't fit; its numbers are given, `len` among them, and it can still be taken") \
+    it(IPCSH_NO_MEMORY, -7, "an allocation fails") \
+    it(IPCSH_BAD_LIMITS, -8, "a limit isn't in its range") \
+    it(IPCSH_BAD_CLIENTS, -9, "there are no clients or more than 64, or one has more than 32 groups, or capabilities that there aren't") \
+    it(IPCSH_NULL, -10, "a null pointer") \
+    it(IPCSH_COMBINING, -11, "another handle combines, or reads the journal; ask again") \
+    it(IPCSH_NO_JOURNAL, -12, "the handle reads no journal")
+
+#define IPCSH_NAMED(name, number, text) name = number,
 enum {
+    IPCSH_EACH_FAULT(IPCSH_NAMED)
     IPCSH_OK = 0,
     /* Of ipcsh_advance: */
     IPCSH_IN_FLIGHT = 1, /* the call is posted, and not served yet */
-    IPCSH_WAITING = 2,   /* the call is served, and waits as msgop(2) and semop(2) say */
-    /* Why nothing was done: */
-    IPCSH_BUSY = -1,         /* the handle's call is in flight or waits */
-    IPCSH_UNTAKEN = -2,      /* the reply to the handle's call isn't taken */
-    IPCSH_NO_CALL = -3,      /* the handle has no call */
-    IPCSH_UNKNOWN = -5,      /* a request with the code of no operation, or of no kind of objects */
-    IPCSH_NO_ROOM = -6,      /* the lists of the reply don't fit; its numbers are given, `len` among them, and it can still be taken */
-    IPCSH_NO_MEMORY = -7,    /* an allocation fails */
-    IPCSH_BAD_LIMITS = -8,   /* a limit isn't in its range */
-    IPCSH_BAD_CLIENTS = -9,  /* there are none or more than 64, or one has more than 32 groups, or capabilities that there aren't */
-    IPCSH_NULL = -10,        /* a null pointer */
-    IPCSH_COMBINING = -11,   /* of ipcsh_raw_read_journal: another handle combines, or reads it; ask again */
-    IPCSH_NO_JOURNAL = -12   /* the handle reads no journal */
+    IPCSH_WAITING = 2    /* the call is served, and waits as msgop(2) and semop(2) say */
 };
+#undef IPCSH_NAMED
+
+/*
+ * What a number means that a function returned: a text for each of those below 0, and else that of strerror(3). IPCSH_IN_FLIGHT and IPCSH_WAITING
+ * are no errors, and have the numbers of two.
+ */
+static inline const char *ipcsh_strerror(int code)
+{
+#define IPCSH_TOLD(name, number, text) \
+    case number: \
+        return text;
+    switch (code) {
+        IPCSH_EACH_FAULT(IPCSH_TOLD)
+    default:
+        return strerror(code);
+    }
+#undef IPCSH_TOLD
+}
 
 enum ipcsh_op {
     IPCSH_MSGGET, IPCSH_MSGSND, IPCSH_MSGRCV,

@@ -1,5 +1,5 @@
 #!/usr/bin/env python3
-"""man_pages.py FOLDER: makes the man pages of the commands, ipcsh.5 and sysvipc-rules.7 of the documents, in this folder. They are
+"""man_pages.py FOLDER: makes the man pages of the commands, ipcsh.3, ipcsh.5 and sysvipc-rules.7 of the documents, in this folder. They are
 kept in man/, and ./check docs finds them current. A table becomes a list, as a terminal has no room for its columns."""
 import os
 import re
@@ -37,7 +37,7 @@ def escaped(text):
 def pointed_to(words, target):
     """What stands in the place of a link: a page that is a man page too, another document's file, or the link's words."""
     name = os.path.basename(target.partition("#")[0])
-    pages = {"PROFILE.md": "sysvipc-rules(7)", "LANGUAGE.md": "ipcsh(5)", "IPCWHO.md": "ipcwho(1)", "IPCRUN.md": "ipcrun(1)", "TRACE.md": "ipcsh_trace(1)", "EXPLAIN.md": "ipcsh_explain(1)", "JOURNAL.md": "ipcsh_journal(1)", "FMT.md": "ipcsh_fmt(1)"}
+    pages = {"PROFILE.md": "sysvipc-rules(7)", "LANGUAGE.md": "ipcsh(5)", "IPCWHO.md": "ipcwho(1)", "IPCRUN.md": "ipcrun(1)", "TRACE.md": "ipcsh_trace(1)", "EXPLAIN.md": "ipcsh_explain(1)", "JOURNAL.md": "ipcsh_journal(1)", "FMT.md": "ipcsh_fmt(1)", "C.md": "ipcsh(3)", "PROMPT.md": "ipcsh(1)"}
     if name in pages:
         return pages[name]
     return "docs/" + name if words + ".md" == name else words
@@ -171,13 +171,14 @@ def commands():
 
 
 def command():
-    readme, language = sections(document("README.md")), sections(document("docs/LANGUAGE.md"))
+    readme, language, prompt = (sections(document(it)) for it in ("README.md", "docs/LANGUAGE.md", "docs/PROMPT.md"))
     about = readme[""].split("\n\n", 1)[1].split("\n\nIt is for you")[0]
     parts = [
-        ("Synopsis", "```text\nipcsh [threads] < SCRIPT\nipcsh COMMAND [WORD..]\nipcsh --help\nipcsh --version\n```"),
+        ("Synopsis", "```text\nipcsh\nipcsh [threads] < SCRIPT\nipcsh COMMAND [WORD..]\nipcsh --help\nipcsh --version\n```"),
         ("Description", about + "\n\nThe language of scripts is in ipcsh(5), and the rules of behaviour are in sysvipc\\-rules(7).".replace("\\", "")),
         ("Example", readme["An owner who is denied"].split("\n\n[examples/]")[0]),
         ("Commands", commands()),
+        ("At a terminal", prompt["What can be typed"]),
         ("What it isn't", readme["What it isn't"]),
         ("Exit status", language["How the program ends"]),
         ("Environment", language["Before the program is built"]),
@@ -201,12 +202,12 @@ def rules():
     return page("sysvipc-rules", 7, "rules of System V IPC as ipcsh(1) follows them, with their sources", parts)
 
 
-def tool(name, file, about, synopsis, others):
-    """The page of a command that has a document of its own."""
+def tool(name, file, about, synopsis, others, number=1):
+    """The page of a command, or of the library, that has a document of its own."""
     found = sections(document(file))
     parts = [("Synopsis", "```text\n" + "\n".join(synopsis) + "\n```")]
     parts += [("Description" if not head else head, text.split("\n\n", 1)[1] if not head else text) for head, text in found.items()]
-    return page(name, 1, about, [*parts, ("See also", others)])
+    return page(name, number, about, [*parts, ("See also", others)])
 
 
 def who():
@@ -239,7 +240,13 @@ def fmt():
     return tool("ipcsh_fmt", "docs/FMT.md", "make a script for ipcsh(1) of one with names, quotes and units", words, "ipcsh(1), ipcsh(5), ipcsh_explain(1), passwd(5), group(5)")
 
 
-PAGES = {"ipcsh.1": command, "ipcsh.5": language, "sysvipc-rules.7": rules, "ipcwho.1": who, "ipcrun.1": run, "ipcsh_trace.1": trace, "ipcsh_explain.1": explain, "ipcsh_journal.1": journal, "ipcsh_fmt.1": fmt}
+def library():
+    words = ["#include <ipcsh.h>", "#include <ipcsh_sysv.h>", "", "cc FILE.c $(pkg-config --cflags --libs ipcsh)"]
+    about = "System V IPC served within a process, for programs in C"
+    return tool("ipcsh", "docs/C.md", about, words, "ipcsh(1), sysvipc-rules(7), pkg-config(1), errno(3), msgop(2), semop(2), semctl(2), shmop(2)", 3)
+
+
+PAGES = {"ipcsh.1": command, "ipcsh.3": library, "ipcsh.5": language, "sysvipc-rules.7": rules, "ipcwho.1": who, "ipcrun.1": run, "ipcsh_trace.1": trace, "ipcsh_explain.1": explain, "ipcsh_journal.1": journal, "ipcsh_fmt.1": fmt}
 
 
 def main():
