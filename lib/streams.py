@@ -1,8 +1,26 @@
-"""Standard output and standard error, either of which may be closed, or full."""
+"""The standard streams, each of which may be closed, and those that are written also full."""
 
 import contextlib
+import errno
 import os
 import sys
+
+
+def standard_input():
+    """Standard input, as a file of bytes."""
+    if sys.stdin is None:
+        raise OSError(errno.EBADF, os.strerror(errno.EBADF))
+    return sys.stdin.buffer
+
+
+def read_in():
+    """All of standard input."""
+    return standard_input().read()
+
+
+def lines_in():
+    """The lines of standard input, each as it comes."""
+    return iter(standard_input().readline, b"")
 
 
 def write_error(text):

@@ -7,7 +7,7 @@ import sys
 sys.path.append(str(pathlib.Path(__file__).resolve().parent.parent))
 
 import script
-from streams import write_error, write_out
+from streams import read_in, write_error, write_out
 
 
 class Words(argparse.ArgumentParser):
@@ -36,9 +36,7 @@ def name_of(file):
 def read(file):
     """The bytes of a file, each as a character; None where it can't be read."""
     try:
-        found = sys.stdin.buffer.read() if file == "-" else pathlib.Path(file).read_bytes()
-    except AttributeError:
-        complain("standard input: Bad file descriptor")
+        found = read_in() if file == "-" else pathlib.Path(file).read_bytes()
     except (OSError, ValueError) as why:
         complain(f"{name_of(file)}: {getattr(why, 'strerror', why)}")
     else:

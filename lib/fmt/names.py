@@ -13,14 +13,14 @@ def is_exact(word):
 
 
 def renamed(written):
-    """The name in the exact language for each of these that has one, each another. A name of the language stays."""
+    """The name in the exact language for each of these that has one, each another. A name of the language stays, also a new one."""
     found = {it: it for it in written if is_exact(it)}
     taken = set(found)
     for word in written:
         if word not in found and word not in DIRECTIVES and WRITTEN.fullmatch(word):
             found[word] = new_name(word, taken)
             taken.add(found[word])
-    return found
+    return {**{it: it for it in found.values()}, **found}
 
 
 def new_name(word, taken):

@@ -67,10 +67,19 @@ def with_clients_first(lines):
     return lines[:first] + late + [it for it in lines[first:] if not it.is_client]
 
 
-def rewritten(text):
-    """The exact script, and what can't be read, as triples of a line, a column and a text."""
-    lines = lines_of(text, names.renamed(CLIENT.findall(text)))
-    faults = [(number, *fault) for number, it in enumerate(lines, 1) for fault in it.faults]
+def read(text):
+    """The lines of a script, each with the exact ones in its place."""
+    return lines_of(text, names.renamed(CLIENT.findall(text)))
+
+
+def exact(lines):
+    """The exact script of these lines."""
     lines = with_clients_first(lines)
     ends = [it.end or "\n" for it in lines[:-1]] + [it.end for it in lines[-1:]]
-    return "".join(it.written(end) for it, end in zip(lines, ends)), faults
+    return "".join(it.written(end) for it, end in zip(lines, ends))
+
+
+def rewritten(text):
+    """The exact script, and what can't be read, as triples of a line, a column and a text."""
+    lines = read(text)
+    return exact(lines), [(number, *fault) for number, it in enumerate(lines, 1) for fault in it.faults]

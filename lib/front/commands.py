@@ -3,9 +3,10 @@
 import io
 import os
 import shutil
+import sys
 
 import rules
-from programs import Fault, answer, become, carried_out, each, read, say, shown
+from programs import TOP, Fault, answer, become, carried_out, each, read, say, shown
 from words import Usage, count, identifier, is_number, kind, only, pids, written
 
 
@@ -120,6 +121,11 @@ def trace(options, files):
         count(files, 1, 1, "- alone")
         files = []
     return carried_out("ipcsh_trace", [*written(options), "--", *files])
+
+
+def prompt(_, words):
+    count(words, 0, 0, "no word")
+    os.execv(sys.executable, [sys.executable, str(TOP / "lib/prompt/main.py")])
 
 
 def journal(_, files):

@@ -32,6 +32,7 @@ COMMANDS = {
     "replay": (commands.replay, "ipcsh_journal"),
     "rule": (commands.rule, "ipcsh"),
     "fmt": (commands.fmt, "ipcsh_fmt"),
+    "prompt": (commands.prompt, "ipcsh"),
     "help": (tell_help, "ipcsh"),
 }
 LIST = """usage: ipcsh COMMAND [WORD..]

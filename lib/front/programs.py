@@ -10,7 +10,7 @@ import subprocess
 import sys
 import threading
 
-from streams import write_error, write_out
+from streams import read_in, write_error, write_out
 
 TOP = pathlib.Path(__file__).resolve().parent.parent.parent
 NOT_BUILT = 70
@@ -32,17 +32,17 @@ def complain(command, text):
 
 def say(text):
     """Writes bytes to standard output. Where its reader has gone this ends the front in silence."""
-    signal.signal(signal.SIGPIPE, signal.SIG_DFL)
-    if not write_out(text):
-        raise Fault("write failed")
+    if write_out(text):
+        return
+    if has_reader():
+        end_by(signal.SIGPIPE)
+    raise Fault("write failed")
 
 
 def read(file):
     """The bytes of a script."""
     try:
-        return sys.stdin.buffer.read() if file == "-" else pathlib.Path(file).read_bytes()
-    except AttributeError:
-        raise Fault("standard input: Bad file descriptor") from None
+        return read_in() if file == "-" else pathlib.Path(file).read_bytes()
     except OSError as why:
         raise Fault(f"{shown(file)}: {why.strerror}") from why
 

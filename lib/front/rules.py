@@ -3,10 +3,9 @@
 import re
 import textwrap
 
+from plain_text import WIDTH, plain, wrapped
 from programs import TOP
 from words import Usage, unknown
-
-WIDTH = 80
 
 
 class Rule:
@@ -18,12 +17,6 @@ class Refusal:
     def __init__(self, cells):
         number, error, name, meaning, calls, rules = map(plain, cells)
         self.number, self.error, self.name, self.meaning, self.calls, self.rules = number, error, name, meaning, calls, rules.split(", ")
-
-
-def plain(text):
-    """Without the marks of a document, on one line."""
-    text = re.sub(r"<a id=[^>]*></a>|\*\*|`", "", text)
-    return " ".join(re.sub(r"\[([^]]*)\]\([^)]*\)", r"\1", text).split())
 
 
 def profile():
@@ -42,10 +35,6 @@ def rules():
 def refusals():
     rows = re.findall(r"^\| [0-9]+ \| E[A-Z0-9]+ \| `.*", profile(), re.MULTILINE)
     return {it.name: it for it in (Refusal(row.strip("| ").split(" | ")) for row in rows)}
-
-
-def wrapped(text):
-    return textwrap.fill(text, WIDTH, break_long_words=False, break_on_hyphens=False)
 
 
 def row(rule):

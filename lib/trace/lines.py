@@ -2,10 +2,10 @@
 
 import bisect
 import errno
-import os
 import pathlib
 import re
 
+from streams import read_in
 from values import parts
 
 SECONDS = r"[0-9]{1,12}\.[0-9]+"
@@ -194,18 +194,11 @@ class Reader:
         self.records.append(record.resumed_at)
 
 
-def read_all(stdin):
-    """All of standard input, which may be closed."""
-    if stdin is None:
-        raise OSError(errno.EBADF, os.strerror(errno.EBADF))
-    return stdin.buffer.read()
-
-
-def read_file(path, name, stdin):
+def read_file(path, name):
     """The records of a file."""
     shown = path or "standard input"
     try:
-        content = read_all(stdin) if path is None else pathlib.Path(path).read_bytes()
+        content = read_in() if path is None else pathlib.Path(path).read_bytes()
     except OSError as why:
         raise BadFile(f"{shown}: {why.strerror}") from why
     if not content.strip():
@@ -258,8 +251,8 @@ def numbered(records):
     return records
 
 
-def read(paths, stdin):
+def read(paths):
     """All records, in their order."""
     if len(paths) < 2:
-        return numbered(read_file(paths[0] if paths else None, "", stdin))
-    return merged([(it, read_file(it, pathlib.Path(it).name, stdin)) for it in paths])
+        return numbered(read_file(paths[0] if paths else None, ""))
+    return merged([(it, read_file(it, pathlib.Path(it).name)) for it in paths])

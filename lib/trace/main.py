@@ -184,7 +184,7 @@ def judge(given):
     path = os.environ.get("IPCSH_PROGRAM") or str(pathlib.Path(__file__).resolve().parent.parent.parent / "ipcsh")
     opening, source = opening_of(given)
     with machine.trace(given.record, given.output) as file:
-        records = lines.read([file] if file else given.files, sys.stdin)
+        records = lines.read([file] if file else given.files)
     limits = {**LIMITS, **(machine.limits() if given.record else {}), **dict(given.limit)}
     progress = Progress(given)
     try:
