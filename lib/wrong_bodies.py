@@ -2,6 +2,7 @@
 
     wrong_bodies.py             all edits of crates/*/wrong, of checks/weakened and of checks/right
     wrong_bodies.py CRATE..     those of crates/CRATE/wrong
+    wrong_bodies.py --anew ..   also those that an earlier run on this machine tried over the same texts, which count as tried else (lib/kept.py)
     wrong_bodies.py --read      tries none: tells of each whose texts do not stand in its file exactly once
 
 An edit has lines 'refuses: FUNCTION', 'file: FILE', and pairs of 'old: TEXT' and 'new: TEXT', in which ⏎ is a line end;
@@ -18,6 +19,7 @@ nothing else. For each edit the goals are printed.
 """
 
 import concurrent.futures
+import functools
 import os
 import pathlib
 import re
@@ -25,6 +27,7 @@ import shutil
 import sys
 import tempfile
 
+import kept
 import stubs
 from crates import PARTS, TOP, Crates
 
@@ -333,23 +336,58 @@ def read():
     return 1 if lacking else 0
 
 
-def main(names):
-    if names == ["--read"]:
+class Outcome:
+    """What is printed of edits that are tried together: of each that came out as it must, and of each failure."""
+
+    def __init__(self, passed, failed, is_kept=False):
+        self.passed, self.failed, self.is_kept = passed, failed, is_kept
+
+    def __str__(self):
+        return "".join(f"{it}\n" for it in [*self.passed, *(f"FAILED {it}" for it in self.failed)])
+
+
+def outcome(name, work, is_anew):
+    """What comes of edits: what an earlier run kept under this name, or what a try of them finds, which is kept where none failed."""
+    earlier = None if is_anew else kept.find(name)
+    if earlier:
+        return Outcome(earlier.splitlines(), [], True)
+    results, failed = work()
+    found = Outcome([str(it) for it in results if not it.failure], failed + [it.failure for it in results if it.failure])
+    if found.passed and not found.failed:
+        kept.keep(name, str(found))
+    return found
+
+
+def works(crates, edits, is_whole):
+    """What there is to try, the largest first: for each crate, and for the plans, the name under which it is kept, and what tries it."""
+    tried = sorted(edits, key=lambda it: size(it) + sum(map(size, crates.below(it))) / 20, reverse=True)
+    of_plans = [(kept.key(crates, crates.uses, edits_in(TOP / "checks/weakened")), plans)] if is_whole else []
+    return of_plans + [(kept.key(crates, [it], edits[it]), functools.partial(try_bodies, crates, it, edits[it])) for it in tried]
+
+
+def told(outcomes):
+    """Prints what each came to as it ends, and gives how many passed, how many of these were kept, and how many failed."""
+    passed = earlier = failed = 0
+    for it in outcomes:
+        print(it, end="", flush=True)
+        passed, earlier, failed = passed + len(it.passed), earlier + len(it.passed) * it.is_kept, failed + len(it.failed)
+    return passed, earlier, failed
+
+
+def main(words):
+    if words == ["--read"]:
         return read()
+    names = [it for it in words if it != "--anew"]
     crates, edits = Crates(), edits_by_crate(names)
     for crate, its in edits.items():
         groups(TOP / "crates" / crate, its)  # an edit that doesn't apply stops the run before it begins
-    tried = sorted(edits, key=lambda it: size(it) + sum(map(size, crates.below(it))) / 20, reverse=True)
-    results, failed = [], []
     with concurrent.futures.ThreadPoolExecutor(len(os.sched_getaffinity(0))) as pool:
-        begun = ([] if names else [pool.submit(plans)]) + [pool.submit(try_bodies, crates, it, edits[it]) for it in tried]
-        for ended in concurrent.futures.as_completed(begun):
-            more, lacking = ended.result()
-            lacking = lacking + [it.failure for it in more if it.failure]
-            print("".join(f"{it}\n" for it in more if not it.failure) + "".join(f"FAILED {line}\n" for line in lacking), end="", flush=True)
-            results, failed = results + more, failed + lacking
-    print(f"{sum(1 for it in results if not it.failure)} passed, {len(failed)} failed")
-    return 1 if failed or not results else 0
+        begun = [pool.submit(outcome, name, work, names != words) for name, work in works(crates, edits, not names)]
+        passed, earlier, failed = told(it.result() for it in concurrent.futures.as_completed(begun))
+    if earlier:
+        print(f"wrong_bodies: an earlier run on this machine tried {earlier} of them, over the same texts")
+    print(f"{passed} passed, {failed} failed")
+    return 1 if failed or not passed else 0
 
 
 if __name__ == "__main__":
