@@ -189,9 +189,9 @@ lives-end k s w can =
 
 lives-settled : (k : ℕ) (s : State) → CanWait s.parked → Lives k s (settled s).state
 lives-settled k s can = (kept-settled (λ t. Lives k s t × CanWait t.parked) (λ t w is holds. (
-    lives-on k s t (end_waiting t w).state holds.0 (lives-end k t w (all-found (is_ready t) (λ v. can_wait v.call ≡ true) t.parked w holds.1 is).0),
-    subst CanWait (sym (left-parked t w)) (all-filter (λ v. can_wait v.call ≡ true) (λ v. not (v.client == w.client)) t.parked holds.1),
-  )) s ((λ p closed. closed, refl), can)).0
+  lives-on k s t (end_waiting t w).state holds.0 (lives-end k t w (all-found (is_ready t) (λ v. can_wait v.call ≡ true) t.parked w holds.1 is).0),
+  subst CanWait (sym (left-parked t w)) (all-filter (λ v. can_wait v.call ≡ true) (λ v. not (v.client == w.client)) t.parked holds.1),
+)) s ((λ p closed. closed, refl), can)).0
 
 lives-moved : (k : ℕ) (s : State) (who : ℕ) (call : Call) (d : Decision State) → IfGranted (λ answer new. Lives k s new) d → Lives k s (moved_as s who call d).state
 lives-moved k s who call (Refused rule) lives = (λ p closed. closed, refl)

@@ -204,9 +204,9 @@ module _ (s : State) (client : ℕ) (kind : Kind) (at : ℕ) where
         by : (k : Kind) → (is_same kinds.Sems k ≡ true → set_at (after_exit s.sems who) at ≡ set_at s.sems at) → IsSeenAlike k at client s new
         by kinds.Queue set = ap (λ (u : Queues). queue_at u at) queues
         by kinds.Sems set = (
-            ap (λ (u : Sems). set_at u at) sems ∙ set refl,
-            λ c ne living num. ap (λ (u : Sems). adj_of u.undo (process_at s c) at num) sems ∙ entry (after_exit s.sems who) (process_at s c) num (without-apart s.sems.undo who.process (key (process_at s c) at num) (others c ne living)),
-          )
+          ap (λ (u : Sems). set_at u at) sems ∙ set refl,
+          λ c ne living num. ap (λ (u : Sems). adj_of u.undo (process_at s c) at num) sems ∙ entry (after_exit s.sems who) (process_at s c) num (without-apart s.sems.undo who.process (key (process_at s c) at num) (others c ne living)),
+        )
         by kinds.Segment set = tt
 
   -- the end of a thread; of the last one that of the process, where another client is of another process

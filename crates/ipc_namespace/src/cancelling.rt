@@ -99,9 +99,7 @@ impl Namespace {
         match cancelling {
             Cancelling::Denied(kind, id) if waits_on(kind, id, call) => self.denial(client, call),
             Cancelling::Removed(kind, id) if waits_on(kind, id, call) => Some(Rule::Removed),
-            Cancelling::Interrupted(pid) if pid == self.pid_of(client) => Some(
-                Rule::Interrupted,
-            ),
+            Cancelling::Interrupted(pid) if pid == self.pid_of(client) => Some(Rule::Interrupted),
             _ => None,
         }
     }

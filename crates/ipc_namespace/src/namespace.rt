@@ -17,7 +17,8 @@ use crate::callers::caller_of;
 use crate::reserving::{release_in, reserve_in, reserve_row, sent_to};
 use crate::semaphore_calls::Awaited;
 use ipc_call::{
-    Answer, Call, Completion, Get, Limits, Memory, Outcome, Receive, Rule, Sending, Settings, Thread,
+    Answer, Call, Completion, Get, Limits, Memory, Outcome, Receive, Rule, Sending, Settings,
+    Thread,
 };
 use ipc_creds::Creds;
 use ipc_parked::{Arrival, Parked, Touched};

@@ -47,9 +47,10 @@ invariant_of-self-else-is_err c =
           ∙ sym (sends_on-push id (waiting n.parked) w) ∙ ap (λ ws. sends_on id ws) (sym longer),
       subst (λ ws. AreHeld c.reserve_row.new.sets n.threads.items ws) (sym longer)
           (held-push c.reserve_row.new.sets n.threads.items (waiting n.parked) w
-          (held-longer n.sets c.reserve_row.new.sets n.threads.items c.in_ok-reserve_row.ensures.rows (waiting n.parked) c.self.invariant.3)
-          (subst (λ (s : State). has_exited s c.args.client ≡ false) (sym c.self.view_is) c.requires.alive,
-          subst (λ k. HasRowFor c.reserve_row.new.sets k c.args.arrival.call) (c.process_of-process.ensures ∙ sym (ap (λ (s : State). process_at s c.args.client) c.self.view_is)) c.in_ok-reserve_row.ensures.row)),
+          (held-longer n.sets c.reserve_row.new.sets n.threads.items c.in_ok-reserve_row.ensures.rows (waiting n.parked) c.self.invariant.3) (
+            subst (λ (s : State). has_exited s c.args.client ≡ false) (sym c.self.view_is) c.requires.alive,
+            subst (λ k. HasRowFor c.reserve_row.new.sets k c.args.arrival.call) (c.process_of-process.ensures ∙ sym (ap (λ (s : State). process_at s c.args.client) c.self.view_is)) c.in_ok-reserve_row.ensures.row,
+          )),
     )
 
 pub reserve_in-requires : goal.reserve_in-requires

@@ -22,13 +22,13 @@ returns-after-is_new-clause-noted c =
     let as_were : (m : RowMap) → m ≡ c.args.self.now.rows → Fits m = λ m same. subst Fits (sym same) c.requires.noted.sets in
     elim c.if-is_new.branch [
       | then-is_new w ↦ subst IsNoted (sym w.self-is) (record {
-          clients = noted_back c.args.self.now.clients c.insert.new.self w.remove.new.self c.args.self.now.rows c.insert-2.new.self c.args.client c.args.set c.requires.noted.clients
-              c.in-Err.ensures.err c.in_ok-insert.ensures.ok w.remove.ensures.left (no_row c.get.result _ w.if-is_new.ensures c.get.ensures);
-          sets = as_were c.insert-2.new.self c.in-Err.ensures.err;
-        })
+        clients = noted_back c.args.self.now.clients c.insert.new.self w.remove.new.self c.args.self.now.rows c.insert-2.new.self c.args.client c.args.set c.requires.noted.clients
+            c.in-Err.ensures.err c.in_ok-insert.ensures.ok w.remove.ensures.left (no_row c.get.result _ w.if-is_new.ensures c.get.ensures);
+        sets = as_were c.insert-2.new.self c.in-Err.ensures.err;
+      })
       | else-is_new w ↦ subst IsNoted (sym w.self-is) (record {
-          clients = noted_more c.args.self.now.clients c.insert.new.self c.args.self.now.rows c.insert-2.new.self c.args.client c.args.set c.requires.noted.clients
-              c.in-Err.ensures.err c.in_ok-insert.ensures.ok;
-          sets = as_were c.insert-2.new.self c.in-Err.ensures.err;
-        })
+        clients = noted_more c.args.self.now.clients c.insert.new.self c.args.self.now.rows c.insert-2.new.self c.args.client c.args.set c.requires.noted.clients
+            c.in-Err.ensures.err c.in_ok-insert.ensures.ok;
+        sets = as_were c.insert-2.new.self c.in-Err.ensures.err;
+      })
     ]
