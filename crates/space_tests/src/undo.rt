@@ -4,28 +4,28 @@ use sem_undo::Undo;
 use std::process::Abort;
 use std::test::Fail;
 
-/// What is done with the rows of semadj: a client, a set, and a semaphore number or a count.
+/// What is done with the rows of semadj: a process, a set, and a semaphore number or a count.
 #[derive(Clone, Copy, Debug, Drop)]
 enum Step {
     /// A row has room for so many.
-    Ensure(u32, u32, usize),
+    Ensure(u64, u32, usize),
     /// A semadj is lowered by so much.
-    Lower(u32, u32, u16, i16),
+    Lower(u64, u32, u16, i16),
     /// The semadj of a semaphore become 0.
     Clear(u32, u32),
     ClearSet(u32),
     RemoveSet(u32),
-    Len(u32, u32),
-    Adj(u32, u32, u16),
+    Len(u64, u32),
+    Adj(u64, u32, u16),
 }
 
 /// Lowers a semadj for which there is a row, and which stays in its range, and answers what it is then.
-fn lower(undo: &mut Undo, client: u32, set: u32, num: u16, by: i16) -> Option<i64> {
-    let after = i64::from(undo.adj(client, set, num)) - i64::from(by);
-    if usize::from(num) >= undo.row(client, set).len() || after < -32768 || after > 32767 {
+fn lower(undo: &mut Undo, process: u64, set: u32, num: u16, by: i16) -> Option<i64> {
+    let after = i64::from(undo.adj(process, set, num)) - i64::from(by);
+    if usize::from(num) >= undo.row(process, set).len() || after < -32768 || after > 32767 {
         return None;
     }
-    undo.lower(client, set, num, by);
+    undo.lower(process, set, num, by);
     Some(after)
 }
 
@@ -43,13 +43,13 @@ fn clear(undo: &mut Undo, step: Step) -> Option<i64> {
 /// Does a step, and answers what it tells.
 fn told(undo: &mut Undo, step: Step) -> Result<Option<i64>, Fail> {
     Ok(match step {
-        Step::Ensure(client, set, len) if client < 64 => {
-            undo.ensure_row(client, set, len)?;
-            Some(undo.row(client, set).len() as i64)
+        Step::Ensure(process, set, len) => {
+            undo.ensure_row(process, set, len)?;
+            Some(undo.row(process, set).len() as i64)
         }
-        Step::Lower(client, set, num, by) => lower(undo, client, set, num, by),
-        Step::Len(client, set) => Some(undo.row(client, set).len() as i64),
-        Step::Adj(client, set, num) => Some(i64::from(undo.adj(client, set, num))),
+        Step::Lower(process, set, num, by) => lower(undo, process, set, num, by),
+        Step::Len(process, set) => Some(undo.row(process, set).len() as i64),
+        Step::Adj(process, set, num) => Some(i64::from(undo.adj(process, set, num))),
         _ => clear(undo, step),
     })
 }
