@@ -9,6 +9,7 @@ sys.path.append(str(pathlib.Path(__file__).resolve().parent.parent))
 
 import commands
 import words
+from choosing import NotBuilt
 from programs import Fault, carried_out, complain, say
 
 
@@ -76,6 +77,8 @@ def main():
     name, *given = sys.argv[1:]
     try:
         return carry_out(known(name), given)
+    except NotBuilt as why:
+        return why.status
     except (words.Usage, Fault) as why:
         complain(name if name in COMMANDS else "", why)
         return why.status

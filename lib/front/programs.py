@@ -10,6 +10,7 @@ import subprocess
 import sys
 import threading
 
+from choosing import chosen
 from streams import read_in, write_error, write_out
 
 TOP = pathlib.Path(__file__).resolve().parent.parent.parent
@@ -59,6 +60,7 @@ def become(program, words):
 
 def answer(program, words, script=b"", is_quiet=False):
     """The bytes that the program prints of a script, and its status. A fault of it ends the front."""
+    chosen(program)
     it = subprocess.run([TOP / program, *words], input=script, stdout=subprocess.PIPE, stderr=subprocess.DEVNULL if is_quiet else None, check=False)
     if ended(it.returncode) > 1:
         sys.exit(it.returncode)
@@ -68,7 +70,7 @@ def answer(program, words, script=b"", is_quiet=False):
 def carried_out(program, words, script=None, name=None):
     """The status of the program, whose standard input is the script where one is given; messages of that get this name."""
     pipe = subprocess.PIPE
-    child = subprocess.Popen([TOP / program, *words], stdin=script, stdout=pipe if has_reader() else None, stderr=pipe if name else None, env=surroundings())
+    child = subprocess.Popen([TOP / program, *words], stdin=script, stdout=pipe if has_reader() else None, stderr=pipe if name else None)
     for it in (signal.SIGINT, signal.SIGTERM, signal.SIGHUP):
         signal.signal(it, lambda number, _: child.send_signal(number))
     teller = threading.Thread(target=tell, args=(child.stderr or (), name), daemon=True)
@@ -79,12 +81,6 @@ def carried_out(program, words, script=None, name=None):
     status = child.wait()
     teller.join()
     return ended(status)
-
-
-def surroundings():
-    """The environment of a program, which tells where standard error is a terminal behind a pipe of the front."""
-    is_terminal = sys.stderr is not None and sys.stderr.isatty()
-    return {**os.environ, "IPCSH_TERMINAL": "yes"} if is_terminal else None
 
 
 def has_reader():
@@ -126,6 +122,8 @@ def end_by(number):
 def each(command, program, words, files):
     """Runs the program on each script in turn, and gives the highest status. Of one that can't be read it tells, and goes on."""
     worst = 0
+    if len(files) > 1:
+        chosen(program)
     for file in files or ["-"]:
         worst = max(worst, on_file(command, program, words, file))
         if worst >= NOT_BUILT:

@@ -9,9 +9,10 @@ sys.path += [str(LIB), str(LIB / "fmt")]
 
 import commands
 import editor
+from choosing import NotBuilt, chosen
 from front.programs import TOP, Fault, complain, end_by, say
 from front.words import Usage
-from running import choose, text_of
+from running import text_of
 from session import Session
 from streams import lines_in
 
@@ -72,7 +73,7 @@ def converse(session):
 
 def main():
     try:
-        choose("ipcsh", "ipcsh_cli", "IPCSH_PROGRAM")
+        chosen("ipcsh")
         converse(Session())
     except commands.Quit:
         return 0
@@ -81,6 +82,8 @@ def main():
     except OSError as why:
         complain("prompt", f"standard input: {why.strerror}")
         return 2
+    except NotBuilt as why:
+        return why.status
     except Fault as why:
         complain("prompt", why)
         return why.status

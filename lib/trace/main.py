@@ -1,7 +1,6 @@
 """Says of a trace of strace whether the kernel answered what the definitions give: ./ipcsh_trace, whose --help has the words."""
 
 import argparse
-import os
 import pathlib
 import subprocess
 import sys
@@ -9,6 +8,7 @@ import time
 
 sys.path.append(str(pathlib.Path(__file__).resolve().parent.parent))
 
+import choosing
 import lines
 import machine
 import orders
@@ -181,11 +181,11 @@ def check_whole(path, run):
 
 def judge(given):
     """The plan and the run of what the command line names."""
-    path = os.environ.get("IPCSH_PROGRAM") or str(pathlib.Path(__file__).resolve().parent.parent.parent / "ipcsh")
     opening, source = opening_of(given)
     with machine.trace(given.record, given.output) as file:
         records = lines.read([file] if file else given.files)
     limits = {**LIMITS, **(machine.limits() if given.record else {}), **dict(given.limit)}
+    path = choosing.chosen("ipcsh_trace")
     progress = Progress(given)
     try:
         plan, run = run_of(sessions.Program(path), records, opening, source, limits, progress)
@@ -201,6 +201,8 @@ def main():
     given = words()
     try:
         plan, run = judge(given)
+    except choosing.NotBuilt as why:
+        return why.status
     except (lines.BadFile, runs.BadLine, sessions.Stopped) as why:
         complain(why)
         return {lines.BadFile: 2, runs.BadLine: 3, sessions.Stopped: 70}[type(why)]
