@@ -18,6 +18,7 @@ front_checks() {
     attempt 'helps of commands' helps_are_short
     attempt 'rules and refusals' rules_are_whole
     attempt 'lines of a script' why_tells_each_line
+    attempt 'lines as they were written' lines_are_told_as_written
     attempt 'an open pipe' front_answers_each_line
     attempt 'an interrupt' front_is_interrupted
 }
@@ -83,6 +84,17 @@ why_tells_each_line() {
         sed 1d "$scratch/row"
     done >"$scratch/out"
     same 'the rows of all lines' "${script%.ipcsh}.out" "$scratch/out"
+}
+
+# What is told of the lines of a script that is rewritten names those that were written.
+lines_are_told_as_written() {
+    script=checks/front/moved
+    status=0
+    ./ipcsh run --easy $script.ipcsh >"$scratch/out" 2>"$scratch/err" || status=$?
+    why="status $status, not 1"
+    [ "$status" = 1 ] && same 'its rows' $script.run "$scratch/out" && same 'its hints' $script.said "$scratch/err" || return 1
+    ./ipcsh explain $script.ipcsh >"$scratch/out" 2>/dev/null || :
+    same 'what explain prints' $script.explained "$scratch/out"
 }
 
 # A line through an open pipe is answered before the next one is written, where a pipe is read too.

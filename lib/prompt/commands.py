@@ -5,8 +5,8 @@ import re
 
 import calls
 from choosing import chosen
-from front.programs import Fault
-from front.words import Usage, count, unknown
+from programs import Fault
+from words import Usage, count, unknown
 from running import heard, lines_of, plainly, text_of
 
 AT_THE_END = re.compile(r"^    (?:at the end (.*)|(a deadlock, .*))$", re.M)

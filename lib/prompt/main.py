@@ -5,16 +5,17 @@ import signal
 import sys
 
 LIB = pathlib.Path(__file__).resolve().parent.parent
-sys.path += [str(LIB), str(LIB / "fmt")]
+sys.path += [str(LIB), str(LIB / "fmt"), str(LIB / "front")]
 
 import commands
 import editor
 from choosing import NotBuilt, chosen
-from front.programs import TOP, Fault, complain, end_by, say
-from front.words import Usage
+from programs import TOP, Fault, complain, end_by, say
+from words import Usage
 from running import text_of
 from session import Session
 from streams import lines_in
+from style import STYLE
 
 
 def is_terminal():
@@ -72,6 +73,8 @@ def converse(session):
 
 
 def main():
+    # Of ipcsh prompt, which has read these.
+    STYLE.text, STYLE.color = "--text" in sys.argv, "--color" in sys.argv
     try:
         chosen("ipcsh")
         converse(Session())

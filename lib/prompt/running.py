@@ -3,7 +3,7 @@
 import re
 import subprocess
 
-from front.programs import TOP, Fault
+from programs import TOP, Fault
 
 # How messages of a program begin, where that isn't for the reader of a prompt.
 HEAD = re.compile(r"^ipcsh\w*(?: [a-z]+)?: (?:standard input: |-: )?(?:line ([0-9]+): )?", re.M)
