@@ -78,7 +78,7 @@ def who(options, words):
         count(words, 2, 2, "KIND ID")
         STYLE.objects = STYLE.objects and objects.rights
         return each("who", "ipcsh_explain", ["--who", kind(words[0]), identifier(words[1])], [script], True)
-    if not words or is_number(words[0]):
+    if not words or words[0].isdigit():
         return carried_out("ipcwho", [*written(options), *pids(words)])
     count(words, 1, 2, "KIND ID")
     return who_at(options, kind(words[0]), *map(identifier, words[1:]))

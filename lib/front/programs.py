@@ -155,37 +155,15 @@ def end_by(number):
 def each(command, program, words, files, is_easy=False):
     """Runs the program on each script in turn, and gives the highest status. Of one that can't be read it tells, and goes on. An easy one is
     made exact first."""
-    worst = 0
+    runs = Runs(command, program, words, is_easy, len(files) > 1)
     if len(files) > 1:
         chosen(program)
+    worst = 0
     for file in files or ["-"]:
-        if len(files) > 1:
-            begin(file, file == files[0])
-        worst = max(worst, on_file(command, program, words, file, is_easy))
+        worst = max(worst, runs.on(file))
         if worst >= NOT_BUILT:
             break
     return worst
-
-
-def begin(file, is_first):
-    """What is printed next is of this file: objects of JSON have its name, and else a heading has."""
-    if STYLE.objects:
-        STYLE.head = {"file": shown(file)}
-    else:
-        say(b"%s==> %s <==\n" % (b"" if is_first else b"\n", os.fsencode(shown(file))))
-
-
-def on_file(command, program, words, file, is_easy):
-    try:
-        if is_easy:
-            return on_easy(command, program, words, file)
-        if file == "-":
-            return carried_out(program, words)
-        with opened(file) as script:
-            return carried_out(program, words, script, file)
-    except Fault as why:
-        complain(command, why)
-        return why.status
 
 
 def opened(file):
@@ -195,12 +173,45 @@ def opened(file):
         raise Fault(f"{file}: {why.strerror}") from why
 
 
-def on_easy(command, program, words, file):
-    """Runs the program on the exact script of a file."""
-    reading = Reading(read(file))
-    for fault in reading.faults():
-        complain(command, f"{shown(file)}: {fault}")
-    with tempfile.TemporaryFile() as script:
-        script.write(reading.text)
-        script.seek(0)
-        return carried_out(program, words, script, None if file == "-" else file, None if reading.is_same else reading)
+class Runs:
+    """Runs of a program on one script after another."""
+
+    def __init__(self, command, program, words, is_easy, are_several):
+        self.command, self.program, self.words, self.is_easy, self.are_several = command, program, words, is_easy, are_several
+        self.is_first = True
+
+    def on(self, file):
+        """The status of a run."""
+        try:
+            if self.is_easy:
+                return self.on_easy(file)
+            if file == "-":
+                self.begin(file)
+                return carried_out(self.program, self.words)
+            with opened(file) as script:
+                self.begin(file)
+                return carried_out(self.program, self.words, script, file)
+        except Fault as why:
+            complain(self.command, why)
+            return why.status
+
+    def on_easy(self, file):
+        """That of a run on the exact script of a file."""
+        reading = Reading(read(file))
+        self.begin(file)
+        for fault in reading.faults():
+            complain(self.command, f"{shown(file)}: {fault}")
+        with tempfile.TemporaryFile() as script:
+            script.write(reading.text)
+            script.seek(0)
+            return carried_out(self.program, self.words, script, None if file == "-" else file, None if reading.is_same else reading)
+
+    def begin(self, file):
+        """What is printed next is of this file: where there are several, objects of JSON have its name, and else a heading has."""
+        if not self.are_several:
+            return
+        if STYLE.objects:
+            STYLE.head = {"file": shown(file)}
+        else:
+            say(b"%s==> %s <==\n" % (b"" if self.is_first else b"\n", os.fsencode(shown(file))))
+        self.is_first = False

@@ -11,7 +11,8 @@ from words import Usage
 PLACE = rb"[0-9]+\.[0-9]+|-"
 # The text of a message or of a segment's bytes in a row.
 HEX = re.compile(rb"((?: *)[0-9]+\.[0-9]+ \w+ (?:message -?[0-9]+|bytes) )x:((?:[0-9a-f]{2})*)$")
-REFUSED = re.compile(rb" *(?:%b) (?:client )?\w+:? error |line [0-9]+: |.* but the definitions |.* but on the machine " % PLACE)
+# A refusal, a bad line, or a call of a trace that is answered otherwise.
+REFUSED = re.compile(rb" *(?:%b) (?:client )?\w+:? error |line [0-9]+: [a-z-]+$|.*\) += .* but " % PLACE)
 WAITS = re.compile(rb" *[0-9]+\.[0-9]+ \w+ waits$")
 RED, YELLOW, PLAIN = b"\x1b[31m", b"\x1b[33m", b"\x1b[m"
 
