@@ -1,7 +1,7 @@
 # Installs what is built here.
 #
 #   make                       builds the programs that aren't there without a proof, a minute each; one that is proved is taken where it is there,
-#                              as after IPCSH_WAIT=yes ./ipcsh </dev/null, and the same of ./ipcsh_explain, ./ipcsh_journal and ./ipcwho --orphans
+#                              as after ./build
 #   ./build c                  proves and builds the library for C, about 20 minutes
 #   make install PREFIX=/usr/local DESTDIR=
 #                              the programs, their man pages, and the library with its headers and what pkg-config(1) reads

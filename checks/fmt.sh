@@ -1,7 +1,7 @@
 # ./ipcsh_fmt: good lines of every stored script, and random ones (lib/fmt_lines.py), stay as they are. checks/fmt has scripts as people
 # write them, NAME.easy, the exact ones, NAME.exact, with what ./ipcsh prints for these, and NAME.said, what is said of words that can't be read.
 
-check_fmt() { with_program fmt_checks; }
+check_fmt() { with_program with_crate ipcsh_explain fmt_checks; }
 
 fmt_checks() {
     attempt 'stored scripts stay' stored_scripts_stay
@@ -9,7 +9,9 @@ fmt_checks() {
     for file in checks/fmt/*.easy; do
         attempt "$file" becomes_exact "${file%.easy}"
         attempt "${file%.easy}.exact by ./ipcsh" matches "${file%.easy}" exact "$(the_program)"
+        attempt "$file by ipcsh run --easy and explain" is_read_alike "${file%.easy}"
     done
+    attempt 'lines that are refused' refused_lines_are_taken
     attempt 'exact scripts stay' exact_scripts_stay
     attempt 'table of docs/FMT.md' table_is_true
     attempt 'users and groups of this machine' accounts_are_known
@@ -52,6 +54,37 @@ document_scripts_stay() {
         without_bad_lines "$scratch/fmt/$number.body" "$rows" >"$scratch/from-documents/$number"
     done
     stay "$scratch/from-documents"/*
+}
+
+# is_read_alike BASE: ipcsh run --easy and ipcsh explain print the same of a script as people write it and of the exact one, but for the numbers of bad
+# lines, which are those of each.
+is_read_alike() {
+    for words in 'run --easy' explain; do
+        for file in "$1.easy" "$1.exact"; do
+            status=0
+            timeout 60 ./ipcsh $words "$file" >"$scratch/rows" 2>"$scratch/shown" || status=$?
+            why="status $status of ipcsh $words $file"
+            [ "$status" -le 1 ] || return 1
+            sed 's/^line [0-9]*: /line: /; s/^    column [0-9]*: /    /; s/\bline [0-9]*/line/' "$scratch/rows" >"$scratch/read${file##*.}"
+        done
+        same "what ipcsh $words prints" "$scratch/readexact" "$scratch/readeasy" || return 1
+    done
+}
+
+# Each line of checks/fmt/refused, with \n between two, is bad as it stands, and good when it is rewritten.
+refused_lines_are_taken() {
+    count=0
+    while IFS= read -r line; do
+        printf 'client p 1 1\n%b\n' "$(printf '%s' "$line" | sed 's/\\x/\\\\x/g')" >"$scratch/easy"
+        why="it is taken as it stands: $line"
+        ! "$(the_program)" <"$scratch/easy" >"$scratch/shown" 2>/dev/null || return 1
+        formatted 0 "$scratch/easy" || return 1
+        why="it is refused when it is rewritten: $line"
+        "$(the_program)" <"$scratch/out" >"$scratch/shown" 2>&1 || return 1
+        count=$((count + 1))
+    done <checks/fmt/refused
+    why="these are $count lines"
+    [ "$count" -ge 20 ]
 }
 
 # Those that come of scripts without a fault.

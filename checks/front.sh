@@ -1,8 +1,26 @@
-# ipcsh COMMAND: checks/front.table has command lines, with the status of each and the first lines that it prints; and what a line can't show.
+# ipcsh COMMAND: checks/front.table has command lines, with the status of each and the first lines that it prints, and checks/front/lines.table lines of
+# scripts; and what a line can't show.
 
 check_front() { with_program with_crate ipcwho with_crate ipcsh_explain with_crate ipcsh_journal front_checks; }
 
 front_checks() {
+    holds_table checks/front.table
+    holds_table checks/front/lines.table
+    attempt 'helps of commands' helps_are_short
+    attempt 'rules and refusals' rules_are_whole
+    attempt 'lines of a script' why_tells_each_line
+    attempt 'lines as they were written' lines_are_told_as_written
+    attempt 'three tasks of a new user' tasks_are_done
+    attempt 'rows as JSON' rows_are_objects
+    attempt 'output as JSON' prints_objects
+    attempt 'colours' is_coloured
+    attempt 'an open pipe' front_answers_each_line
+    attempt 'an interrupt' front_is_interrupted
+}
+
+# holds_table FILE: each command begins and ends as it has it.
+holds_table() {
+    command=
     while IFS= read -r line; do
         case $line in
         '$ '*)
@@ -13,24 +31,29 @@ front_checks() {
         '' | '#'*) ;;
         *) printf '%s\n' "$line" >>"$scratch/first" ;;
         esac
-    done <checks/front.table
+    done <"$1"
     end_of_row
-    attempt 'helps of commands' helps_are_short
-    attempt 'rules and refusals' rules_are_whole
-    attempt 'lines of a script' why_tells_each_line
-    attempt 'an open pipe' front_answers_each_line
-    attempt 'an interrupt' front_is_interrupted
 }
 
-command=
 end_of_row() {
     [ -z "$command" ] || attempt "$command" begins_so
+}
+
+# line LINE: runs a script in which this line follows those of two clients, and prints the last row. easy LINE: the same, as people write it.
+line() { line_by '' "$1"; }
+easy() { line_by 'run --easy' "$1"; }
+line_by() {
+    printf 'client a 1 1\nclient p 101 4\n%b\n' "$2" >"$scratch/line"
+    ended=0
+    ipcsh $1 - <"$scratch/line" >"$scratch/line.rows" || ended=$?
+    tail -n 1 "$scratch/line.rows"
+    return "$ended"
 }
 
 # begins_so: what $scratch/first has of a command: its status, and the first line of each stream that isn't empty, behind `> ` and `! `.
 begins_so() {
     status=0
-    PATH=$top:$PATH timeout 60 sh -c '. checks/common.sh && eval "$1"' sh "$command" </dev/null >"$scratch/out" 2>"$scratch/err" || status=$?
+    PATH=$top:$PATH scratch=$scratch timeout 60 sh -c '. checks/common.sh && . checks/front.sh && eval "$1"' sh "$command" </dev/null >"$scratch/out" 2>"$scratch/err" || status=$?
     {
         echo "$status"
         sed -n '1s/^/> /p' "$scratch/out"
@@ -83,6 +106,111 @@ why_tells_each_line() {
         sed 1d "$scratch/row"
     done >"$scratch/out"
     same 'the rows of all lines' "${script%.ipcsh}.out" "$scratch/out"
+}
+
+# What is told of the lines of a script that is rewritten names those that were written.
+lines_are_told_as_written() {
+    script=checks/front/moved
+    status=0
+    ./ipcsh run --easy $script.ipcsh >"$scratch/out" 2>"$scratch/err" || status=$?
+    why="status $status, not 1"
+    [ "$status" = 1 ] && same 'its rows' $script.run "$scratch/out" && same 'its hints' $script.said "$scratch/err" || return 1
+    ./ipcsh explain $script.ipcsh >"$scratch/out" 2>/dev/null || :
+    same 'what explain prints' $script.explained "$scratch/out"
+}
+
+# A new user's three tasks, as he types them: checks/front/tasks has two sessions of the prompt and a program in C. At most three lines are refused
+# in all, and each answer fits a screen. The program runs where the library is built.
+tasks_are_done() {
+    : >"$scratch/refused"
+    answers denied ':why' 'class group.* supplementary group' && answers deadlock ':who' 'deadlock.*p1 waits for p2.*p2 waits for p1' || return 1
+    if command -v "${CC-cc}" >/dev/null; then
+        "${CC-cc}" -std=c11 -Wall -Wextra -I include -c -o "$scratch/server.o" checks/front/tasks/server.c 2>"$scratch/err" || :
+        grep -e 'error:' -e 'warning:' "$scratch/err" >>"$scratch/refused" || :
+        ! is_current ipcsh_c || [ ! -f out/c/libipcsh.a ] || serves || return 1
+    fi
+    why='more than three lines are refused:'
+    cp "$scratch/refused" "$scratch/shown"
+    [ "$(wc -l <"$scratch/refused")" -le 3 ]
+}
+
+# answers TASK WORD TEXT: what this word of the session is answered has this text, and fits 24 lines of 80 columns. Users that this machine hasn't go by their numbers.
+answers() {
+    cp checks/front/tasks/$1.typed "$scratch/typed"
+    { getent passwd www-data && getent group www-data adm; } >/dev/null 2>&1 || sed -i 's/groups=adm/groups=4/; s/ adm$/ 4/; s/www-data www-data www-data/www-data 33 33/' "$scratch/typed"
+    ./ipcsh prompt <"$scratch/typed" >"$scratch/out" 2>/dev/null
+    grep -e '^column [0-9]*: [^w]' -e ' is no command' -e ' is no call' "$scratch/out" >>"$scratch/refused" || :
+    awk -v word="$2" '/> / { on = $NF == word; next } on' "$scratch/out" >"$scratch/shown"
+    why="$2 of the task $1 is another answer:"
+    tr '\n' ' ' <"$scratch/shown" | grep -q "$3" || return 1
+    why="the answer to the task $1 does not fit a screen:"
+    [ "$(awk '{ rows += 1 + int((length - 1) / 80) } END { print rows + 0 }' "$scratch/shown")" -le 24 ]
+}
+
+# serves: the program runs over the library.
+serves() {
+    why='the server is not linked:'
+    "${CC-cc}" -o "$scratch/server" "$scratch/server.o" out/c/libipcsh.a -lpthread 2>"$scratch/shown" || return 1
+    timeout 60 "$scratch/server" >"$scratch/out"
+    same 'what the server prints' checks/front/tasks/server.out "$scratch/out"
+}
+
+# The rows of every stored script become objects of JSON, and these the rows again.
+rows_are_objects() {
+    set -- crates/rows/data/*.out examples/*.out
+    cat "$@" >"$scratch/wanted"
+    why='it fails:'
+    python3 checks/json_rows.py "$@" >"$scratch/out" 2>"$scratch/shown" || return 1
+    same 'the rows of the objects' "$scratch/wanted" "$scratch/out"
+}
+
+# Each line of these is an object.
+prints_objects() {
+    why='a line is no object of JSON, or there is none:'
+    for words in 'run examples/groups-and-capabilities.ipcsh' 'run --threads examples/threads.ipcsh' 'explain examples/explained/two-locks.ipcsh' \
+        'journal examples/waiting.ipcsh' 'who --proc crates/ipcwho/data/proc' 'who --proc crates/ipcwho/data/proc queue 3' \
+        'who --script examples/groups-and-capabilities.ipcsh queue 0' 'orphans --proc crates/ipcwho/data/proc' 'rule' 'rule 38 owner-bits' \
+        'trace examples/traces/undo.strace'; do
+        ./ipcsh ${words%% *} --json ${words#* } >"$scratch/out" 2>"$scratch/err" || :
+        python3 -c '
+import json, sys
+found = [json.loads(it) for it in sys.stdin]
+sys.exit(not found or not all(isinstance(it, dict) for it in found) or sum(list(it) == ["text"] for it in found) > 1)' <"$scratch/out" 2>"$scratch/shown" || {
+            echo "ipcsh ${words%% *} --json ${words#* }" >>"$scratch/shown"
+            return 1
+        }
+    done
+}
+
+# Refusals are red and waits yellow where that is asked for, or at a terminal that has colours; without the colours the rows are as they are.
+is_coloured() {
+    script=examples/waiting.ipcsh
+    red=$(printf '\033[31m')
+    yellow=$(printf '\033[33m')
+    ./ipcsh run --color=always $script >"$scratch/out"
+    why='its refusals are not red, or its waits not yellow:'
+    sed -n 1,9p "$scratch/out" >"$scratch/shown"
+    [ "$(grep -c "^$red[0-9.]* [a-z]* error " "$scratch/out")" = "$(grep -c ' error ' "${script%.ipcsh}.out")" ] || return 1
+    [ "$(grep -c "^$yellow[0-9.]* [a-z]* waits" "$scratch/out")" = "$(grep -c ' waits$' "${script%.ipcsh}.out")" ] || return 1
+    sed 's/\x1b\[[0-9]*m//g' "$scratch/out" | same 'what it prints but for colours' "${script%.ipcsh}.out" /dev/stdin || return 1
+    for setting in NO_COLOR=1 TERM=dumb TERM=xterm; do
+        wanted=$([ $setting = TERM=xterm ] && echo yes || echo no)
+        why="at a terminal with $setting it is coloured otherwise:"
+        env -u NO_COLOR TERM=xterm $setting python3 -c '
+import os, pty, sys
+text = b""
+def keep(fd):
+    global text
+    try:
+        part = os.read(fd, 4096)
+    except OSError:
+        part = b""
+    text += part
+    return b""
+pty.spawn(sys.argv[1:], keep)
+print("yes" if b"\x1b[31m" in text else "no")' ./ipcsh run $script </dev/null >"$scratch/shown" 2>&1 || return 1
+        [ "$(tail -n 1 "$scratch/shown")" = $wanted ] || return 1
+    done
 }
 
 # A line through an open pipe is answered before the next one is written, where a pipe is read too.

@@ -48,7 +48,7 @@ prints_the_same_rows() {
 
 # of_prompt CODE: runs Python with what the prompt is made of.
 of_prompt() {
-    PYTHONPATH=lib/prompt:lib/fmt:lib python3 -c "$1"
+    PYTHONPATH=lib/prompt:lib/fmt:lib/front:lib python3 -c "$1"
 }
 
 # Each call and directive has a text of some lines, which names it, and each word after `:` stands in the document.

@@ -37,7 +37,7 @@ def escaped(text):
 def pointed_to(words, target):
     """What stands in the place of a link: a page that is a man page too, another document's file, or the link's words."""
     name = os.path.basename(target.partition("#")[0])
-    pages = {"PROFILE.md": "sysvipc-rules(7)", "LANGUAGE.md": "ipcsh(5)", "IPCWHO.md": "ipcwho(1)", "IPCRUN.md": "ipcrun(1)", "TRACE.md": "ipcsh_trace(1)", "EXPLAIN.md": "ipcsh_explain(1)", "JOURNAL.md": "ipcsh_journal(1)", "FMT.md": "ipcsh_fmt(1)", "C.md": "ipcsh(3)", "PROMPT.md": "ipcsh(1)"}
+    pages = {"PROFILE.md": "sysvipc-rules(7)", "LANGUAGE.md": "ipcsh(5)", "IPCWHO.md": "ipcwho(1)", "IPCRUN.md": "ipcrun(1)", "TRACE.md": "ipcsh_trace(1)", "EXPLAIN.md": "ipcsh_explain(1)", "JOURNAL.md": "ipcsh_journal(1)", "FMT.md": "ipcsh_fmt(1)", "C.md": "ipcsh(3)", "PROMPT.md": "ipcsh(1)", "JSON.md": "ipcsh(1)"}
     if name in pages:
         return pages[name]
     return "docs/" + name if words + ".md" == name else words
@@ -171,7 +171,7 @@ def commands():
 
 
 def command():
-    readme, language, prompt = (sections(document(it)) for it in ("README.md", "docs/LANGUAGE.md", "docs/PROMPT.md"))
+    readme, language, prompt, objects = (sections(document(it)) for it in ("README.md", "docs/LANGUAGE.md", "docs/PROMPT.md", "docs/JSON.md"))
     about = readme[""].split("\n\n", 1)[1].split("\n\nIt is for you")[0]
     parts = [
         ("Synopsis", "```text\nipcsh\nipcsh [threads] < SCRIPT\nipcsh COMMAND [WORD..]\nipcsh --help\nipcsh --version\n```"),
@@ -179,6 +179,7 @@ def command():
         ("Example", readme["An owner who is denied"].split("\n\n[examples/]")[0]),
         ("Commands", commands()),
         ("At a terminal", prompt["What can be typed"]),
+        ("JSON", "\n\n".join([objects[""].split("\n\n", 1)[1], *(f"### {it}\n\n{objects[it]}" for it in ("run, explain", "Other commands"))])),
         ("What it isn't", readme["What it isn't"]),
         ("Exit status", language["How the program ends"]),
         ("Environment", language["Before the program is built"]),

@@ -4,7 +4,7 @@ import re
 
 import forms
 import names
-from words import Words
+from cut import Words
 
 CLIENT = re.compile(r"^[ \t]*client[ \t]+([^ \t\n]+)", re.M)
 LINUX = ["slots 32000", "msgmax 8192", "msgmnb 16384", "semmsl 32000", "semopm 500", "shmmax 1073741824"]
@@ -13,18 +13,22 @@ LINUX = ["slots 32000", "msgmax 8192", "msgmnb 16384", "semmsl 32000", "semopm 5
 class Line:
     """What comes of a line: the lines in its place, and what can't be read in it, as pairs of a column and a text."""
 
+    __slots__ = ("told", "end", "faults", "client", "is_client", "is_call", "cut", "words")
+
     def __init__(self, text, end, clients):
         self.told, self.end, self.faults = [text], end, []
         # Whose line it is, and whether it is a good client line, or a good call.
         self.client, self.is_client, self.is_call = None, False, False
-        cut = Words(text)
-        if cut.words == ["limits", "linux"]:
-            self.tell(cut, [f"limit {it}" for it in LINUX])
-        elif cut.words:
-            self.rewrite(cut, clients)
+        self.cut, self.words = Words(text), []
+        if self.cut.words == ["limits", "linux"]:
+            self.tell(self.cut, [f"limit {it}" for it in LINUX])
+        elif self.cut.words:
+            self.words = self.rewrite(self.cut, clients)
+        if self.told == [text]:
+            self.cut, self.words = None, []
 
     def rewrite(self, cut, clients):
-        """Replaces the name of the client, and the arguments."""
+        """Replaces the name of the client, and the arguments. It gives the words that stand there then."""
         words, place = list(cut.words), 1 if cut.words[0] == "client" else 0
         self.client = clients.get(words[place]) if place < len(words) else None
         if self.client:
@@ -38,6 +42,18 @@ class Line:
             self.is_call = found.is_good and begin == 2
         if form or self.client:
             self.tell(cut, [cut.replaced(words)])
+        return words
+
+    def column(self, column):
+        """The column of the word that is told in this column."""
+        shift = 0
+        if not self.cut:
+            return column
+        for it, word in zip(self.cut.found, self.words):
+            if column <= it.start() + shift + len(word):
+                return it.start() + 1 if word != it[0] else max(column - shift, it.start() + 1)
+            shift += len(word) - len(it[0])
+        return column - shift
 
     def tell(self, cut, lines):
         self.told = lines if cut.comment is None else [cut.comment, *lines]
@@ -81,5 +97,28 @@ def exact(lines):
 
 def rewritten(text):
     """The exact script, and what can't be read, as triples of a line, a column and a text."""
-    lines = read(text)
-    return exact(lines), [(number, *fault) for number, it in enumerate(lines, 1) for fault in it.faults]
+    found = Exact(text)
+    return found.text, found.faults
+
+
+class Exact:
+    """The exact script of a text, and where that has what stands in it."""
+
+    def __init__(self, text):
+        lines = read(text)
+        numbers = {id(it): number for number, it in enumerate(lines, 1)}
+        self.text = exact(lines)
+        self.faults = [(number, *fault) for number, it in enumerate(lines, 1) for fault in it.faults]
+        self.origins = [(numbers[id(it)], it) for it in with_clients_first(lines) for _ in it.told]
+
+    def line(self, number):
+        """The line of the text that this one comes from."""
+        return self.origins[number - 1][0]
+
+    def column(self, number, column):
+        """The column of the text that this one of a line comes from."""
+        return self.origins[number - 1][1].column(column)
+
+    def last(self, line):
+        """The last line that comes from this one of the text."""
+        return max((number for number, (origin, _) in enumerate(self.origins, 1) if origin == line), default=0)

@@ -5,20 +5,24 @@ import os
 import shutil
 import sys
 
+import objects
 import rules
-from programs import TOP, Fault, answer, become, carried_out, each, read, say, shown
+from easy import Reading
+from programs import TOP, Fault, answer, become, carried_out, each, read, say, say_objects, shown
+from style import STYLE
 from words import Usage, count, identifier, is_number, kind, only, pids, written
 
 
 def run(options, files):
-    return each("run", "ipcsh", ["threads"] if options else [], files)
+    asked = dict(options)
+    return each("run", "ipcsh", ["threads"] if "--threads" in asked else [], files, "--easy" in asked)
 
 
 def explain(options, files):
     if options:
         count(files, 0, 1, "one script with --svg")
     words = [f"--svg={value}" for _, value in options]
-    return each("explain", "ipcsh_explain", words, files)
+    return each("explain", "ipcsh_explain", words, files, True)
 
 
 def why(options, words):
@@ -30,17 +34,20 @@ def why(options, words):
 
 
 def why_line(file, number):
-    """Prints the rows of a line with their notes: those that the script has more with this line than before it."""
+    """Prints the rows of a line with their notes: those that the exact script has more with this line than before it."""
     if not is_number(number) or int(number) == 0:
         raise Usage(f"'{number}' is no line")
-    lines = lines_of(read(file))
+    text = read(file)
+    lines, reading = lines_of(text), Reading(text)
     if int(number) > len(lines):
         raise Fault(f"{shown(file)}: it has no line {number}", 1)
-    rows = explained(lines)
-    before, until = (len(explained(lines[:end], True)) for end in (int(number) - 1, int(number)))
+    exact, last = lines_of(reading.text), reading.exact.last(int(number))
+    rows = explained(exact)
+    before, until = (len(explained(exact[:end], True)) for end in (last - 1, last))
     if before == until:
         raise Fault(f"{shown(file)}: line {number} makes no call", 1)
-    say(b"".join([b"line %d: %b\n" % (int(number), lines[int(number) - 1].strip()), *rows[before:until]]))
+    told = b"".join(rows[before:until]).splitlines(keepends=True)
+    say(b"".join([b"line %d: %b\n" % (int(number), lines[int(number) - 1].strip()), *map(reading.row, told)]))
     return 0
 
 
@@ -69,8 +76,9 @@ def who(options, words):
     if script is not None:
         only(options, "--script", "--script")
         count(words, 2, 2, "KIND ID")
-        return each("who", "ipcsh_explain", ["--who", kind(words[0]), identifier(words[1])], [script])
-    if not words or is_number(words[0]):
+        STYLE.objects = STYLE.objects and objects.rights
+        return each("who", "ipcsh_explain", ["--who", kind(words[0]), identifier(words[1])], [script], True)
+    if not words or words[0].isdigit():
         return carried_out("ipcwho", [*written(options), *pids(words)])
     count(words, 1, 2, "KIND ID")
     return who_at(options, kind(words[0]), *map(identifier, words[1:]))
@@ -125,7 +133,8 @@ def trace(options, files):
 
 def prompt(_, words):
     count(words, 0, 0, "no word")
-    os.execv(sys.executable, [sys.executable, str(TOP / "lib/prompt/main.py")])
+    asked = [name for name, is_asked in (("--text", STYLE.text), ("--color", STYLE.color)) if is_asked]
+    os.execv(sys.executable, [sys.executable, str(TOP / "lib/prompt/main.py"), *asked])
 
 
 def journal(_, files):
@@ -136,7 +145,10 @@ def replay(_, files):
     return each("replay", "ipcsh_journal", ["--replay"], files)
 
 
-def rule(_, words):
+def rule(options, words):
+    if options:
+        say_objects(map(rules.object_of, words or rules.all_names()))
+        return 0
     text = "\n\n".join(map(rules.text_of, words)) if words else rules.list_text()
     say(f"{text}\n".encode())
     return 0

@@ -5,10 +5,13 @@ import pathlib
 import signal
 import sys
 
-sys.path.append(str(pathlib.Path(__file__).resolve().parent.parent))
+LIB = pathlib.Path(__file__).resolve().parent.parent
+sys.path += [str(LIB), str(LIB / "fmt")]
 
 import commands
+import style
 import words
+from choosing import NotBuilt
 from programs import Fault, carried_out, complain, say
 
 
@@ -41,9 +44,9 @@ LIST = """usage: ipcsh COMMAND [WORD..]
 {}
 
 `ipcsh help COMMAND` and `ipcsh COMMAND --help` tell more. KIND is queue, set
-or segment; msg, sem or shm; or q, s or m. The status is 0, 1 where the answer
-is no, 2 for what can't be read or written, 3 for a word that isn't taken, and
-70 where a program can't be built.
+or segment; msg, sem or shm; or q, s or m. --color=WHEN is auto, always or
+never; NO_COLOR counts. The status is 0, 1 where the answer is no, 2 for what
+can't be read or written, 3 for a word that isn't taken, and 70: not built.
 """
 
 
@@ -64,7 +67,8 @@ def known(name):
 def carry_out(name, given):
     does, versioned = COMMANDS[name]
     try:
-        return does(*words.split(name, given, name in ("exec", "record")))
+        options, others = words.split(name, given, name in ("exec", "record"))
+        return does(style.taken(options, name), others)
     except words.Asked as word:
         if str(word) in ("-h", "--help"):
             return tell_help(None, [name])
@@ -76,6 +80,8 @@ def main():
     name, *given = sys.argv[1:]
     try:
         return carry_out(known(name), given)
+    except NotBuilt as why:
+        return why.status
     except (words.Usage, Fault) as why:
         complain(name if name in COMMANDS else "", why)
         return why.status

@@ -8,14 +8,18 @@ import signal
 import stat
 import subprocess
 import sys
+import tempfile
 import threading
 
+from choosing import chosen
+from easy import Reading
 from streams import read_in, write_error, write_out
+from style import STYLE
 
 TOP = pathlib.Path(__file__).resolve().parent.parent.parent
 NOT_BUILT = 70
 # How messages begin that are of a script and not of the program.
-OF_SCRIPT = re.compile(rb"^(\w+: )(?:standard input: )?(?=line [0-9]|'|read failed|input too long|the script |at the end |bad lines )")
+OF_SCRIPT = re.compile(r"^(\w+: )(?:standard input: )?(?=line [0-9]|'|read failed|input too long|the script |at the end |bad lines )")
 
 
 class Fault(Exception):
@@ -31,12 +35,21 @@ def complain(command, text):
 
 
 def say(text):
-    """Writes bytes to standard output. Where its reader has gone this ends the front in silence."""
-    if write_out(text):
-        return
-    if has_reader():
-        end_by(signal.SIGPIPE)
-    raise Fault("write failed")
+    """Writes bytes to standard output, as the style has it. Where its reader has gone this ends the front in silence."""
+    say_parts([text] if STYLE.is_plain() else STYLE.dressed(text.splitlines(keepends=True)))
+
+
+def say_objects(found):
+    """The same with an object of JSON a line."""
+    say_parts(map(STYLE.json, found))
+
+
+def say_parts(parts):
+    for part in parts:
+        if not write_out(part):
+            if has_reader():
+                end_by(signal.SIGPIPE)
+            raise Fault("write failed")
 
 
 def read(file):
@@ -59,32 +72,40 @@ def become(program, words):
 
 def answer(program, words, script=b"", is_quiet=False):
     """The bytes that the program prints of a script, and its status. A fault of it ends the front."""
+    chosen(program)
     it = subprocess.run([TOP / program, *words], input=script, stdout=subprocess.PIPE, stderr=subprocess.DEVNULL if is_quiet else None, check=False)
     if ended(it.returncode) > 1:
         sys.exit(it.returncode)
     return it.stdout, it.returncode
 
 
-def carried_out(program, words, script=None, name=None):
-    """The status of the program, whose standard input is the script where one is given; messages of that get this name."""
+def carried_out(program, words, script=None, name=None, reading=None):
+    """The status of the program, whose standard input is the script where one is given; messages of that get this name. Where it comes of a reading,
+    what is told of its lines does too."""
+    is_handed_on = has_reader() or reading or not STYLE.is_plain()
+    is_told = name or reading
     pipe = subprocess.PIPE
-    child = subprocess.Popen([TOP / program, *words], stdin=script, stdout=pipe if has_reader() else None, stderr=pipe if name else None, env=surroundings())
+    child = subprocess.Popen([TOP / program, *words], stdin=script, stdout=pipe if is_handed_on else None, stderr=pipe if is_told else None)
     for it in (signal.SIGINT, signal.SIGTERM, signal.SIGHUP):
         signal.signal(it, lambda number, _: child.send_signal(number))
-    teller = threading.Thread(target=tell, args=(child.stderr or (), name), daemon=True)
+    teller = threading.Thread(target=tell, args=(child.stderr or (), name, reading), daemon=True)
     teller.start()
-    if child.stdout and not hand_on(child.stdout):
+    taken = not child.stdout or hand_on(child.stdout, reading)
+    if not taken:
         child.kill()
-        end_by(signal.SIGPIPE)
     status = child.wait()
     teller.join()
+    if not taken:
+        unwritten(program)
     return ended(status)
 
 
-def surroundings():
-    """The environment of a program, which tells where standard error is a terminal behind a pipe of the front."""
-    is_terminal = sys.stderr is not None and sys.stderr.isatty()
-    return {**os.environ, "IPCSH_TERMINAL": "yes"} if is_terminal else None
+def unwritten(program):
+    """Output couldn't be written: in silence where its reader has gone, and else as the programs say it."""
+    if has_reader():
+        end_by(signal.SIGPIPE)
+    write_error(f"{program}: write failed\n")
+    sys.exit(2)
 
 
 def has_reader():
@@ -95,19 +116,27 @@ def has_reader():
     return False
 
 
-def hand_on(rows):
-    """Copies rows to standard output as they come; False where the reader has gone."""
-    while part := os.read(rows.fileno(), 65536):
-        if not write_out(part):
-            return False
-    return True
+def hand_on(rows, reading):
+    """Writes rows to standard output as they come; False where they aren't taken."""
+    return all(map(write_out, parts_of(rows, reading)))
 
 
-def tell(messages, name):
+def parts_of(rows, reading):
+    """What is written of these rows."""
+    if STYLE.is_plain() and not reading:
+        return iter(lambda: os.read(rows.fileno(), 65536), b"")
+    return STYLE.dressed(map(reading.row, rows) if reading else rows)
+
+
+def tell(messages, name, reading):
     """Copies messages to standard error as they come. One of a script gets the script's name."""
     for line in messages:
-        named = OF_SCRIPT.sub(lambda it: it[1] + os.fsencode(name) + b": ", line)
-        write_error(named.decode("utf-8", "surrogateescape"))
+        told = line.decode("utf-8", "surrogateescape")
+        if reading:
+            told = reading.message(told)
+        if name:
+            told = OF_SCRIPT.sub(lambda it: f"{it[1]}{name}: ", told)
+        write_error(told)
 
 
 def ended(status):
@@ -123,23 +152,66 @@ def end_by(number):
     os.kill(os.getpid(), number)
 
 
-def each(command, program, words, files):
-    """Runs the program on each script in turn, and gives the highest status. Of one that can't be read it tells, and goes on."""
+def each(command, program, words, files, is_easy=False):
+    """Runs the program on each script in turn, and gives the highest status. Of one that can't be read it tells, and goes on. An easy one is
+    made exact first."""
+    runs = Runs(command, program, words, is_easy, len(files) > 1)
+    if len(files) > 1:
+        chosen(program)
     worst = 0
     for file in files or ["-"]:
-        worst = max(worst, on_file(command, program, words, file))
+        worst = max(worst, runs.on(file))
         if worst >= NOT_BUILT:
             break
     return worst
 
 
-def on_file(command, program, words, file):
-    if file == "-":
-        return carried_out(program, words)
+def opened(file):
     try:
-        script = open(file, "rb")
+        return open(file, "rb")
     except OSError as why:
-        complain(command, f"{file}: {why.strerror}")
-        return 2
-    with script:
-        return carried_out(program, words, script, file)
+        raise Fault(f"{file}: {why.strerror}") from why
+
+
+class Runs:
+    """Runs of a program on one script after another."""
+
+    def __init__(self, command, program, words, is_easy, are_several):
+        self.command, self.program, self.words, self.is_easy, self.are_several = command, program, words, is_easy, are_several
+        self.is_first = True
+
+    def on(self, file):
+        """The status of a run."""
+        try:
+            if self.is_easy:
+                return self.on_easy(file)
+            if file == "-":
+                self.begin(file)
+                return carried_out(self.program, self.words)
+            with opened(file) as script:
+                self.begin(file)
+                return carried_out(self.program, self.words, script, file)
+        except Fault as why:
+            complain(self.command, why)
+            return why.status
+
+    def on_easy(self, file):
+        """That of a run on the exact script of a file."""
+        reading = Reading(read(file))
+        self.begin(file)
+        for fault in reading.faults():
+            complain(self.command, f"{shown(file)}: {fault}")
+        with tempfile.TemporaryFile() as script:
+            script.write(reading.text)
+            script.seek(0)
+            return carried_out(self.program, self.words, script, None if file == "-" else file, None if reading.is_same else reading)
+
+    def begin(self, file):
+        """What is printed next is of this file: where there are several, objects of JSON have its name, and else a heading has."""
+        if not self.are_several:
+            return
+        if STYLE.objects:
+            STYLE.head = {"file": shown(file)}
+        else:
+            say(b"%s==> %s <==\n" % (b"" if self.is_first else b"\n", os.fsencode(shown(file))))
+        self.is_first = False

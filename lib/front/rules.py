@@ -70,6 +70,22 @@ def text_of(word):
     raise unknown(word, "rule", [*named, *(it.error for it in named.values())], "ipcsh rule lists them")
 
 
+def all_names():
+    return [*rules(), *(it.name for it in refusals().values())]
+
+
+def object_of(word):
+    """A rule by its number, or a refusal by its name, as an object of JSON."""
+    known, named = rules(), refusals()
+    if word in known:
+        it = known[word]
+        return {"rule": int(it.number), "section": it.section, "text": it.text}
+    if word in named:
+        it = named[word]
+        return {"refusal": it.name, "number": int(it.number), "error": it.error, "meaning": it.meaning, "calls": it.calls, "rules": [int(one) for one in it.rules]}
+    raise unknown(word, "rule", list(named), "ipcsh rule lists them")
+
+
 def list_text():
     parts, section = [], None
     for it in rules().values():

@@ -7,6 +7,8 @@ import re
 HELP = pathlib.Path(__file__).resolve().parent / "help"
 KINDS = {"queue": ("msg", "q"), "set": ("sem", "s"), "segment": ("shm", "m")}
 MAX_ID = 2**31 - 1
+# The options of each command, with their values.
+COMMON = {"--color": "WHEN"}
 
 
 class Usage(Exception):
@@ -56,7 +58,7 @@ def option(command, word, following):
     if word in ("-h", "--help", "-V", "--version"):
         raise Asked(word)
     name, equals, value = word.partition("=")
-    known = options_of(command)
+    known = {**options_of(command), **COMMON}
     if name not in known:
         raise unknown(name, "option", [*known, "--help", "--version"], f"ipcsh help {command} has them")
     if not known[name]:

@@ -4,8 +4,8 @@ import re
 import textwrap
 
 import forms
-from front.programs import TOP
-from front.words import unknown
+from programs import TOP
+from words import unknown
 from plain_text import WIDTH, plain, wrapped
 
 NAMES = [*forms.DIRECTIVES, *forms.CALLS]

@@ -4,9 +4,10 @@ import os
 import re
 
 import calls
-from front.programs import Fault
-from front.words import Usage, count, unknown
-from running import choose, heard, lines_of, plainly, text_of
+from choosing import chosen
+from programs import Fault
+from words import Usage, count, unknown
+from running import heard, lines_of, plainly, text_of
 
 AT_THE_END = re.compile(r"^    (?:at the end (.*)|(a deadlock, .*))$", re.M)
 
@@ -18,7 +19,7 @@ class Quit(Exception):
 def carried_out(session, words, is_explained=True):
     """What a command of ./ipcsh says of the session's script."""
     if is_explained:
-        choose("ipcsh_explain", "ipcsh_explain", "IPCSH_EXPLAIN_PROGRAM")
+        chosen("ipcsh_explain")
     rows, said, status = heard(words, session.now.text())
     if status and said:
         raise Fault(plainly(said).rstrip(), status)

@@ -7,7 +7,7 @@ import calls
 import commands
 import forms
 from c_words import FLAGS
-from front.words import KINDS
+from words import KINDS
 
 # Where a word begins that is completed: flags are joined by `|`.
 BREAKS = " \t|"

@@ -5,15 +5,17 @@ import signal
 import sys
 
 LIB = pathlib.Path(__file__).resolve().parent.parent
-sys.path += [str(LIB), str(LIB / "fmt")]
+sys.path += [str(LIB), str(LIB / "fmt"), str(LIB / "front")]
 
 import commands
 import editor
-from front.programs import TOP, Fault, complain, end_by, say
-from front.words import Usage
-from running import choose, text_of
+from choosing import NotBuilt, chosen
+from programs import TOP, Fault, complain, end_by, say
+from words import Usage
+from running import text_of
 from session import Session
 from streams import lines_in
+from style import STYLE
 
 
 def is_terminal():
@@ -71,8 +73,10 @@ def converse(session):
 
 
 def main():
+    # Of ipcsh prompt, which has read these.
+    STYLE.text, STYLE.color = "--text" in sys.argv, "--color" in sys.argv
     try:
-        choose("ipcsh", "ipcsh_cli", "IPCSH_PROGRAM")
+        chosen("ipcsh")
         converse(Session())
     except commands.Quit:
         return 0
@@ -81,6 +85,8 @@ def main():
     except OSError as why:
         complain("prompt", f"standard input: {why.strerror}")
         return 2
+    except NotBuilt as why:
+        return why.status
     except Fault as why:
         complain("prompt", why)
         return why.status

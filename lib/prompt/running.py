@@ -1,25 +1,12 @@
 """Runs ./ipcsh: its program for each line, and its commands for the words after `:`."""
 
-import os
 import re
 import subprocess
 
-from front.programs import NOT_BUILT, TOP, Fault
+from programs import TOP, Fault
 
-CHOOSE = 'set -eu; top=$1; . "$top/lib/build.sh"; choose "$2" "$3" "$4"; printf "%s\\n" "$program"'
 # How messages of a program begin, where that isn't for the reader of a prompt.
 HEAD = re.compile(r"^ipcsh\w*(?: [a-z]+)?: (?:standard input: |-: )?(?:line ([0-9]+): )?", re.M)
-
-
-def choose(command, crate, variable):
-    """Has each later run take the program that the command takes now. One that has to be built is built here."""
-    if variable in os.environ:
-        return
-    words = ["sh", "-c", CHOOSE, "sh", TOP, command, crate, ""]
-    it = subprocess.run(words, stdin=subprocess.DEVNULL, stdout=subprocess.PIPE, check=False)
-    if it.returncode:
-        raise Fault(f"there is no program for {command}", NOT_BUILT)
-    os.environ[variable] = os.fsdecode(it.stdout).rstrip("\n")
 
 
 def heard(words, text):

@@ -5,7 +5,7 @@ import re
 
 import script
 import sorts
-from front.programs import Fault
+from programs import Fault
 from running import heard, lines_of, plainly, text_of
 
 ROW = re.compile(r"[0-9]+\.[0-9]+ ([a-z0-9]+) (.*)")

@@ -1,7 +1,7 @@
 """Says of a trace of strace whether the kernel answered what the definitions give: ./ipcsh_trace, whose --help has the words."""
 
 import argparse
-import os
+import json
 import pathlib
 import subprocess
 import sys
@@ -9,6 +9,7 @@ import time
 
 sys.path.append(str(pathlib.Path(__file__).resolve().parent.parent))
 
+import choosing
 import lines
 import machine
 import orders
@@ -37,6 +38,7 @@ def complain(text):
 def words(given=None):
     """What the words of the command line ask for, or those that are given."""
     it = Words(add_help=False, allow_abbrev=False)
+    it.add_argument("--json", action="store_true")
     it.add_argument("--script", action="store_true")
     it.add_argument("--uid", type=int)
     it.add_argument("--gid", type=int)
@@ -50,6 +52,8 @@ def words(given=None):
     given = it.parse_args(given)
     if given.record is not None and (given.files or not given.record):
         it.error("--record takes a program and its arguments, and no file of a trace")
+    if given.json and given.script:
+        it.error("--json doesn't go with --script")
     if given.output and given.record is None:
         it.error("--output is of --record")
     for name, number in [("--uid", given.uid), ("--gid", given.gid), *(("--groups", one) for one in given.groups)]:
@@ -148,6 +152,17 @@ def verdict_lines(plan, run):
     return clients + [text for _, text in sorted(told, key=lambda it: it[0])]
 
 
+VERDICTS = {True: "as defined", False: "otherwise", None: "not taken", runs.OPEN: "no answer"}
+
+
+def verdict_objects(plan, run):
+    """An object of JSON for each call, in the order of the trace, and for what isn't taken."""
+    found = [(step.record, *run.verdicts[step]) for step in plan.steps if step in run.verdicts]
+    found += [(record, None, text) for record, text in plan.notes + run.notes]
+    for record, is_so, text in sorted(found, key=lambda it: it[0].at):
+        yield {"place": str(record.place), "pid": record.pid, "call": record.text or record.place.text.strip(), "verdict": VERDICTS[is_so], "why": text}
+
+
 def joined(is_so, text):
     if is_so is None:
         return f": not taken: {text}"
@@ -181,11 +196,11 @@ def check_whole(path, run):
 
 def judge(given):
     """The plan and the run of what the command line names."""
-    path = os.environ.get("IPCSH_PROGRAM") or str(pathlib.Path(__file__).resolve().parent.parent.parent / "ipcsh")
     opening, source = opening_of(given)
     with machine.trace(given.record, given.output) as file:
         records = lines.read([file] if file else given.files)
     limits = {**LIMITS, **(machine.limits() if given.record else {}), **dict(given.limit)}
+    path = choosing.chosen("ipcsh_trace")
     progress = Progress(given)
     try:
         plan, run = run_of(sessions.Program(path), records, opening, source, limits, progress)
@@ -197,14 +212,22 @@ def judge(given):
     return plan, run
 
 
+def told_of(given, plan, run):
+    if given.json:
+        return map(json.dumps, verdict_objects(plan, run))
+    return run.script if given.script else [*verdict_lines(plan, run), last_line(plan, run)]
+
+
 def main():
     given = words()
     try:
         plan, run = judge(given)
+    except choosing.NotBuilt as why:
+        return why.status
     except (lines.BadFile, runs.BadLine, sessions.Stopped) as why:
         complain(why)
         return {lines.BadFile: 2, runs.BadLine: 3, sessions.Stopped: 70}[type(why)]
-    told = run.script if given.script else [*verdict_lines(plan, run), last_line(plan, run)]
+    told = told_of(given, plan, run)
     if not write_out("".join(f"{it}\n" for it in told).encode("utf-8", "surrogateescape")):
         complain("write failed")
         return 2
