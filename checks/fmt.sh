@@ -12,6 +12,7 @@ fmt_checks() {
         attempt "$file by ipcsh run --easy and explain" is_read_alike "${file%.easy}"
     done
     attempt 'lines that are refused' refused_lines_are_taken
+    attempt 'columns of rewritten lines' columns_are_told
     attempt 'exact scripts stay' exact_scripts_stay
     attempt 'table of docs/FMT.md' table_is_true
     attempt 'users and groups of this machine' accounts_are_known
@@ -85,6 +86,11 @@ refused_lines_are_taken() {
     done <checks/fmt/refused
     why="these are $count lines"
     [ "$count" -ge 20 ]
+}
+
+columns_are_told() {
+    why='a word is told elsewhere:'
+    python3 checks/fmt_columns.py checks/fmt/*.easy checks/front/moved.ipcsh >"$scratch/shown" 2>&1 && [ ! -s "$scratch/shown" ]
 }
 
 # Those that come of scripts without a fault.

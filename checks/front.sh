@@ -171,12 +171,15 @@ prints_objects() {
         'journal examples/waiting.ipcsh' 'who --proc crates/ipcwho/data/proc' 'who --proc crates/ipcwho/data/proc queue 3' \
         'who --script examples/groups-and-capabilities.ipcsh queue 0' 'orphans --proc crates/ipcwho/data/proc' 'rule' 'rule 38 owner-bits' \
         'trace examples/traces/undo.strace'; do
-        ./ipcsh ${words%% *} --json ${words#* } >"$scratch/out" 2>"$scratch/err" || :
+        set -- $words
+        command=$1
+        shift
+        ./ipcsh "$command" --json "$@" >"$scratch/out" 2>"$scratch/err" || :
         python3 -c '
 import json, sys
 found = [json.loads(it) for it in sys.stdin]
 sys.exit(not found or not all(isinstance(it, dict) for it in found) or sum(list(it) == ["text"] for it in found) > 1)' <"$scratch/out" 2>"$scratch/shown" || {
-            echo "ipcsh ${words%% *} --json ${words#* }" >>"$scratch/shown"
+            echo "ipcsh $command --json $*" >>"$scratch/shown"
             return 1
         }
     done
