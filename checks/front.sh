@@ -209,7 +209,7 @@ def keep(fd):
     except OSError:
         part = b""
     text += part
-    return b""
+    return part
 pty.spawn(sys.argv[1:], keep)
 print("yes" if b"\x1b[31m" in text else "no")' ./ipcsh run $script </dev/null >"$scratch/shown" 2>&1 || return 1
         [ "$(tail -n 1 "$scratch/shown")" = $wanted ] || return 1
