@@ -1,5 +1,5 @@
 -- What posting, going on and taking do with a client's state.
-use Rattle.std.specs.Prelude.{◌≡◌, ℕ, Option, None, Some, Result, Ok, Err}
+use Rattle.std.specs.Prelude.{◌≡◌, ℕ, Option, None, Some, Result, Ok, Err, ⊤}
 use Rattle.std.specs.Arc.{arc_value}
 use Rattle.ipc_call.specs.declared.calls.Call.{Call}
 use Rattle.ipc_call.specs.declared.replies.Reply.{Reply}
@@ -48,6 +48,20 @@ Posts (Idle m) now call new result = (p : Posted) × IsPostOf m now call p × (n
 Posts (InFlight p) now call new result = (new ≡ InFlight p) × (result ≡ Err errors.InFlight)
 Posts (Answered m reply) now call new result = (new ≡ Answered m reply) × (result ≡ Err errors.Untaken)
 Posts Left now call new result = (new ≡ Left) × (result ≡ Err errors.Left)
+
+-- why a client does nothing that is asked of it out of turn: it has no call to go on with, or it can't post one now
+abbrev pub hindrance_of : State → SeatError
+hindrance_of (Idle m) = errors.NoCall
+hindrance_of (InFlight p) = errors.InFlight
+hindrance_of (Answered m reply) = errors.Untaken
+hindrance_of Left = errors.Left
+
+-- no call of it is in flight
+abbrev pub IsAtRest : Phase → Type 0
+IsAtRest (phases.InFlight p) = ⊥
+IsAtRest (phases.Idle m) = ⊤
+IsAtRest (phases.Answered m) = ⊤
+IsAtRest phases.Left = ⊤
 
 abbrev pub progress_of_seen : Seen → Progress
 progress_of_seen IsPosted = progress.InFlight

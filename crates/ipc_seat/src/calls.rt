@@ -2,7 +2,8 @@
 
 ghost use Rattle.std.specs.Prelude.{◌≡◌, option_copied, pos};
 ghost use Rattle.ipc_seat.specs.Codes.{code_of_progress};
-ghost use Rattle.ipc_seat.specs.Seats.{Advances, Answered, Posts, progress_of_seen, reply_of, state_of, taken_of};
+ghost use Rattle.ipc_seat.specs.Seats.{Advances, Answered, Posts, hindrance_of, progress_of_seen, reply_of, state_of, taken_of};
+ghost use Rattle.ipc_seat.specs.declared.seat.Phase.TheVariants.{Left as HasLeft};
 
 use crate::seat::{Phase, Seat, SeatError};
 use ipc_call::{Call, Reply};
@@ -44,25 +45,41 @@ impl Progress {
 
 impl Seat {
     /// Posts a call at a time in seconds: whichever client combines may serve it from now on.
+    #[inline(always)]
     pub fn post(&mut self, now: u64, call: Call) -> Result<(), SeatError>
         ensures { Posts (state_of self.old) now call (state_of self.new) result }
     {
-        let error = match mem::replace(&mut self.phase, Phase::Left) {
-            Phase::Idle(member) => {
-                self.phase = Phase::InFlight(member.post(now, call));
-                return Ok(());
-            }
-            Phase::InFlight(posted) => {
-                self.phase = Phase::InFlight(posted);
-                SeatError::InFlight
-            }
-            Phase::Answered(member) => {
-                self.phase = Phase::Answered(member);
-                SeatError::Untaken
-            }
-            Phase::Left => SeatError::Left,
+        let Phase::Idle(_) = &self.phase else {
+            return Err(self.hindrance());
         };
-        Err(error)
+        let Phase::Idle(member) = mem::replace(&mut self.phase, Phase::Left) else {
+            unreachable!()
+        };
+        self.settle(Phase::InFlight(member.post(now, call)));
+        Ok(())
+    }
+
+    // Why nothing is done that is asked out of turn. It is apart, so that the usual way has no table of jumps by four phases.
+    #[cold]
+    #[inline(never)]
+    pub(crate) fn hindrance(&self) -> SeatError
+        ensures { result ≡ hindrance_of (state_of self.now) }
+    {
+        match &self.phase {
+            Phase::Idle(_) => SeatError::NoCall,
+            Phase::InFlight(_) => SeatError::InFlight,
+            Phase::Answered(_) => SeatError::Untaken,
+            Phase::Left => SeatError::Left,
+        }
+    }
+
+    // How far the client is now. Left stood in its place, where nothing is to be dropped: a drop would look which phase it is.
+    #[inline(always)]
+    pub(crate) fn settle(&mut self, phase: Phase)
+        requires { self.old.phase ≡ HasLeft }
+        ensures { self.new ≡ record self.old { phase = phase } }
+    {
+        mem::forget(mem::replace(&mut self.phase, phase));
     }
 
     /// Tries once to combine, and looks whether the call has ended.

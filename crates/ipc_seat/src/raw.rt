@@ -4,7 +4,8 @@ ghost use Rattle.std.specs.Prelude.{◌≡◌};
 ghost use Rattle.ipc_abi.specs.Requests.{lists_in};
 ghost use Rattle.ipc_seat.specs.Codes.{code_of_advance, code_of_post, code_of_read};
 ghost use Rattle.ipc_seat.specs.Raw.{GoesOnRaw, HandsOut, PostsRaw, code_of_end, room};
-ghost use Rattle.ipc_seat.specs.Seats.{Answered, state_of};
+ghost use Rattle.ipc_seat.specs.Seats.{Answered, IsAtRest, state_of};
+ghost use Rattle.ipc_seat.specs.declared.seat.Phase.TheVariants.{Left as HasLeft};
 
 use crate::calls::Progress;
 use crate::seat::{Phase, Seat, SeatError};
@@ -15,6 +16,7 @@ use std::mem;
 
 impl Seat {
     /// Posts the call of a request, at its clock. The error `Unknown` is for a request that is no call.
+    #[inline(always)]
     pub fn post_raw(&mut self, request: &RawRequest, lists: Lists) -> Result<(), SeatError>
         ensures { PostsRaw (state_of self.old) request.now (lists_in lists.entry) (state_of self.new) result }
     {
@@ -33,22 +35,20 @@ impl Seat {
         ensures { GoesOnRaw (state_of self.old) (state_of self.new)
             (room reply.old bytes.old values.old objects.old) (room reply.new bytes.new values.new objects.new) result }
     {
-        match mem::replace(&mut self.phase, Phase::Left) {
-            Phase::Idle(idle) => {
-                self.phase = Phase::Idle(idle);
-                Err(SeatError::NoCall)
+        let Phase::InFlight(_) = &self.phase else {
+            return self.hand_out_kept(reply, bytes, values, objects);
+        };
+        let Phase::InFlight(posted) = mem::replace(&mut self.phase, Phase::Left) else {
+            unreachable!()
+        };
+        match posted.advance() {
+            Looked::Done(member, answer) => {
+                self.hand_out(member, answer, reply, bytes, values, objects)
             }
-            Phase::InFlight(posted) => match posted.advance() {
-                Looked::Done(member, answer) => {
-                    self.hand_out(member, answer, reply, bytes, values, objects)
-                }
-                Looked::Still(posted, seen) => {
-                    self.phase = Phase::InFlight(posted);
-                    Ok(Progress::of_seen(seen))
-                }
-            },
-            Phase::Answered(member) => self.hand_out_kept(member, reply, bytes, values, objects),
-            Phase::Left => Err(SeatError::Left),
+            Looked::Still(posted, seen) => {
+                self.settle(Phase::InFlight(posted));
+                Ok(Progress::of_seen(seen))
+            }
         }
     }
 
@@ -63,6 +63,7 @@ impl Seat {
         values: &mut [u16],
         objects: &mut [RawObject],
     ) -> Result<Progress, SeatError>
+        requires { self.old.phase ≡ HasLeft }
         ensures { HandsOut (Answered member reply) (state_of self.new)
             (room out.old bytes.old values.old objects.old) (room out.new bytes.new values.new objects.new) result }
     {
@@ -72,24 +73,30 @@ impl Seat {
             return Err(SeatError::NoRoom);
         }
         copy_lists(&reply, bytes, values, objects);
-        self.phase = Phase::Idle(member);
+        self.settle(Phase::Idle(member));
         Ok(Progress::Answered)
     }
 
-    // The same of the reply that was kept.
+    // The same of the reply that was kept, if there is one.
     #[cold]
     #[inline(never)]
     fn hand_out_kept(
         &mut self,
-        member: Member,
         out: &mut RawReply,
         bytes: &mut [u8],
         values: &mut [u16],
         objects: &mut [RawObject],
     ) -> Result<Progress, SeatError>
-        ensures { HandsOut (Answered member self.old.reply) (state_of self.new)
+        requires { IsAtRest self.old.phase }
+        ensures { GoesOnRaw (state_of self.old) (state_of self.new)
             (room out.old bytes.old values.old objects.old) (room out.new bytes.new values.new objects.new) result }
     {
+        let Phase::Answered(_) = &self.phase else {
+            return Err(self.hindrance());
+        };
+        let Phase::Answered(member) = mem::replace(&mut self.phase, Phase::Left) else {
+            unreachable!()
+        };
         let reply = mem::replace(&mut self.reply, Reply::Memory);
         self.hand_out(member, reply, out, bytes, values, objects)
     }
