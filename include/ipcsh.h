@@ -174,6 +174,7 @@ struct ipcsh_room {
 int32_t ipcsh_raw_open(const struct ipcsh_limits *, const struct ipcsh_client *, size_t, ipcsh **, size_t);
 int32_t ipcsh_raw_post(ipcsh *, const struct ipcsh_request *, const void *, size_t, const struct ipcsh_semop *, size_t, const uint16_t *, size_t,
                        const uint32_t *, size_t);
+int32_t ipcsh_raw_ask(ipcsh *, const struct ipcsh_request *);
 int32_t ipcsh_raw_advance(ipcsh *, struct ipcsh_reply *, void *, size_t, uint16_t *, size_t, struct ipcsh_object *, size_t);
 int32_t ipcsh_raw_read_journal(ipcsh *, uint64_t *, void *, size_t);
 int32_t ipcsh_raw_close(ipcsh *);
@@ -263,10 +264,11 @@ static inline void ipcsh_close(ipcsh *handle)
  */
 IPCSH_INLINE int ipcsh_post(ipcsh *handle, const struct ipcsh_request *request, const struct ipcsh_lists *lists)
 {
-    static const struct ipcsh_lists none = { 0, 0, 0, 0, 0, 0, 0, 0 };
+    if (!handle || !request)
+        return IPCSH_NULL;
     if (!lists)
-        lists = &none;
-    if (!handle || !request || (!lists->text && lists->text_len) || (!lists->ops && lists->ops_len) || (!lists->values && lists->values_len) ||
+        return ipcsh_raw_ask(handle, request);
+    if ((!lists->text && lists->text_len) || (!lists->ops && lists->ops_len) || (!lists->values && lists->values_len) ||
         (!lists->groups && lists->groups_len))
         return IPCSH_NULL;
     return ipcsh_raw_post(handle, request, IPCSH_SOME(lists->text, const void), lists->text_len, IPCSH_SOME(lists->ops, const struct ipcsh_semop),

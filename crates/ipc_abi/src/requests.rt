@@ -90,6 +90,7 @@ impl From<Memory> for BadRequest {
 
 impl RawRequest {
     /// The call that it means with these lists.
+    #[inline(always)]
     pub fn call(&self, alloc: Global, lists: Lists) -> Result<Call, BadRequest>
         ensures ok { IfOk result (λ call. call_in self.now (lists_in lists.entry) ≡ Some call) }
         ensures err { IfErr result (λ bad. bad ≡ Unknown → call_in self.now (lists_in lists.entry) ≡ None) }
@@ -100,6 +101,7 @@ impl RawRequest {
         }
     }
 
+    #[inline(always)]
     fn call_of(&self, operation: Operation, alloc: Global, lists: Lists) -> Result<Call, BadRequest>
         ensures ok { IfOk result (λ call. call_of operation self.now (lists_in lists.entry) ≡ Some call) }
         ensures err { IfErr result (λ bad. bad ≡ Unknown → call_of operation self.now (lists_in lists.entry) ≡ None) }

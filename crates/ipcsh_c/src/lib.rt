@@ -1,7 +1,7 @@
 //! The C library: a service whose clients are handles that C keeps. docs/C.md says how to call it, and what a caller owes.
 #![tactic(auto)]
 
-ghost use Rattle.std.specs.Prelude.{◌≡◌, ◌≢◌, ◌<◌, ◌≤◌, ◌++◌, List, pos, false, box_value, drop, length, map, take};
+ghost use Rattle.std.specs.Prelude.{◌≡◌, ◌≢◌, ◌<◌, ◌≤◌, ◌++◌, List, [], pos, false, box_value, drop, length, map, take};
 ghost use types.Logic.{sem};
 ghost use Rattle.ipc_call.specs.Limits.{are_in_range};
 ghost use Rattle.ipc_abi.specs.Openings.{limits_in};
@@ -110,6 +110,7 @@ pub unsafe extern "C" fn ipcsh_raw_post(
     )
 }
 
+#[inline(always)]
 fn posted(
     seat: &mut Seat,
     request: &RawRequest,
@@ -127,6 +128,23 @@ fn posted(
         groups,
     };
     post_code(seat.post_raw(request, lists))
+}
+
+/// Posts a call that has no lists.
+#[unsafe(no_mangle)]
+pub unsafe extern "C" fn ipcsh_raw_ask(handle: *mut u8, request: &RawRequest) -> i32
+    ghost before: { SeatValue }
+    requires* { sem 𝓛 (OwnsSeat handle before) }
+    ensures* { ∃ₛ (λ (after : SeatValue). sem 𝓛 (OwnsSeat handle after)
+        ∗ ⌜ (PostsInNumbers before request.now (given [] [] [] []) after result) ⌝) }
+{
+    asked(&mut *(handle as *mut Seat), request)
+}
+
+fn asked(seat: &mut Seat, request: &RawRequest) -> i32
+    ensures { PostsInNumbers seat.old request.now (given [] [] [] []) seat.new result }
+{
+    posted(seat, request, &[], &[], &[], &[])
 }
 
 /// Goes on with the call that was posted, and gives its reply where it has ended.
