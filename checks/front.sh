@@ -95,15 +95,14 @@ rules_are_whole() {
     ./ipcsh rule $(cat "$scratch/rules" "$scratch/refusals") >"$scratch/out" 2>"$scratch/shown"
 }
 
-# why on each line of a script prints, without its first lines, the rows of the whole script with their notes.
+# why on each line of a script prints the rows of the whole script, each with its line and its notes.
 why_tells_each_line() {
     script=examples/explained/two-locks.ipcsh
     for number in $(seq "$(wc -l <"$script")"); do
         status=0
-        ./ipcsh why "$script" "$number" >"$scratch/row" 2>"$scratch/err" || status=$?
+        ./ipcsh why "$script" "$number" 2>"$scratch/err" || status=$?
         why="status $status on line $number"
         [ "$status" -le 1 ] || return 1
-        sed 1d "$scratch/row"
     done >"$scratch/out"
     same 'the rows of all lines' "${script%.ipcsh}.out" "$scratch/out"
 }
@@ -140,7 +139,7 @@ answers() {
     { getent passwd www-data && getent group www-data adm; } >/dev/null 2>&1 || sed -i 's/groups=adm/groups=4/; s/ adm$/ 4/; s/www-data www-data www-data/www-data 33 33/' "$scratch/typed"
     ./ipcsh prompt <"$scratch/typed" >"$scratch/out" 2>/dev/null
     grep -e '^column [0-9]*: [^w]' -e ' is no command' -e ' is no call' "$scratch/out" >>"$scratch/refused" || :
-    awk -v word="$2" '/> / { on = $NF == word; next } on' "$scratch/out" >"$scratch/shown"
+    awk -v word="$2" '/^t=.*> / { on = $NF == word; next } on' "$scratch/out" >"$scratch/shown"
     why="$2 of the task $1 is another answer:"
     tr '\n' ' ' <"$scratch/shown" | grep -q "$3" || return 1
     why="the answer to the task $1 does not fit a screen:"

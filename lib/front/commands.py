@@ -47,7 +47,7 @@ def why_line(file, number):
     if before == until:
         raise Fault(f"{shown(file)}: line {number} makes no call", 1)
     told = b"".join(rows[before:until]).splitlines(keepends=True)
-    say(b"".join([b"line %d: %b\n" % (int(number), lines[int(number) - 1].strip()), *map(reading.row, told)]))
+    say(b"".join(map(reading.row, told)))
     return 0
 
 
@@ -56,8 +56,15 @@ def lines_of(text):
 
 
 def explained(lines, is_quiet=False):
-    """The rows of a script, each with the notes below it."""
-    return blocks(answer("ipcsh_explain", [], b"".join(lines), is_quiet)[0], b"    ")
+    """The rows of a script, each with the line above it and the notes below it."""
+    found, above = [], b""
+    for block in blocks(answer("ipcsh_explain", [], b"".join(lines), is_quiet)[0], b"    "):
+        if block.startswith(b"> "):
+            above += block
+        else:
+            found.append(above + block)
+            above = b""
+    return found
 
 
 def blocks(text, indent):

@@ -11,7 +11,8 @@ COUNTS = re.compile(rb"(\w+) calls ([0-9]+) refused ([0-9]+)(?: memory ([0-9]+))
 LISTED = re.compile(rb" *([qms])((?: [0-9a-fx]+)+)")
 VALUES = re.compile(rb"values((?: -?[0-9]+)*)")
 OBJECT = re.compile("(queue|set|segment) ([0-9]+)(.*)")
-AT_THE_END = re.compile(rb" +(at the end |a deadlock)")
+SCRIPT = re.compile(rb"line ([0-9]+): (.*)", re.S)
+AT_THE_END = re.compile(rb"at the end |a deadlock")
 # What stands as it is printed, as its digits are no decimal ones.
 WORDS = ("key", "mode")
 
@@ -97,16 +98,34 @@ def blocks(lines, indent):
 
 
 def notes(lines):
-    """What explain prints: an object for each row with its notes, and at the end one for who waits."""
-    end = []
+    """What explain prints: an object for each row with the line of the script above it and its notes, and at the end one for who waits."""
+    end, above = [], []
     for head, below in blocks(lines, b"  "):
-        of_end = [it for it in below if AT_THE_END.match(it)]
+        if head.startswith(b"> "):
+            above.append(head[2:])
+            continue
+        told = list(unfolded(it for it in below if it.startswith(b"    ")))
+        of_end = [it for it in told if AT_THE_END.match(it)]
         end += of_end
-        told = [of_text(it.strip()) for it in below if it not in of_end and it.startswith(b"    ")]
+        it = SCRIPT.match(b" ".join(map(bytes.strip, above)))
+        script = {"line": int(it[1]), "script": of_text(it[2])} if it else {}
         found = next(rows([head, *(it for it in below if not it.startswith(b"    "))]))
-        yield {**found, **({"notes": told} if told else {})}
+        of_row = [of_text(it) for it in told if it not in of_end]
+        yield {**script, **found, **({"notes": of_row} if of_row else {})}
+        above = []
     if end:
-        yield {"end": [of_text(it.strip()) for it in end]}
+        yield {"end": [of_text(it) for it in end]}
+
+
+def unfolded(lines):
+    """Notes, without what folded them: a line behind six blanks goes on with the one above it."""
+    whole = []
+    for line in lines:
+        if line.startswith(b"      ") and whole:
+            whole[-1] += b" " + line.strip()
+        else:
+            whole.append(line.strip())
+    return whole
 
 
 def objects(lines):

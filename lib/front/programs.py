@@ -125,7 +125,7 @@ def parts_of(rows, reading):
     """What is written of these rows."""
     if STYLE.is_plain() and not reading:
         return iter(lambda: os.read(rows.fileno(), 65536), b"")
-    return STYLE.dressed(map(reading.row, rows) if reading else rows)
+    return STYLE.dressed(filter(None, map(reading.row, rows)) if reading else rows)
 
 
 def tell(messages, name, reading):
