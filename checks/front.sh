@@ -169,6 +169,7 @@ prints_objects() {
     for words in 'run examples/groups-and-capabilities.ipcsh' 'run --threads examples/threads.ipcsh' 'explain examples/explained/two-locks.ipcsh' \
         'journal examples/waiting.ipcsh' 'who --proc crates/ipcwho/data/proc' 'who --proc crates/ipcwho/data/proc queue 3' \
         'who --script examples/groups-and-capabilities.ipcsh queue 0' 'orphans --proc crates/ipcwho/data/proc' 'rule' 'rule 38 owner-bits' \
+        'why examples/explained/two-locks.ipcsh 11' 'why --proc crates/ipcwho/data/proc 4711 shm 6' 'replay crates/ipcsh_journal/data/altered.journal' \
         'trace examples/traces/undo.strace'; do
         set -- $words
         command=$1

@@ -15,7 +15,8 @@ from words import Usage, count, identifier, is_number, kind, only, pids, written
 
 def run(options, files):
     asked = dict(options)
-    return each("run", "ipcsh", ["threads"] if "--threads" in asked else [], files, "--easy" in asked)
+    is_by_threads = "--threads" in asked
+    return each("run", "ipcsh", ["threads"] if is_by_threads else [], files, "--easy" in asked, not is_by_threads)
 
 
 def explain(options, files):
@@ -30,6 +31,7 @@ def why(options, words):
     if len(words) == 2:
         only(options, None, "FILE LINE")
         return why_line(*words)
+    STYLE.objects = STYLE.objects and objects.reasons
     return carried_out("ipcwho", [*written(options), "--why", *pids(words[:1]), kind(words[1]), identifier(words[2])])
 
 

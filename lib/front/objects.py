@@ -172,3 +172,51 @@ def journal(lines):
             yield {"event": int(it[1]), "turn": int(it[2]), "client": int(it[3]), "answer": "error" if refused else "granted", **refused}
         else:
             yield {"text": of_text(line)}
+
+
+DIFFERS = re.compile(rb"line ([0-9]+), row ([0-9]+): the journal differs")
+SIDE = re.compile(rb"(it has|the definitions give): *(.*)")
+SIDES = {b"it has": "found", b"the definitions give": "given"}
+
+
+def replay(lines):
+    """What replay prints: an object that says whether the journal is the same, and of one that differs where, what it has and what is given."""
+    found = {}
+    for line in plain(lines):
+        differs, side = DIFFERS.fullmatch(line), SIDE.fullmatch(line)
+        if differs:
+            found = {"same": False, "line": int(differs[1]), "row": int(differs[2])}
+        elif side and found:
+            found[SIDES[side[1]]] = next(journal([side[2]]))
+        else:
+            yield {"same": True} if line == b"same" else {"text": of_text(line)}
+    if found:
+        yield found
+
+
+CALLER_AT = re.compile(r"pid ([0-9]+) \((.*)\): user ([0-9]+), group ([0-9]+)(?:, supplementary groups((?: [0-9]+)+))?")
+CLASS_AT = re.compile(r"class (owner|group|others): (.*)")
+ANSWER_AT = re.compile(r"(read|write|set and remove)(?: \(attached .*?\))?: (?:no \((\w+), ([a-z-]+)\)(?:; (CAP_\w+) would have allowed it)?|(\w+))")
+ANSWERS = {"read": "read", "write": "write", "set and remove": "control"}
+
+
+def reasons(lines):
+    """What why prints of a process at an object: an object of both, with the class and an object for each answer."""
+    found = {}
+    for line in map(of_text, plain(lines)):
+        caller, it, answer, at = (form.fullmatch(line) for form in (CALLER_AT, CLASS_AT, ANSWER_AT, OBJECT))
+        if at:
+            found.update(next(objects([line.encode()])))
+        elif caller:
+            groups = [int(group) for group in (caller[5] or "").split()]
+            found.update({"pid": int(caller[1]), "name": caller[2], "user": int(caller[3]), "group": int(caller[4]), "groups": groups})
+        elif it:
+            found.update({"class": it[1], "why": it[2]})
+        elif answer:
+            allowed = {"allowed": True, "by": answer[5]}
+            denied = {"allowed": False, "error": answer[2], "rule": answer[3], **({"capability": answer[4]} if answer[4] else {})}
+            found[ANSWERS[answer[1]]] = allowed if answer[5] else denied
+        else:
+            yield {"text": line}
+    if found:
+        yield found
