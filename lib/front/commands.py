@@ -5,6 +5,7 @@ import os
 import shutil
 import sys
 
+import live
 import objects
 import rules
 from easy import Reading
@@ -87,21 +88,12 @@ def who(options, words):
         count(words, 2, 2, "KIND ID")
         STYLE.objects = STYLE.objects and objects.rights
         return each("who", "ipcsh_explain", ["--who", kind(words[0]), identifier(words[1])], [script], True)
-    if not words or words[0].isdigit():
+    if words and words[0].isdigit():
+        only(options, "--proc", "PID..")
         return carried_out("ipcwho", [*written(options), *pids(words)])
-    count(words, 1, 2, "KIND ID")
-    return who_at(options, kind(words[0]), *map(identifier, words[1:]))
-
-
-def who_at(options, name, number=None):
-    """Prints what ipcwho says of the objects of a kind, or of one."""
-    text, status = answer("ipcwho", written(options))
-    head = f"{name} {number} " if number else f"{name} "
-    found = [it for it in blocks(text, b"  ") if it.startswith(head.encode())]
-    if number and not found:
-        raise Fault(f"there is no {name} {number}", 1)
-    say(b"".join(found))
-    return status
+    count(words, 0, 2, "KIND ID")
+    name, number = kind(words[0]) if words else None, identifier(words[1]) if words[1:] else None
+    return live.who(dict(options), name, number)
 
 
 def orphans(options, words):
