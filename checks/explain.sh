@@ -1,5 +1,5 @@
-# ipcsh_explain: over every script of examples/ and crates/rows/data it prints the stored rows once its notes are taken out, and
-# each refusal, bad line, wait and end of a wait has a note; the stored explanations of crates/ipcsh_explain/data and of
+# ipcsh_explain: over every script of examples/ and crates/rows/data it prints the stored rows once its lines and notes are taken out, the line above
+# each row is that of the script, no note is wider than a screen, and each refusal, bad line, wait and end of a wait has one; the stored explanations of crates/ipcsh_explain/data and of
 # examples/; the stored pictures of docs/pictures; and how long it takes beside ipcsh.
 
 check_explain() { with_program with_crate ipcsh_explain explain_checks; }
@@ -11,6 +11,7 @@ explain_checks() {
     for file in crates/rows/data/*.in; do
         attempt "explained $file" explains "$file" "${file%.in}"
     done
+    attempt 'lines above the rows of these' lines_stand_above
     for file in crates/ipcsh_explain/data/*.in examples/explained/*.ipcsh; do
         attempt "$file" matches "${file%.*}" "${file##*.}" "$(program_to_run ipcsh_explain)"
     done
@@ -21,6 +22,7 @@ explain_checks() {
         attempt "$picture" is_stored "$picture"
     done
     attempt 'pictures are XML' are_well_formed
+    attempt 'changes that would grant 1,000 random refusals' changes_grant
     attempt 'ipcsh_explain --svg, a file that cannot be written' draws_nowhere
     attempt 'ipcsh_explain --svg, a script in place of the picture' keeps_file examples/waiting.ipcsh
     attempt 'ipcsh_explain --svg, a file that is shorter than its beginning' keeps_file crates/ipcsh_explain/stdin
@@ -32,23 +34,38 @@ explain_checks() {
     attempt 'ipcsh_explain of a file' explains_a_file
     attempt 'ipcsh_explain of no file' explains_no_file
     attempt 'ipcsh_explain, output that cannot be written' explain_cannot_write
-    [ -n "${unproved-}" ] || ! command -v valgrind >/dev/null || attempt 'ipcsh_explain, 30,000 lines in twice the instructions of ipcsh' explains_in_time
+    [ -n "${unproved-}" ] || ! command -v valgrind >/dev/null || attempt 'ipcsh_explain, 30,000 lines in six times the instructions of ipcsh' explains_in_time
 }
 
-# explains SCRIPT BASE: without the notes its output is that of BASE.out, with the status of BASE.status, and each row that wants
-# a note has one. The scripts of threads are others.
+# explains SCRIPT BASE: without the lines and the notes its output is that of BASE.out, with the status of BASE.status, and each row that wants
+# a note has one. It is kept for lines_stand_above. The scripts of threads are others.
 explains() {
     [ ! -f "$2.words" ] || return 0
     wanted=0
     [ ! -f "$2.status" ] || wanted=$(cat "$2.status")
     status=0
     timeout 60 "$(program_to_run ipcsh_explain)" <"$1" >"$scratch/explained" 2>"$scratch/err" || status=$?
-    grep -v '^    ' "$scratch/explained" >"$scratch/out" || :
-    same 'its output without the notes' "$2.out" "$scratch/out" || return 1
+    mkdir -p "$scratch/explained-all"
+    cp "$scratch/explained" "$scratch/explained-all/$(echo "$1" | tr / _)"
+    grep -v -e '^> ' -e '^    ' "$scratch/explained" >"$scratch/out" || :
+    same 'its output without the lines and the notes' "$2.out" "$scratch/out" || return 1
     why="status $status, not $wanted"
     [ "$status" = "$wanted" ] || return 1
     why='a row has no note:'
     each_has_a_note "$scratch/explained" >"$scratch/shown"
+}
+
+# What was printed of the scripts so far has the lines of the scripts above its rows, and nothing wider than a screen.
+lines_stand_above() {
+    set --
+    for file in examples/*.ipcsh crates/rows/data/*.in; do
+        told=$scratch/explained-all/$(echo "$file" | tr / _)
+        [ ! -f "$told" ] || set -- "$@" "$file" "$told"
+    done
+    why='there are none'
+    [ $# -gt 400 ] || return 1
+    why='a line is another:'
+    python3 checks/explained_lines.py "$@" >"$scratch/shown" 2>&1 && [ ! -s "$scratch/shown" ]
 }
 
 # each_has_a_note FILE: below each row of a refusal, a wait, the end of a wait or a bad line stands a note. A row of which memory
@@ -59,6 +76,12 @@ each_has_a_note() {
         { wants = "" }
         /^line [0-9]+: / || /^[0-9]+\.[0-9]+ [a-z0-9]+ (error |waits$)/ || /^[0-9]+\.[1-9]/ { wants = $0 }
         END { if (wants != "") { print wants; missing = 1 }; exit missing }' "$1"
+}
+
+# Of each of 1,000 random calls that are refused for rights explain names a change, and with each that it names the call is granted.
+changes_grant() {
+    why='a change is lacking, or the call is refused with it:'
+    python3 lib/refusals.py "$(program_to_run ipcsh_explain)" "$(program_to_run ipcsh_cli)" >"$scratch/shown" 2>&1
 }
 
 # draws SCRIPT: with --svg its standard output and its status are those without, and the picture goes to $scratch/pictures. A script
@@ -185,8 +208,8 @@ explain_cannot_write() {
     same 'its standard error' "$scratch/wanted" "$scratch/err"
 }
 
-# Thirty thousand lines, of which half is refused and a sixth waits, take at most twice the instructions of ipcsh, as valgrind counts: they don't
-# vary with what else the machine does, as times do.
+# Thirty thousand lines, of which half is refused and a sixth waits, take at most six times the instructions of ipcsh, of which more than four times the
+# bytes are printed. Valgrind counts: instructions don't vary with what else the machine does, as times do.
 explains_in_time() {
     {
         printf 'client alice 100 10\nclient bob 200 20\nalice msgget 5 01600\nalice msgget 6 01666\n'
@@ -196,5 +219,5 @@ explains_in_time() {
     plain=$(instructions_of "$(program_of ipcsh_cli)" <"$scratch/long.ipcsh")
     explained=$(instructions_of "$(program_of ipcsh_explain)" <"$scratch/long.ipcsh")
     why="it takes $explained instructions, and ipcsh $plain"
-    [ "${plain:-0}" -gt 0 ] && [ "${explained:-0}" -gt 0 ] && [ "$explained" -le $((2 * plain)) ]
+    [ "${plain:-0}" -gt 0 ] && [ "${explained:-0}" -gt 0 ] && [ "$explained" -le $((6 * plain)) ]
 }

@@ -57,8 +57,8 @@ document_scripts_stay() {
     stay "$scratch/from-documents"/*
 }
 
-# is_read_alike BASE: ipcsh run --easy and ipcsh explain print the same of a script as people write it and of the exact one, but for the numbers of bad
-# lines, which are those of each.
+# is_read_alike BASE: ipcsh run --easy and ipcsh explain print the same of a script as people write it and of the exact one, but for the lines above rows
+# and the numbers of bad lines, which are those of each.
 is_read_alike() {
     for words in 'run --easy' explain; do
         for file in "$1.easy" "$1.exact"; do
@@ -66,7 +66,7 @@ is_read_alike() {
             timeout 60 ./ipcsh $words "$file" >"$scratch/rows" 2>"$scratch/shown" || status=$?
             why="status $status of ipcsh $words $file"
             [ "$status" -le 1 ] || return 1
-            sed 's/^line [0-9]*: /line: /; s/^    column [0-9]*: /    /; s/\bline [0-9]*/line/' "$scratch/rows" >"$scratch/read${file##*.}"
+            sed '/^> /d; s/^line [0-9]*: /line: /; s/^    column [0-9]*: /    /; s/\bline [0-9]*/line/' "$scratch/rows" >"$scratch/read${file##*.}"
         done
         same "what ipcsh $words prints" "$scratch/readexact" "$scratch/readeasy" || return 1
     done

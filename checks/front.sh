@@ -13,6 +13,7 @@ front_checks() {
     attempt 'three tasks of a new user' tasks_are_done
     attempt 'rows as JSON' rows_are_objects
     attempt 'output as JSON' prints_objects
+    attempt 'who by credentials' shares_lines
     attempt 'colours' is_coloured
     attempt 'an open pipe' front_answers_each_line
     attempt 'an interrupt' front_is_interrupted
@@ -95,15 +96,14 @@ rules_are_whole() {
     ./ipcsh rule $(cat "$scratch/rules" "$scratch/refusals") >"$scratch/out" 2>"$scratch/shown"
 }
 
-# why on each line of a script prints, without its first lines, the rows of the whole script with their notes.
+# why on each line of a script prints the rows of the whole script, each with its line and its notes.
 why_tells_each_line() {
     script=examples/explained/two-locks.ipcsh
     for number in $(seq "$(wc -l <"$script")"); do
         status=0
-        ./ipcsh why "$script" "$number" >"$scratch/row" 2>"$scratch/err" || status=$?
+        ./ipcsh why "$script" "$number" 2>"$scratch/err" || status=$?
         why="status $status on line $number"
         [ "$status" -le 1 ] || return 1
-        sed 1d "$scratch/row"
     done >"$scratch/out"
     same 'the rows of all lines' "${script%.ipcsh}.out" "$scratch/out"
 }
@@ -140,7 +140,7 @@ answers() {
     { getent passwd www-data && getent group www-data adm; } >/dev/null 2>&1 || sed -i 's/groups=adm/groups=4/; s/ adm$/ 4/; s/www-data www-data www-data/www-data 33 33/' "$scratch/typed"
     ./ipcsh prompt <"$scratch/typed" >"$scratch/out" 2>/dev/null
     grep -e '^column [0-9]*: [^w]' -e ' is no command' -e ' is no call' "$scratch/out" >>"$scratch/refused" || :
-    awk -v word="$2" '/> / { on = $NF == word; next } on' "$scratch/out" >"$scratch/shown"
+    awk -v word="$2" '/^t=.*> / { on = $NF == word; next } on' "$scratch/out" >"$scratch/shown"
     why="$2 of the task $1 is another answer:"
     tr '\n' ' ' <"$scratch/shown" | grep -q "$3" || return 1
     why="the answer to the task $1 does not fit a screen:"
@@ -170,6 +170,7 @@ prints_objects() {
     for words in 'run examples/groups-and-capabilities.ipcsh' 'run --threads examples/threads.ipcsh' 'explain examples/explained/two-locks.ipcsh' \
         'journal examples/waiting.ipcsh' 'who --proc crates/ipcwho/data/proc' 'who --proc crates/ipcwho/data/proc queue 3' \
         'who --script examples/groups-and-capabilities.ipcsh queue 0' 'orphans --proc crates/ipcwho/data/proc' 'rule' 'rule 38 owner-bits' \
+        'why examples/explained/two-locks.ipcsh 11' 'why --proc crates/ipcwho/data/proc 4711 shm 6' 'replay crates/ipcsh_journal/data/altered.journal' \
         'trace examples/traces/undo.strace'; do
         set -- $words
         command=$1
@@ -183,6 +184,38 @@ sys.exit(not found or not all(isinstance(it, dict) for it in found) or sum(list(
             return 1
         }
     done
+}
+
+# Processes with the same credentials share a line of who, with the answers that ipcwho has for each; of one that has ended nothing is said, one of another
+# IPC namespace is left out and counted, and where there is no object that is said.
+shares_lines() {
+    rm -rf "$scratch/proc"
+    cp -r crates/ipcwho/data/proc "$scratch/proc"
+    cp -r "$scratch/proc/4711" "$scratch/proc/4720"
+    sed -i 's/postgres/psql/' "$scratch/proc/4720/status"
+    mkdir "$scratch/proc/4721" "$scratch/proc/self/ns" "$scratch/proc/4713/ns"
+    ln -s 'ipc:[1]' "$scratch/proc/self/ns/ipc"
+    ln -s 'ipc:[2]' "$scratch/proc/4713/ns/ipc"
+    status=0
+    ./ipcsh who --proc "$scratch/proc" >"$scratch/out" 2>"$scratch/err" || status=$?
+    why="status $status, not 0"
+    [ "$status" = 0 ] || return 1
+    echo 'ipcsh who: processes of other IPC namespaces, which have objects of their own, are left out: 1' >"$scratch/wanted"
+    grep -v unproved "$scratch/err" | same 'its standard error' "$scratch/wanted" /dev/stdin || return 1
+    ./ipcwho --proc "$scratch/proc" 1 4711 4712 4714 4720 2>/dev/null | sed 's/^  pid \([0-9]*\) (.*): read/  \1: read/' >"$scratch/wanted"
+    # Each pid of a line on a line of its own.
+    awk '!/^  pids? / { print; next }
+        { head = $0; sub(/: read.*/, "", head); sub(/ \(.*/, "", head); sub(/^  pids? /, "", head)
+          answers = $0; sub(/.*: read/, ": read", answers); count = split(head, pid, " ")
+          for (i = 1; i <= count; i++) print "  " pid[i] answers }' "$scratch/out" | sort >"$scratch/each"
+    sort "$scratch/wanted" | same 'the lines of each process' /dev/stdin "$scratch/each" || return 1
+    why='two processes do not share a line:'
+    grep '^  pids 4711 4720 (postgres, psql), user 100, group 10: ' "$scratch/out" >"$scratch/shown" || return 1
+    for kind in msg sem shm; do
+        sed -i 1q "$scratch/proc/sysvipc/$kind"
+    done
+    ./ipcsh who --proc "$scratch/proc" 2>/dev/null >"$scratch/out"
+    echo 'no objects' | same 'what it prints' /dev/stdin "$scratch/out"
 }
 
 # Refusals are red and waits yellow where that is asked for, or at a terminal that has colours; without the colours the rows are as they are.

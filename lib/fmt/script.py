@@ -115,6 +115,10 @@ class Exact:
         """The line of the text that this one comes from."""
         return self.origins[number - 1][0]
 
+    def is_rewritten(self, number):
+        """This line isn't as it was written."""
+        return self.origins[number - 1][1].cut is not None
+
     def column(self, number, column):
         """The column of the text that this one of a line comes from."""
         return self.origins[number - 1][1].column(column)

@@ -5,6 +5,7 @@ import os
 import shutil
 import sys
 
+import live
 import objects
 import rules
 from easy import Reading
@@ -15,7 +16,8 @@ from words import Usage, count, identifier, is_number, kind, only, pids, written
 
 def run(options, files):
     asked = dict(options)
-    return each("run", "ipcsh", ["threads"] if "--threads" in asked else [], files, "--easy" in asked)
+    is_by_threads = "--threads" in asked
+    return each("run", "ipcsh", ["threads"] if is_by_threads else [], files, "--easy" in asked, not is_by_threads)
 
 
 def explain(options, files):
@@ -30,6 +32,7 @@ def why(options, words):
     if len(words) == 2:
         only(options, None, "FILE LINE")
         return why_line(*words)
+    STYLE.objects = STYLE.objects and objects.reasons
     return carried_out("ipcwho", [*written(options), "--why", *pids(words[:1]), kind(words[1]), identifier(words[2])])
 
 
@@ -47,7 +50,7 @@ def why_line(file, number):
     if before == until:
         raise Fault(f"{shown(file)}: line {number} makes no call", 1)
     told = b"".join(rows[before:until]).splitlines(keepends=True)
-    say(b"".join([b"line %d: %b\n" % (int(number), lines[int(number) - 1].strip()), *map(reading.row, told)]))
+    say(b"".join(map(reading.row, told)))
     return 0
 
 
@@ -56,8 +59,15 @@ def lines_of(text):
 
 
 def explained(lines, is_quiet=False):
-    """The rows of a script, each with the notes below it."""
-    return blocks(answer("ipcsh_explain", [], b"".join(lines), is_quiet)[0], b"    ")
+    """The rows of a script, each with the line above it and the notes below it."""
+    found, above = [], b""
+    for block in blocks(answer("ipcsh_explain", [], b"".join(lines), is_quiet)[0], b"    "):
+        if block.startswith(b"> "):
+            above += block
+        else:
+            found.append(above + block)
+            above = b""
+    return found
 
 
 def blocks(text, indent):
@@ -78,21 +88,12 @@ def who(options, words):
         count(words, 2, 2, "KIND ID")
         STYLE.objects = STYLE.objects and objects.rights
         return each("who", "ipcsh_explain", ["--who", kind(words[0]), identifier(words[1])], [script], True)
-    if not words or words[0].isdigit():
+    if words and words[0].isdigit():
+        only(options, "--proc", "PID..")
         return carried_out("ipcwho", [*written(options), *pids(words)])
-    count(words, 1, 2, "KIND ID")
-    return who_at(options, kind(words[0]), *map(identifier, words[1:]))
-
-
-def who_at(options, name, number=None):
-    """Prints what ipcwho says of the objects of a kind, or of one."""
-    text, status = answer("ipcwho", written(options))
-    head = f"{name} {number} " if number else f"{name} "
-    found = [it for it in blocks(text, b"  ") if it.startswith(head.encode())]
-    if number and not found:
-        raise Fault(f"there is no {name} {number}", 1)
-    say(b"".join(found))
-    return status
+    count(words, 0, 2, "KIND ID")
+    name, number = kind(words[0]) if words else None, identifier(words[1]) if words[1:] else None
+    return live.who(dict(options), name, number)
 
 
 def orphans(options, words):

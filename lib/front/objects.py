@@ -11,7 +11,8 @@ COUNTS = re.compile(rb"(\w+) calls ([0-9]+) refused ([0-9]+)(?: memory ([0-9]+))
 LISTED = re.compile(rb" *([qms])((?: [0-9a-fx]+)+)")
 VALUES = re.compile(rb"values((?: -?[0-9]+)*)")
 OBJECT = re.compile("(queue|set|segment) ([0-9]+)(.*)")
-AT_THE_END = re.compile(rb" +(at the end |a deadlock)")
+SCRIPT = re.compile(rb"line ([0-9]+): (.*)", re.S)
+AT_THE_END = re.compile(rb"at the end |a deadlock")
 # What stands as it is printed, as its digits are no decimal ones.
 WORDS = ("key", "mode")
 
@@ -97,16 +98,34 @@ def blocks(lines, indent):
 
 
 def notes(lines):
-    """What explain prints: an object for each row with its notes, and at the end one for who waits."""
-    end = []
+    """What explain prints: an object for each row with the line of the script above it and its notes, and at the end one for who waits."""
+    end, above = [], []
     for head, below in blocks(lines, b"  "):
-        of_end = [it for it in below if AT_THE_END.match(it)]
+        if head.startswith(b"> "):
+            above.append(head[2:])
+            continue
+        told = list(unfolded(it for it in below if it.startswith(b"    ")))
+        of_end = [it for it in told if AT_THE_END.match(it)]
         end += of_end
-        told = [of_text(it.strip()) for it in below if it not in of_end and it.startswith(b"    ")]
+        it = SCRIPT.match(b" ".join(map(bytes.strip, above)))
+        script = {"line": int(it[1]), "script": of_text(it[2])} if it else {}
         found = next(rows([head, *(it for it in below if not it.startswith(b"    "))]))
-        yield {**found, **({"notes": told} if told else {})}
+        of_row = [of_text(it) for it in told if it not in of_end]
+        yield {**script, **found, **({"notes": of_row} if of_row else {})}
+        above = []
     if end:
-        yield {"end": [of_text(it.strip()) for it in end]}
+        yield {"end": [of_text(it) for it in end]}
+
+
+def unfolded(lines):
+    """Notes, without what folded them: a line behind six blanks goes on with the one above it."""
+    whole = []
+    for line in lines:
+        if line.startswith(b"      ") and whole:
+            whole[-1] += b" " + line.strip()
+        else:
+            whole.append(line.strip())
+    return whole
 
 
 def objects(lines):
@@ -153,3 +172,51 @@ def journal(lines):
             yield {"event": int(it[1]), "turn": int(it[2]), "client": int(it[3]), "answer": "error" if refused else "granted", **refused}
         else:
             yield {"text": of_text(line)}
+
+
+DIFFERS = re.compile(rb"line ([0-9]+), row ([0-9]+): the journal differs")
+SIDE = re.compile(rb"(it has|the definitions give): *(.*)")
+SIDES = {b"it has": "found", b"the definitions give": "given"}
+
+
+def replay(lines):
+    """What replay prints: an object that says whether the journal is the same, and of one that differs where, what it has and what is given."""
+    found = {}
+    for line in plain(lines):
+        differs, side = DIFFERS.fullmatch(line), SIDE.fullmatch(line)
+        if differs:
+            found = {"same": False, "line": int(differs[1]), "row": int(differs[2])}
+        elif side and found:
+            found[SIDES[side[1]]] = next(journal([side[2]]))
+        else:
+            yield {"same": True} if line == b"same" else {"text": of_text(line)}
+    if found:
+        yield found
+
+
+CALLER_AT = re.compile(r"pid ([0-9]+) \((.*)\): user ([0-9]+), group ([0-9]+)(?:, supplementary groups((?: [0-9]+)+))?")
+CLASS_AT = re.compile(r"class (owner|group|others): (.*)")
+ANSWER_AT = re.compile(r"(read|write|set and remove)(?: \(attached .*?\))?: (?:no \((\w+), ([a-z-]+)\)(?:; (CAP_\w+) would have allowed it)?|(\w+))")
+ANSWERS = {"read": "read", "write": "write", "set and remove": "control"}
+
+
+def reasons(lines):
+    """What why prints of a process at an object: an object of both, with the class and an object for each answer."""
+    found = {}
+    for line in map(of_text, plain(lines)):
+        caller, it, answer, at = (form.fullmatch(line) for form in (CALLER_AT, CLASS_AT, ANSWER_AT, OBJECT))
+        if at:
+            found.update(next(objects([line.encode()])))
+        elif caller:
+            groups = [int(group) for group in (caller[5] or "").split()]
+            found.update({"pid": int(caller[1]), "name": caller[2], "user": int(caller[3]), "group": int(caller[4]), "groups": groups})
+        elif it:
+            found.update({"class": it[1], "why": it[2]})
+        elif answer:
+            allowed = {"allowed": True, "by": answer[5]}
+            denied = {"allowed": False, "error": answer[2], "rule": answer[3], **({"capability": answer[4]} if answer[4] else {})}
+            found[ANSWERS[answer[1]]] = allowed if answer[5] else denied
+        else:
+            yield {"text": line}
+    if found:
+        yield found

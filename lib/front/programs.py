@@ -15,6 +15,7 @@ from choosing import chosen
 from easy import Reading
 from streams import read_in, write_error, write_out
 from style import STYLE
+from waiting import Waiting
 
 TOP = pathlib.Path(__file__).resolve().parent.parent.parent
 NOT_BUILT = 70
@@ -79,10 +80,10 @@ def answer(program, words, script=b"", is_quiet=False):
     return it.stdout, it.returncode
 
 
-def carried_out(program, words, script=None, name=None, reading=None):
+def carried_out(program, words, script=None, name=None, reading=None, waiting=None):
     """The status of the program, whose standard input is the script where one is given; messages of that get this name. Where it comes of a reading,
-    what is told of its lines does too."""
-    is_handed_on = has_reader() or reading or not STYLE.is_plain()
+    what is told of its lines does too. `waiting` sees the rows."""
+    is_handed_on = has_reader() or reading or waiting or not STYLE.is_plain()
     is_told = name or reading
     pipe = subprocess.PIPE
     child = subprocess.Popen([TOP / program, *words], stdin=script, stdout=pipe if is_handed_on else None, stderr=pipe if is_told else None)
@@ -90,7 +91,7 @@ def carried_out(program, words, script=None, name=None, reading=None):
         signal.signal(it, lambda number, _: child.send_signal(number))
     teller = threading.Thread(target=tell, args=(child.stderr or (), name, reading), daemon=True)
     teller.start()
-    taken = not child.stdout or hand_on(child.stdout, reading)
+    taken = not child.stdout or hand_on(child.stdout, reading, waiting)
     if not taken:
         child.kill()
     status = child.wait()
@@ -116,16 +117,19 @@ def has_reader():
     return False
 
 
-def hand_on(rows, reading):
+def hand_on(rows, reading, waiting):
     """Writes rows to standard output as they come; False where they aren't taken."""
-    return all(map(write_out, parts_of(rows, reading)))
+    return all(map(write_out, parts_of(rows, reading, waiting)))
 
 
-def parts_of(rows, reading):
+def parts_of(rows, reading, waiting):
     """What is written of these rows."""
-    if STYLE.is_plain() and not reading:
-        return iter(lambda: os.read(rows.fileno(), 65536), b"")
-    return STYLE.dressed(map(reading.row, rows) if reading else rows)
+    is_whole = STYLE.is_plain() and not reading
+    parts = iter(lambda: os.read(rows.fileno(), 65536), b"") if is_whole else rows
+    parts = waiting.seen(parts) if waiting else parts
+    if is_whole:
+        return parts
+    return STYLE.dressed(filter(None, map(reading.row, parts)) if reading else parts)
 
 
 def tell(messages, name, reading):
@@ -152,10 +156,10 @@ def end_by(number):
     os.kill(os.getpid(), number)
 
 
-def each(command, program, words, files, is_easy=False):
+def each(command, program, words, files, is_easy=False, tells_waits=False):
     """Runs the program on each script in turn, and gives the highest status. Of one that can't be read it tells, and goes on. An easy one is
-    made exact first."""
-    runs = Runs(command, program, words, is_easy, len(files) > 1)
+    made exact first. At the end it tells who waits, where that is asked for."""
+    runs = Runs(command, program, words, is_easy, len(files) > 1, tells_waits)
     if len(files) > 1:
         chosen(program)
     worst = 0
@@ -176,26 +180,32 @@ def opened(file):
 class Runs:
     """Runs of a program on one script after another."""
 
-    def __init__(self, command, program, words, is_easy, are_several):
+    def __init__(self, command, program, words, is_easy, are_several, tells_waits):
         self.command, self.program, self.words, self.is_easy, self.are_several = command, program, words, is_easy, are_several
-        self.is_first = True
+        self.tells_waits, self.is_first = tells_waits, True
 
     def on(self, file):
         """The status of a run."""
+        waiting = Waiting() if self.tells_waits else None
         try:
-            if self.is_easy:
-                return self.on_easy(file)
-            if file == "-":
-                self.begin(file)
-                return carried_out(self.program, self.words)
-            with opened(file) as script:
-                self.begin(file)
-                return carried_out(self.program, self.words, script, file)
+            status = self.on_easy(file, waiting) if self.is_easy else self.on_exact(file, waiting)
         except Fault as why:
             complain(self.command, why)
             return why.status
+        for told in waiting.told() if waiting else ():
+            complain(self.command, f"{shown(file)}: {told}")
+        return status
 
-    def on_easy(self, file):
+    def on_exact(self, file, waiting):
+        """That of a run on a file as it is."""
+        if file == "-":
+            self.begin(file)
+            return carried_out(self.program, self.words, waiting=waiting)
+        with opened(file) as script:
+            self.begin(file)
+            return carried_out(self.program, self.words, script, file, waiting=waiting)
+
+    def on_easy(self, file, waiting):
         """That of a run on the exact script of a file."""
         reading = Reading(read(file))
         self.begin(file)
@@ -204,7 +214,7 @@ class Runs:
         with tempfile.TemporaryFile() as script:
             script.write(reading.text)
             script.seek(0)
-            return carried_out(self.program, self.words, script, None if file == "-" else file, None if reading.is_same else reading)
+            return carried_out(self.program, self.words, script, None if file == "-" else file, None if reading.is_same else reading, waiting)
 
     def begin(self, file):
         """What is printed next is of this file: where there are several, objects of JSON have its name, and else a heading has."""

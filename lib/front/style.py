@@ -46,7 +46,15 @@ class Style:
 # That of this run.
 STYLE = Style()
 # The objects of JSON of each command; the others make their own, or have none.
-OBJECTS = {"run": objects.rows, "explain": objects.notes, "who": objects.objects, "orphans": objects.objects, "journal": objects.journal}
+OBJECTS = {
+    "run": objects.rows,
+    "explain": objects.notes,
+    "why": objects.notes,
+    "who": objects.objects,
+    "orphans": objects.objects,
+    "journal": objects.journal,
+    "replay": objects.replay,
+}
 
 
 def taken(options, command):

@@ -1,7 +1,7 @@
 """What each word after `:` does, given the session and what follows the word. It gives the lines that are said."""
 
+import json
 import os
-import re
 
 import calls
 from choosing import chosen
@@ -9,7 +9,6 @@ from programs import Fault
 from words import Usage, count, unknown
 from running import heard, lines_of, plainly, text_of
 
-AT_THE_END = re.compile(r"^    (?:at the end (.*)|(a deadlock, .*))$", re.M)
 
 
 class Quit(Exception):
@@ -36,8 +35,8 @@ def why(session, line):
 def who(session, words):
     if words:
         return carried_out(session, ["who", "--script", "-", "--", *words.split()])
-    notes = "\n".join(carried_out(session, ["explain", "-"]))
-    return [wait or deadlock for wait, deadlock in AT_THE_END.findall(notes)] or ["nobody waits"]
+    found = [json.loads(it) for it in carried_out(session, ["explain", "--json", "-"])]
+    return [note.removeprefix("at the end ") for it in found for note in it.get("end", [])] or ["nobody waits"]
 
 
 def listed(session, words):

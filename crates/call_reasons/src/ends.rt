@@ -2,13 +2,12 @@
 
 use crate::asked::Asked;
 use crate::calls::{object_of, word_of};
-use crate::cases::{NamedObject, Told, object_named};
+use crate::cases::{Told, object_named};
 use crate::denials::denial_of;
-use crate::objects::{print_allowed, print_named, rights_in_words};
+use crate::objects::{print_denial, print_named, rights_in_words};
 use ipc_call::{Call, Rule};
 use ipc_space::Space;
 use number_text::print_number;
-use perm_words::{print_class, print_object};
 use std::fmt::Write;
 
 /// A call that began to wait.
@@ -93,18 +92,13 @@ fn explain_loss(out: &mut String, space: &Space, client: u32, asked: Option<Aske
     let (Some(asked), Some(creds)) = (asked, space.creds_of(client)) else {
         return Ok(());
     };
-    let Some(NamedObject { kind, id, perm }) = object_named(space, asked.target) else {
+    let Some(object) = object_named(space, asked.target) else {
         return Ok(());
     };
-    print_object(out, kind, id, &perm)?;
-    out.push_str("\n")?;
-    print_class(out, creds, &perm)?;
-    out.push_str("\n")?;
-    if let Some(denial) = denial_of(creds, &perm, asked.want) {
+    if let Some(denial) = denial_of(creds, &object.perm, asked.want) {
         let rights = rights_in_words(denial.want);
-        write!(out, "the call that waited asks to {rights}; ")?;
-        print_allowed(out, &perm, denial.want)?;
-        out.push_str("CAP_IPC_OWNER allows it to any caller\n")?;
+        write!(out, "the call that waited asks to {rights}")?;
+        print_denial(out, creds, &object, denial, None)?;
     }
     Ok(())
 }

@@ -7,6 +7,7 @@
 mod asked;
 mod calls;
 mod cases;
+mod changes;
 mod denials;
 mod ends;
 mod objects;

@@ -3,22 +3,16 @@
 use crate::asked::{Target, asked_by, controlled_by};
 use crate::calls::{key_of, object_of, word_of};
 use crate::cases::{Case, NamedObject, Told, object_named};
+use crate::changes::{print_changes, print_changes_to_control};
 use crate::denials::{Denial, denial_of};
-use ipc_call::{Call, Kind, Mode, Perm, is_read_only};
+use ipc_call::{Call, Kind, Mode, is_read_only};
+use ipc_creds::Creds;
 use ipc_perm::Want;
 use number_text::print_number;
 use perm_words::{
-    Standing, class_bits, is_within, kind_name, print_class, print_mode, print_object, rights_in,
-    rights_name,
+    Standing, kind_name, print_class, print_mode, print_object, rights_in, rights_name,
 };
 use std::fmt::Write;
-
-/// The classes, each with its name.
-static CLASSES: [(Standing, &str); 3] = [
-    (Standing::Owner, "the owner"),
-    (Standing::OwnersGroup, "the group"),
-    (Standing::Other, "others"),
-];
 
 /// Tells which permission bits decided, and what would have allowed it.
 pub(crate) fn explain_bits(out: &mut String, case: Case<'_>) -> Told {
@@ -31,24 +25,43 @@ pub(crate) fn explain_bits(out: &mut String, case: Case<'_>) -> Told {
     ) else {
         return Ok(());
     };
-    print_object(out, object.kind, object.id, &object.perm)?;
-    out.push_str("\n")?;
     if let Some(denial) = denial_of(creds, &object.perm, asked.want) {
-        print_class(out, creds, &object.perm)?;
-        out.push_str("\n")?;
-        explain_denial(out, case.call, &object.perm, denial)?;
+        print_asking(out, case.call)?;
+        out.push_str(" to ")?;
+        out.push_str(rights_in_words(denial.want))?;
+        out.push_str(asking_detail(case.call))?;
+        print_denial(out, creds, &object, denial, Some(case.call))?;
     }
     Ok(())
 }
 
-fn explain_denial(out: &mut String, call: &Call, perm: &Perm, denial: Denial) -> Told {
-    print_asking(out, call)?;
-    out.push_str(" to ")?;
-    out.push_str(rights_in_words(denial.want))?;
-    out.push_str(asking_detail(call))?;
-    out.push_str("; ")?;
-    print_allowed(out, perm, denial.want)?;
-    out.push_str("CAP_IPC_OWNER allows it to any caller\n")
+/// Appends, behind what asks for rights, which the caller's class gets; then how the caller is in this class, the object, and what would
+/// allow the rights.
+pub(crate) fn print_denial(
+    out: &mut String,
+    creds: &Creds,
+    object: &NamedObject,
+    denial: Denial,
+    call: Option<&Call>,
+) -> Told {
+    let NamedObject { kind, id, perm } = object;
+    out.push_str(gets(denial.standing))?;
+    out.push_str(rights_name(rights_in(denial.bits)))?;
+    out.push_str("\n")?;
+    print_class(out, creds, perm)?;
+    out.push_str("\n")?;
+    print_object(out, *kind, *id, perm)?;
+    out.push_str("\n")?;
+    print_changes(out, creds, perm, denial.want, call)
+}
+
+/// What stands before the rights of the class that decides.
+fn gets(standing: Standing) -> &'static str {
+    match standing {
+        Standing::Owner | Standing::Creator => "; the owner gets ",
+        Standing::OwnersGroup | Standing::CreatorsGroup => "; the group gets ",
+        Standing::Other => "; others get ",
+    }
 }
 
 /// Appends what of the call asks.
@@ -101,32 +114,6 @@ pub(crate) fn rights_in_words(want: Want) -> &'static str {
     }
 }
 
-/// Appends to which classes the mode gives the rights.
-pub(crate) fn print_allowed(out: &mut String, perm: &Perm, want: Want) -> Told {
-    let mode = perm.mode.bits();
-    let mut are_some = false;
-    for (standing, name) in &CLASSES {
-        let rights = rights_in(class_bits(*standing, mode));
-        if is_within(want, rights) {
-            out.push_str(if are_some {
-                " and "
-            } else {
-                "the mode allows that to "
-            })?;
-            out.push_str(name)?;
-            out.push_str(" (")?;
-            out.push_str(rights_name(rights))?;
-            out.push_str(")")?;
-            are_some = true;
-        }
-    }
-    out.push_str(if are_some {
-        "; "
-    } else {
-        "the mode allows that to no class; "
-    })
-}
-
 /// Tells whose the object is that only its owner or creator may set and remove.
 pub(crate) fn explain_control(out: &mut String, case: Case<'_>) -> Told {
     let Some((kind, id)) = controlled_by(case.call) else {
@@ -138,12 +125,14 @@ pub(crate) fn explain_control(out: &mut String, case: Case<'_>) -> Told {
     ) else {
         return Ok(());
     };
-    print_object(out, kind, id, &perm)?;
     let (user, word) = (creds.euid(), word_of(case.call));
     write!(
         out,
-        "\nuser {user} is neither its owner nor its creator; {word} asks for no permission bit, and CAP_SYS_ADMIN allows it to any caller\n"
-    )
+        "user {user} is neither its owner nor its creator, and {word} asks for no permission bit\n"
+    )?;
+    print_object(out, kind, id, &perm)?;
+    out.push_str("\n")?;
+    print_changes_to_control(out, creds, &perm)
 }
 
 /// Tells that the identifier names no object.
@@ -183,10 +172,11 @@ pub(crate) fn explain_key_exists(out: &mut String, case: Case<'_>) -> Told {
     let Some(object) = object_named(case.space, Target::Key(kind, key)) else {
         return Ok(());
     };
-    print_object(out, object.kind, object.id, &object.perm)?;
     out.push_str(
-        "\nthe flags have both IPC_CREAT (01000) and IPC_EXCL (02000), which ask for a key that no object has\n",
-    )
+        "the flags have both IPC_CREAT (01000) and IPC_EXCL (02000), which ask for a key that no object has\n",
+    )?;
+    print_object(out, object.kind, object.id, &object.perm)?;
+    out.push_str("\n")
 }
 
 /// Tells how many slots a kind has.

@@ -1,5 +1,5 @@
--- Where the notes of an event stand, and what they tell, by its rows in the journal.
-use Rattle.std.specs.Prelude.{ℕ, ◌==◌, List, [], ◌∷◌, if◌then◌else◌, Option, Some, None, option_and_then}
+-- Where the notes of an event stand, and what they tell, by its rows in the journal; and how the lines of a script look.
+use Rattle.std.specs.Prelude.{ℕ, ◌==◌, List, [], ◌∷◌, ◌++◌, codes, decimal, if◌then◌else◌, Option, Some, None, option_and_then}
 use Rattle.ipc_call.specs.declared.replies.JournalRow.{JournalRow}
 use Rattle.ipc_call.specs.declared.replies.JournalRow.TheVariants.{Called, Answered}
 use Rattle.ipc_call.specs.declared.rules.Rule.{Rule}
@@ -9,6 +9,7 @@ use Rattle.call_reasons.specs.Waits.{awaited_in}
 use Rattle.call_reasons.specs.declared.waits.Awaited.{Awaited}
 use Rattle.row_notes.specs.declared.notes.Head.{Head}
 use Rattle.row_notes.specs.declared.notes.Head.TheVariants.{Event, End}
+use Rattle.shown_lines.specs.ScriptLines.{line_text}
 use Rattle.ipc_explain.specs.declared.explainer.Own.{Own}
 use Rattle.ipc_explain.specs.declared.explainer.Own.TheVariants.{Granted, Refused, Waits}
 
@@ -38,3 +39,13 @@ waiting_caller_of e = caller_where e.client (own_of e.answers)
 -- what an event's own call waits for
 abbrev pub newly_awaited_in : State → Entered → Option Awaited
 newly_awaited_in s e = option_and_then (awaited_in s) (waiting_caller_of e)
+
+-- a line behind its number, and one with calls as it stands above its row
+abbrev pub line_number : ℕ → List ℕ
+line_number number = codes "line " ++ (decimal number ++ codes ": ")
+
+abbrev pub numbered : ℕ → List ℕ → List ℕ
+numbered number text = line_number number ++ (text ++ 10 ∷ [])
+
+abbrev pub shown_line : ℕ → List ℕ → List ℕ
+shown_line number text = numbered number (line_text text)

@@ -1,12 +1,13 @@
 //! A script that is run and explained.
 
-ghost use Rattle.std.specs.Prelude.{◌≡◌, [], Some, List, ℕ, IfOk};
+ghost use Rattle.std.specs.Prelude.{◌≡◌, ◌++◌, [], Some, List, ℕ, IfOk, OnErr, OnOk, string_bytes};
 ghost use Rattle.call_reasons.specs.Cases.{entered};
 ghost use Rattle.ipc_history.specs.History.{History, run, with_event};
 ghost use Rattle.ipc_model.specs.Step.{Event};
 ghost use Rattle.row_notes.specs.Merging.{IsExplained, explained};
-ghost use Rattle.row_notes.specs.Noted.{AddsNote, Noted};
-ghost use Rattle.ipc_explain.specs.Explaining.{head_of, newly_awaited_in, own_of, waiting_caller_of};
+ghost use Rattle.row_notes.specs.Noted.{AddsNote, Noted, with_note};
+ghost use Rattle.shown_lines.specs.Folding.{folded_all, lines_text};
+ghost use Rattle.ipc_explain.specs.Explaining.{head_of, line_number, newly_awaited_in, numbered, own_of, shown_line, waiting_caller_of};
 ghost use Rattle.ipcsh.specs.Runs.{EndsBy, transfer};
 
 use call_reasons::{
@@ -16,40 +17,49 @@ use call_reasons::{
 use ipc_call::{JournalRow, Memory, Rule};
 use ipc_hints::Hints;
 use ipc_space::{Effects, Space};
-use ipc_text::{Command, Line, Reason, split_word};
+use ipc_text::{Command, Line, Reason, is_plain, split_word};
 use ipcsh::{Fault, Listener, Summary, run_with};
+use number_text::print_number;
 use row_notes::{Head, Notes, merge};
+use shown_lines::{fold, print_line};
 use std::alloc::Global;
 use std::fmt::Write;
 use std::io::Read;
 use wait_graph::Graph;
 
+/// How wide a note is beside its margin of four blanks, and a line of the script beside its own: a screen has 80 columns.
+const NOTE_WIDTH: usize = 76;
+
+const LINE_WIDTH: usize = 78;
+
 /// What is told may fail where an allocation does; then a part of the text may stand in the string.
 type Told = Result<(), Memory>;
 
-/// What a run printed, with notes below its rows, and how it ended.
+/// What a run printed, with lines above its rows and notes below them, and how it ended.
 #[derive(Debug, Drop)]
 pub struct Explained {
-    /// The rows with the notes.
+    /// The rows with the lines and the notes.
     pub text: Vec<u8>,
     /// How the run ended.
     pub ended: Result<Summary, Fault>,
 }
 
-/// Runs a script to its end, and explains its rows. The error comes only where an allocation for the text fails; one that
-/// fails for a note leaves that note out.
+/// Runs a script to its end, and explains its rows: the line of the script stands above the first of its rows, with its flags by
+/// name, and what a row means stands below it. The error comes only where an allocation for the text fails; one that fails for a note or a line
+/// leaves that out.
 pub fn explain<R: Read>(alloc: Global, reader: &mut R) -> Result<Explained, Memory>
     ensures { IfOk result (λ e. (rows : List ℕ)
-        × (notes : List Noted)
+        × (above : List Noted)
+        × (below : List Noted)
         × EndsBy (transfer (R.remaining reader.old) (R.remaining reader.new) (Some []) (Some rows)) e.ended
         × IsExplained rows e.text.items
-        × (e.text.items ≡ explained rows notes)) }
+        × (e.text.items ≡ explained rows above below)) }
 {
     let mut rows = Vec::new(alloc);
     let mut explainer = Explainer::new(alloc);
     let ended = run_with(alloc, reader, &mut rows, &mut explainer);
     explainer.finish();
-    let text = merge(alloc, rows.as_slice(), &explainer.notes)?;
+    let text = merge(alloc, rows.as_slice(), &explainer.lines, &explainer.notes)?;
     Ok(Explained { text, ended })
 }
 
@@ -68,8 +78,13 @@ struct Explainer {
     /// None since a client couldn't be noted.
     hints: Option<Hints>,
     clients: Vec<Client>,
+    /// The latest line with calls, until it stands above a row.
+    line: Vec<u8>,
     /// The note on the next event. It begins with the warnings of the latest line with calls.
     text: String,
+    /// The lines above rows.
+    lines: Notes,
+    /// The notes below them.
     notes: Notes,
 }
 
@@ -79,7 +94,9 @@ impl Explainer {
             alloc,
             hints: Some(Hints::new(alloc)),
             clients: Vec::new(alloc),
+            line: Vec::new(alloc),
             text: String::new(alloc),
+            lines: Notes::new(alloc),
             notes: Notes::new(alloc),
         }
     }
@@ -98,8 +115,41 @@ impl Explainer {
     fn keep(&mut self, head: Head, text: &str) {
         let mut note = String::new(self.alloc);
         if push_bare(&mut note, text).is_ok() {
-            let _ = self.notes.add(head, note.as_str());
+            let _ = add_folded(
+                self.alloc,
+                &mut self.notes,
+                head,
+                note.as_bytes(),
+                NOTE_WIDTH,
+            );
         }
+    }
+
+    /// Puts a bad line above its row, where it has only tabs and printing characters.
+    fn keep_bad(&mut self, number: u64, line: &Line<'_>) {
+        if let Line::Text(text) = line {
+            if is_plain(text) {
+                self.line.clear();
+                if print_numbered(self.alloc, &mut self.line, number, text).is_ok() {
+                    self.place_line(Head::Line(number));
+                }
+            }
+        }
+    }
+
+    /// Puts the latest line above the row with this head, unless it stands above an earlier one.
+    fn place_line(&mut self, head: Head)
+        ensures lines { AddsNote self.old.lines self.new.lines head }
+        ensures notes { self.new.notes ≡ self.old.notes }
+    {
+        let _ = add_folded(
+            self.alloc,
+            &mut self.lines,
+            head,
+            self.line.as_slice(),
+            LINE_WIDTH,
+        );
+        self.line.clear();
     }
 
     fn add_client(&mut self, text: &[u8]) -> Told {
@@ -134,7 +184,13 @@ impl Explainer {
         ensures { AddsNote self.old.notes self.new.notes head }
     {
         if told.is_ok() {
-            let _ = self.notes.add(head, self.text.as_str());
+            let _ = add_folded(
+                self.alloc,
+                &mut self.notes,
+                head,
+                self.text.as_bytes(),
+                NOTE_WIDTH,
+            );
         }
         self.text.clear();
     }
@@ -250,7 +306,13 @@ impl Explainer {
         let mut graph = Graph::new(self.alloc, space.clients())?;
         self.print_waiters(&mut text, &mut graph, space)?;
         self.print_cycle(&mut text, &graph, space.clients())?;
-        self.notes.add(Head::End, text.as_str())
+        add_folded(
+            self.alloc,
+            &mut self.notes,
+            Head::End,
+            text.as_bytes(),
+            NOTE_WIDTH,
+        )
     }
 
     /// Appends a line for each client that waits, and notes for whom.
@@ -309,6 +371,47 @@ impl Explainer {
         }
         Ok(())
     }
+}
+
+/// Adds a note of whole lines, which are folded to this width. Where an allocation fails, nothing is added.
+fn add_folded(alloc: Global, notes: &mut Notes, head: Head, text: &[u8], width: usize) -> Told
+    ensures ok { OnOk result (notes.new ≡ with_note notes.old head (lines_text (folded_all width text.now))) }
+    ensures err { OnErr result (notes.new ≡ notes.old) }
+{
+    let mut folded = Vec::new(alloc);
+    fold(&mut folded, text, width)?;
+    notes.add(head, folded.as_slice())
+}
+
+/// Appends a line of a script behind its number.
+fn print_numbered(alloc: Global, out: &mut Vec<u8>, number: u64, text: &[u8]) -> Told
+    ensures { OnOk result (out.new.items ≡ out.old.items ++ numbered number text.now) }
+{
+    let mut head = String::new(alloc);
+    print_line_number(&mut head, number)?;
+    out.extend_from_slice(head.as_bytes())?;
+    out.extend_from_slice(text)?;
+    out.extend_from_slice(b"\n")
+}
+
+/// Appends the number of a line, as it stands before the line.
+fn print_line_number(out: &mut String, number: u64) -> Told
+    ensures { OnOk result (string_bytes out.new ≡ string_bytes out.old ++ line_number number) }
+{
+    out.push_str("line ")?;
+    print_number(out, number)?;
+    out.push_str(": ")
+}
+
+/// A line with calls as it stands above its row: behind its number, with its flags by name.
+fn show_line(alloc: Global, number: u64, text: &[u8]) -> Result<Vec<u8>, Memory>
+    ensures { IfOk result (λ line. line.items ≡ shown_line number text.now) }
+{
+    let mut line = Vec::new(alloc);
+    let mut shown = Vec::new(alloc);
+    print_line(&mut shown, text)?;
+    print_numbered(alloc, &mut line, number, shown.as_slice())?;
+    Ok(line)
 }
 
 /// The name of a client.
@@ -409,6 +512,10 @@ impl Listener for Explainer {
     }
 
     fn calls(&mut self, number: u64, client: u32, text: &[u8], command: &Command) {
+        self.line.clear();
+        if let Ok(line) = show_line(self.alloc, number, text) {
+            self.line = line;
+        }
         let mut hint = String::new(self.alloc);
         if let Some(hints) = &mut self.hints {
             if hints.calls(number, client, command) && hints.warn(number, text, &mut hint).is_ok() {
@@ -419,6 +526,7 @@ impl Listener for Explainer {
     }
 
     fn bad(&mut self, number: u64, line: &Line<'_>, reason: Reason) {
+        self.keep_bad(number, line);
         let mut hint = String::new(self.alloc);
         if let Some(hints) = &mut self.hints {
             if hints.bad(number, line, reason, &mut hint).is_ok() {
@@ -434,6 +542,8 @@ impl Listener for Explainer {
 
     fn answered(&mut self, space: &mut Space, _client: u32, _effects: &Effects) {
         let awaited = newly_awaited(space);
+        let place = space.events();
+        self.place_line(Head::Event { place, turn: 0 });
         self.explain_event(space, awaited);
     }
 

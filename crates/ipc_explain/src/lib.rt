@@ -1,5 +1,5 @@
-//! What a script did, in words: its rows with notes below them, of each refusal, of each call that waits and of each wait that
-//! ends.
+//! What a script did, in words: its rows with the lines of the script above them, and notes below them, of each refusal, of each call that
+//! waits and of each wait that ends.
 #![tactic(auto)]
 
 mod explainer;

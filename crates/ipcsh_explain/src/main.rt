@@ -1,4 +1,4 @@
-//! The program `ipcsh_explain`: runs a script as `ipcsh` does, and prints below each row what it means. Status 0: all lines
+//! The program `ipcsh_explain`: runs a script as `ipcsh` does, and prints above each row its line and below it what it means. Status 0: all lines
 //! were good. 1: some line was bad. 2: a fault. 3: words that the program doesn't take.
 #![tactic(auto)]
 

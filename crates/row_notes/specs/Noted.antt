@@ -1,4 +1,4 @@
--- A note: the row below which it stands, and its text.
+-- A note: the row that it is of, and its text.
 use Rattle.std.specs.Prelude.{◌≡◌, ℕ, ◌+◌, List, [], ◌∷◌, ◌++◌, codes, decimal, drop, take}
 use Rattle.row_notes.specs.declared.notes.Head.{Head}
 use Rattle.row_notes.specs.declared.notes.Head.TheVariants.{Event, Line, End}
@@ -27,7 +27,7 @@ abbrev pub with_note : List Noted → Head → List ℕ → List Noted
 with_note notes head [] = notes
 with_note notes head (b ∷ bs) = notes ++ record { head = head; text = b ∷ bs } ∷ []
 
--- what the row begins with below which a note stands: the row of a reply or of a call that waits, or that of a bad line
+-- what the row of a note begins with: that of a reply or of a call that waits, or of a bad line
 abbrev pub head_text : Head → List ℕ
 head_text (Event place turn) = decimal place ++ (codes "." ++ (decimal turn ++ codes " "))
 head_text (Line number) = codes "line " ++ (decimal number ++ codes ": ")

@@ -1,4 +1,4 @@
-//! Rows of a run with notes between them, each below its row.
+//! Rows of a run with notes between them, each above or below its row.
 #![tactic(auto)]
 
 mod merging;

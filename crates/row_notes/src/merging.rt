@@ -1,17 +1,18 @@
-//! Rows with notes below them.
+//! Rows with notes above and below them.
 
 ghost use Rattle.std.specs.Prelude.{◌≡◌, ◌-◌, ◌<◌, ◌≤◌, ◌++◌, [], ◌∷◌, IfOk, OnOk, filter, length, nat_eq, string_bytes, take};
 ghost use Rattle.std.specs.List.{starts_with};
 ghost use Rattle.ipc_words.specs.Lines.{split};
 ghost use Rattle.row_notes.specs.Merging.{
   IsExplained,
-  below,
   beyond,
   explained,
-  is_below,
   is_end,
+  is_of,
+  margin_below,
   note_lines,
   notes_text,
+  of_row,
 };
 ghost use Rattle.row_notes.specs.Noted.{head_text, left_of, next_head};
 
@@ -20,29 +21,41 @@ use ipc_words::split_line;
 use number_text::print_number;
 use std::alloc::{AllocError, Global};
 
-/// What stands before each line of a note.
-const MARGIN: &[u8] = b"    ";
+/// What stands before each line of a note above its row.
+const ABOVE: &[u8] = b"> ";
 
-/// The rows with the notes: each note stands below the row that begins with its head, each of its lines behind four
-/// blanks. From the first note on whose row doesn't come, notes are left out, but those at the end. The error comes only
-/// where an allocation fails.
-pub fn merge(alloc: Global, rows: &[u8], notes: &Notes) -> Result<Vec<u8>, AllocError>
-    ensures text { IfOk result (λ out. out.items ≡ explained rows.now notes.now) }
+/// What stands before each line of a note below its row, and at the end.
+const BELOW: &[u8] = b"    ";
+
+/// The rows with notes: each stands above or below the row that begins with its head, each of its lines behind `> ` or behind four
+/// blanks. From the first note above whose row doesn't come, such notes are left out; so those below, but for those at the end. The
+/// error comes only where an allocation fails.
+pub fn merge(
+    alloc: Global,
+    rows: &[u8],
+    above: &Notes,
+    below: &Notes,
+) -> Result<Vec<u8>, AllocError>
+    ensures text { IfOk result (λ out. out.items ≡ explained rows.now above.now below.now) }
     ensures kept { IfOk result (λ out. IsExplained rows.now out.items) }
 {
     let mut out = Vec::new(alloc);
-    let mut head = String::new(alloc);
-    let mut left = notes.all();
+    let mut upper = String::new(alloc);
+    let mut lower = String::new(alloc);
+    let mut left_above = above.all();
+    let mut left_below = below.all();
     let mut rest = rows;
-    print_next(&mut head, left)?;
+    print_next(&mut upper, left_above)?;
+    print_next(&mut lower, left_below)?;
     while let Some((row, others)) = split_line(rest) {
+        left_above = print_notes(&mut out, &mut upper, ABOVE, row, left_above)?;
         print_first(&mut out, rest, others)?;
-        left = print_below(&mut out, &mut head, row, left)?;
+        left_below = print_notes(&mut out, &mut lower, BELOW, row, left_below)?;
         rest = others;
     }
     out.extend_from_slice(rest)?;
     if rest.is_empty() {
-        print_last(&mut out, left)?;
+        print_last(&mut out, left_below)?;
     }
     Ok(out)
 }
@@ -56,35 +69,36 @@ fn print_first(out: &mut Vec<u8>, text: &[u8], others: &[u8]) -> Result<(), Allo
     out.extend_from_slice(first)
 }
 
-/// Appends the notes at the front that stand below the row, and answers those that are left. `head` is what the row of
-/// the first of these begins with.
-fn print_below<'n>(
+/// Appends the notes at the front that are of the row, and answers those that are left. `head` is what the row of the first of
+/// these begins with.
+fn print_notes<'n>(
     out: &mut Vec<u8>,
     head: &mut String,
+    margin: &[u8],
     row: &[u8],
     notes: NotesLeft<'n>,
 ) -> Result<NotesLeft<'n>, AllocError>
     requires { string_bytes head.old ≡ next_head (left_of notes) }
-    ensures text { OnOk result (out.new.items ≡ out.old.items ++ notes_text (below row.now (left_of notes.entry))) }
+    ensures text { OnOk result (out.new.items ≡ out.old.items ++ notes_text margin.now (of_row row.now (left_of notes.entry))) }
     ensures left { IfOk result (λ left. left_of left ≡ beyond row.now (left_of notes.entry)) }
     ensures head { IfOk result (λ left. string_bytes head.new ≡ next_head (left_of left)) }
 {
     let mut left = notes;
     while let Some((place, text, others)) = left.split_first() {
-        if !stands_below(row, place, head) {
+        if !is_its_row(row, place, head) {
             return Ok(left);
         }
-        print_note(out, text)?;
+        print_note(out, margin, text)?;
         print_next(head, others)?;
         left = others;
     }
     Ok(left)
 }
 
-/// Whether a note stands below the row, where its head is written so.
-fn stands_below(row: &[u8], place: Head, head: &str) -> bool
+/// Whether the row is that of a note, whose head is written so.
+fn is_its_row(row: &[u8], place: Head, head: &str) -> bool
     requires { head.now ≡ head_text place }
-    ensures { result ≡ is_below row.now place }
+    ensures { result ≡ is_of row.now place }
 {
     match place {
         Head::End => false,
@@ -142,12 +156,12 @@ fn print_head(head: &mut String, place: Head) -> Result<(), AllocError>
 /// Appends the notes that stand below the last row.
 fn print_last(out: &mut Vec<u8>, notes: NotesLeft<'_>) -> Result<(), AllocError>
     ensures { OnOk result (out.new.items
-        ≡ out.old.items ++ notes_text (filter (λ n. is_end n.head) (left_of notes.entry))) }
+        ≡ out.old.items ++ notes_text margin_below (filter (λ n. is_end n.head) (left_of notes.entry))) }
 {
     let mut left = notes;
     while let Some((place, text, others)) = left.split_first() {
         if place == Head::End {
-            print_note(out, text)?;
+            print_note(out, BELOW, text)?;
         }
         left = others;
     }
@@ -155,15 +169,15 @@ fn print_last(out: &mut Vec<u8>, notes: NotesLeft<'_>) -> Result<(), AllocError>
 }
 
 /// Appends the whole lines of a text as those of a note.
-fn print_note(out: &mut Vec<u8>, text: &[u8]) -> Result<(), AllocError>
-    ensures { OnOk result (out.new.items ≡ out.old.items ++ note_lines (split text.now).whole) }
+fn print_note(out: &mut Vec<u8>, margin: &[u8], text: &[u8]) -> Result<(), AllocError>
+    ensures { OnOk result (out.new.items ≡ out.old.items ++ note_lines margin.now (split text.now).whole) }
 {
     let mut rest = text;
     while !rest.is_empty() {
         let Some((_, others)) = split_line(rest) else {
             return Ok(());
         };
-        out.extend_from_slice(MARGIN)?;
+        out.extend_from_slice(margin)?;
         print_first(out, rest, others)?;
         rest = others;
     }

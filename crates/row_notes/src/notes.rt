@@ -1,4 +1,4 @@
-//! Notes, each with the row below which it stands.
+//! Notes, each with its row.
 
 ghost use Rattle.std.specs.Prelude.{◌≡◌, [], ◌∷◌, MatchOption, OnOk, OnErr};
 ghost use Rattle.row_notes.specs.Noted.{left_of, with_note};
@@ -6,7 +6,7 @@ ghost use Rattle.row_notes.specs.Noted.{left_of, with_note};
 use std::alloc::{AllocError, Global};
 use std::marker::Model;
 
-/// The row below which a note stands.
+/// The row of a note.
 #[derive(Clone, Copy, Debug, PartialEq, Eq)]
 pub enum Head {
     /// That of a reply, or of a call that waits, by its place and turn.
@@ -56,7 +56,7 @@ impl Notes {
 
     /// Adds a note of whole lines, unless its text is empty. Where an allocation fails, nothing is added.
     #[tactic(auto, using(crate::proofs::NotesLemmas::noted_push, crate::proofs::NotesLemmas::total_push))]
-    pub fn add(&mut self, head: Head, text: &str) -> Result<(), AllocError>
+    pub fn add(&mut self, head: Head, text: &[u8]) -> Result<(), AllocError>
         ensures ok { OnOk result (self.new ≡ with_note self.old head text.now) }
         ensures err { OnErr result (self.new ≡ self.old) }
     {
@@ -64,7 +64,7 @@ impl Notes {
             return Ok(());
         }
         self.notes.reserve(1)?;
-        self.text.extend_from_slice(text.as_bytes())?;
+        self.text.extend_from_slice(text)?;
         let len = text.len();
         self.notes.push(Note { head, len }).unwrap();
         Ok(())

@@ -8,10 +8,12 @@ use Rattle.ipc_explain.proofs.explainer.explain.Goals as goal
 pub returns : goal.returns
 returns g c =
     let rows = c.run_with-ended.new.writer.items in
-    let notes = c.finish.new.self.notes in (
+    let above = c.finish.new.self.lines in
+    let below = c.finish.new.self.notes in (
       rows,
-      notes,
+      above,
+      below,
       subst (λ (before : List ℕ). EndsBy (transfer (g.R.Read.remaining c.args.reader.now) (g.R.Read.remaining c.run_with-ended.new.reader) (Some before) (Some rows)) c.run_with-ended.result) c.new-rows.ensures.items c.run_with-ended.ensures,
       subst (λ (printed : List ℕ). IsExplained printed c.in_ok-text.text.items) c.as_slice.ensures.value c.in_ok-text.ensures.kept,
-      c.in_ok-text.ensures.text ∙ ap (λ (printed : List ℕ). explained printed notes) c.as_slice.ensures.value,
+      c.in_ok-text.ensures.text ∙ ap (λ (printed : List ℕ). explained printed above below) c.as_slice.ensures.value,
     )

@@ -6,7 +6,7 @@ use Rattle.row_notes.proofs.merging.print_note.Given as goal
 -- the lines so far, and those that are left
 abbrev pub invariant-loop-rest : goal.invariant-loop-rest
 invariant-loop-rest l =
-    l.initial.out.items ++ note_lines (split l.initial.rest).whole ≡ l.out.items ++ note_lines (split l.rest).whole
+    l.initial.out.items ++ note_lines l.margin (split l.initial.rest).whole ≡ l.out.items ++ note_lines l.margin (split l.rest).whole
 
 abbrev pub decreases-loop-rest : goal.decreases-loop-rest
 decreases-loop-rest l = length l.rest

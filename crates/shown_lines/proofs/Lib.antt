@@ -1,0 +1,2 @@
+mod FoldingLemmas
+mod WordLemmas
