@@ -1,7 +1,7 @@
 use Rattle.std.proofs.Common.{Ok, refl, subst}
 use Rattle.ipc_call.specs.declared.replies.Reply.{Reply}
 use Rattle.ipc_seat.specs.Raw.{GoesOnRaw, HandsOut, room}
-use Rattle.ipc_seat.specs.Seats.{Answered, State, state_with}
+use Rattle.ipc_seat.specs.Seats.{Answered, state_with}
 use Rattle.ipc_seat.specs.declared.calls.Progress.TheVariants as progress
 use Rattle.ipc_seat.specs.declared.seat.Phase.{Phase}
 use Rattle.ipc_seat.proofs.Resting.{goes_not_on}
