@@ -70,7 +70,8 @@ enum ipcsh_op {
     IPCSH_SEMGET, IPCSH_SEMOP, IPCSH_SEMTIMEDOP,
     IPCSH_GETVAL, IPCSH_GETPID, IPCSH_GETNCNT, IPCSH_GETZCNT, IPCSH_GETALL, IPCSH_SETVAL, IPCSH_SETALL,
     IPCSH_SHMGET, IPCSH_SHMAT, IPCSH_SHMDT, IPCSH_SHMREAD, IPCSH_SHMWRITE,
-    IPCSH_STAT, IPCSH_SET, IPCSH_RMID, IPCSH_LISTING, IPCSH_INTERRUPT, IPCSH_SETCREDS, IPCSH_EXIT
+    IPCSH_STAT, IPCSH_SET, IPCSH_RMID, IPCSH_LISTING, IPCSH_INTERRUPT, IPCSH_SETCREDS, IPCSH_EXIT,
+    IPCSH_INTERRUPT_THREAD, IPCSH_KILL, IPCSH_ASSUME, IPCSH_BEGIN, IPCSH_FORK, IPCSH_CLONE, IPCSH_NAME, IPCSH_EXEC
 };
 
 enum ipcsh_kind { IPCSH_QUEUE, IPCSH_SEMS, IPCSH_SEGMENT };
@@ -123,6 +124,8 @@ struct ipcsh_request {
     int32_t value;
     uint32_t uid, gid, mode;
     uint32_t more;    /* not 0: `size` is the msg_qbytes of IPC_SET, and setcreds sets supplementary groups */
+    uint32_t ruid, rgid, suid, sgid; /* the real and the saved ids of begin and assume */
+    uint8_t caps;     /* their capabilities */
 };
 
 /* A reply's numbers. */
@@ -156,7 +159,7 @@ struct ipcsh_lists {
     size_t ops_len;
     const uint16_t *values;          /* of SETALL */
     size_t values_len;
-    const uint32_t *groups;          /* of setcreds */
+    const uint32_t *groups;          /* of setcreds, begin and assume */
     size_t groups_len;
 };
 
@@ -339,7 +342,8 @@ static inline const char *ipcsh_rule_name(uint32_t code)
         "no-key", "ended", "no-process", "interrupted", "message-too-long", "too-many-operations", "queue-full", "would-wait",
         "timed-out", "owner-bits", "group-bits", "other-bits", "read-only", "key-exists", "bad-id", "bad-type", "text-too-long",
         "bad-size", "bad-sem", "bad-argument", "no-operations", "sem-out-of-set", "not-attached", "out-of-segment",
-        "too-many-attached", "no-slot", "value-range", "undo-range", "no-message", "removed"
+        "too-many-attached", "no-slot", "value-range", "undo-range", "no-message", "removed",
+        "client-in-use", "pid-in-use", "bad-pid", "no-client"
     };
     return code < sizeof names / sizeof *names ? names[code] : "";
 }
@@ -621,11 +625,29 @@ static inline int ipcsh_listing(ipcsh *handle, uint64_t clock, enum ipcsh_kind k
     return ipcsh_named(handle, &request, 0, reply, &room);
 }
 
-/* Ends the waiting call of a client, whose process is its number plus 1, as a signal would (EINTR). */
+/* Ends the waiting calls of a process's threads, as signals would (EINTR). A client's first process has its number plus 1. */
 static inline int ipcsh_interrupt(ipcsh *handle, uint64_t clock, uint32_t pid, struct ipcsh_reply *reply)
 {
     struct ipcsh_request request;
     ipcsh_request_set(&request, IPCSH_INTERRUPT, clock);
+    request.id = pid;
+    return ipcsh_named(handle, &request, 0, reply, 0);
+}
+
+/* Ends the waiting call of one client, as a signal to its thread would. */
+static inline int ipcsh_interrupt_thread(ipcsh *handle, uint64_t clock, uint32_t client, struct ipcsh_reply *reply)
+{
+    struct ipcsh_request request;
+    ipcsh_request_set(&request, IPCSH_INTERRUPT_THREAD, clock);
+    request.id = client;
+    return ipcsh_named(handle, &request, 0, reply, 0);
+}
+
+/* kill(2) with SIGKILL: the threads of the process end, and so does it. */
+static inline int ipcsh_kill(ipcsh *handle, uint64_t clock, uint32_t pid, struct ipcsh_reply *reply)
+{
+    struct ipcsh_request request;
+    ipcsh_request_set(&request, IPCSH_KILL, clock);
     request.id = pid;
     return ipcsh_named(handle, &request, 0, reply, 0);
 }
@@ -644,7 +666,84 @@ static inline int ipcsh_setcreds(ipcsh *handle, uint64_t clock, uint32_t uid, ui
     return ipcsh_named(handle, &request, &lists, reply, 0);
 }
 
-/* _exit(2): what the client's operations with IPCSH_SEM_UNDO left is undone, and its attachments go. */
+/* Credentials as a call hands them in. */
+struct ipcsh_identity {
+    uint32_t uid, gid, ruid, rgid, suid, sgid;
+    const uint32_t *groups; /* may be NULL where there are none */
+    size_t ngroups;         /* 32 at most */
+    uint8_t caps;           /* IPCSH_IPC_OWNER and the others, added */
+};
+
+/* A request that hands in credentials; `id` is the pid of begin. */
+static inline int ipcsh_handed_in(ipcsh *handle, enum ipcsh_op op, uint64_t clock, uint32_t id, const struct ipcsh_identity *creds, struct ipcsh_reply *reply)
+{
+    struct ipcsh_request request;
+    struct ipcsh_lists lists = { 0, 0, 0, 0, 0, 0, 0, 0 };
+    if (!creds)
+        return IPCSH_NULL;
+    ipcsh_request_set(&request, op, clock);
+    request.id = id;
+    request.uid = creds->uid;
+    request.gid = creds->gid;
+    request.ruid = creds->ruid;
+    request.rgid = creds->rgid;
+    request.suid = creds->suid;
+    request.sgid = creds->sgid;
+    request.caps = creds->caps;
+    lists.groups = creds->groups;
+    lists.groups_len = creds->ngroups;
+    return ipcsh_named(handle, &request, &lists, reply, 0);
+}
+
+/* The client has these credentials from now on. */
+static inline int ipcsh_assume(ipcsh *handle, uint64_t clock, const struct ipcsh_identity *creds, struct ipcsh_reply *reply)
+{
+    return ipcsh_handed_in(handle, IPCSH_ASSUME, clock, 0, creds, reply);
+}
+
+/* The client, which has ended, begins anew as the only thread of a new process. */
+static inline int ipcsh_begin(ipcsh *handle, uint64_t clock, uint32_t pid, const struct ipcsh_identity *creds, struct ipcsh_reply *reply)
+{
+    return ipcsh_handed_in(handle, IPCSH_BEGIN, clock, pid, creds, reply);
+}
+
+/* fork(2): another client, which has ended, becomes the only thread of a new process with copies of the caller's attachments. */
+static inline int ipcsh_fork(ipcsh *handle, uint64_t clock, uint32_t child, uint32_t pid, struct ipcsh_reply *reply)
+{
+    struct ipcsh_request request;
+    ipcsh_request_set(&request, IPCSH_FORK, clock);
+    request.num = child;
+    request.id = pid;
+    return ipcsh_named(handle, &request, 0, reply, 0);
+}
+
+/* clone(2): another client, which has ended, becomes one more thread of the caller's process. */
+static inline int ipcsh_clone(ipcsh *handle, uint64_t clock, uint32_t child, struct ipcsh_reply *reply)
+{
+    struct ipcsh_request request;
+    ipcsh_request_set(&request, IPCSH_CLONE, clock);
+    request.num = child;
+    return ipcsh_named(handle, &request, 0, reply, 0);
+}
+
+/* The caller's process has another pid from now on. */
+static inline int ipcsh_name(ipcsh *handle, uint64_t clock, uint32_t pid, struct ipcsh_reply *reply)
+{
+    struct ipcsh_request request;
+    ipcsh_request_set(&request, IPCSH_NAME, clock);
+    request.id = pid;
+    return ipcsh_named(handle, &request, 0, reply, 0);
+}
+
+/* execve(2): the other threads of the process end, and its attachments go. */
+static inline int ipcsh_exec(ipcsh *handle, uint64_t clock, struct ipcsh_reply *reply)
+{
+    struct ipcsh_request request;
+    ipcsh_request_set(&request, IPCSH_EXEC, clock);
+    return ipcsh_named(handle, &request, 0, reply, 0);
+}
+
+/* _exit(2): the client's thread ends; with the last of its process what their operations with IPCSH_SEM_UNDO left is undone, and the attachments go. */
 static inline int ipcsh_exit(ipcsh *handle, uint64_t clock, struct ipcsh_reply *reply)
 {
     struct ipcsh_request request;

@@ -94,9 +94,15 @@ impl Client {
         }
     }
 
-    /// Its process: its number from 1 in the order of the service's clients.
+    /// The pid of its first process: its number plus 1. A process that it comes to later, by `begin`, `fork`, `clone_into` or
+    /// `name`, has the pid that was given.
     pub fn pid(&self) -> u32 {
         self.pid
+    }
+
+    /// Its number, from 0 in the order of the service's clients, by which `fork`, `clone_into` and `interrupt_thread` name it.
+    pub fn number(&self) -> u32 {
+        self.pid - 1
     }
 
     /// Sets the time in seconds of the calls to come, which is 0 at first. The service's clock never goes back.
@@ -112,7 +118,7 @@ impl Client {
     /// Posts a call, and doesn't wait: any thread that calls a client of the service may serve it from now on.
     pub fn post<T>(&mut self, call: Call<T>) -> Result<Posted<'_, T>, Error> {
         let read = call.read;
-        self.begin(call)?;
+        self.enter(call)?;
         Ok(Posted { client: self, read })
     }
 
@@ -121,7 +127,7 @@ impl Client {
         self.post(call)?.wait()
     }
 
-    fn begin<T>(&mut self, mut call: Call<T>) -> Result<(), Error> {
+    fn enter<T>(&mut self, mut call: Call<T>) -> Result<(), Error> {
         self.end_dropped()?;
         call.request.clock = self.time;
         self.is_posted = match self.handle.post(&call.request, call.lists) {

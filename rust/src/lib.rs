@@ -47,6 +47,7 @@ pub use ids::{Attached, Kind, QueueId, SegmentId, SetId};
 pub use journal::Journal;
 pub use messages::{Message, QueueSettings, Receive};
 pub use opening::{Creds, Limits, Service};
+pub use processes::Identity;
 pub use rules::Rule;
 pub use semaphores::SemOp;
 pub use status::{Listed, Owner, Perm, QueueStatus, Row, SegmentStatus, SetStatus};

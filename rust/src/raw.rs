@@ -1,6 +1,7 @@
 //! The numbers of calls and replies, laid out as `include/ipcsh.h` has them, which says what each means.
 
 use crate::semaphores::SemOp;
+use std::mem::offset_of;
 
 /// `struct ipcsh_limits`.
 #[repr(C)]
@@ -54,6 +55,14 @@ pub(crate) enum Operation {
     Interrupt,
     SetCreds,
     Exit,
+    InterruptThread,
+    Kill,
+    Assume,
+    Begin,
+    Fork,
+    Clone,
+    Name,
+    Exec,
 }
 
 /// `struct ipcsh_request`.
@@ -76,6 +85,11 @@ pub(crate) struct Request {
     pub(crate) gid: u32,
     pub(crate) mode: u32,
     pub(crate) more: u32,
+    pub(crate) ruid: u32,
+    pub(crate) rgid: u32,
+    pub(crate) suid: u32,
+    pub(crate) sgid: u32,
+    pub(crate) caps: u8,
 }
 
 impl Request {
@@ -173,3 +187,13 @@ impl Answer {
         self.reply.value
     }
 }
+
+// The sizes of checks/c/layout.c, and where the last fields are.
+const _: () = {
+    assert!(size_of::<RawLimits>() == 32 && offset_of!(RawLimits, journal) == 28);
+    assert!(size_of::<RawClient>() == 144 && offset_of!(RawClient, groups) == 16);
+    assert!(size_of::<SemOp>() == 6 && offset_of!(SemOp, flags) == 4);
+    assert!(size_of::<Request>() == 104 && offset_of!(Request, caps) == 100);
+    assert!(size_of::<RawReply>() == 48 && offset_of!(RawReply, value) == 40);
+    assert!(size_of::<RawObject>() == 128 && offset_of!(RawObject, marked) == 120);
+};

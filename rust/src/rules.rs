@@ -21,7 +21,7 @@ rules! {
     NotOwner "not-owner"
     /// A `msg_qbytes` above MSGMNB is given, and the caller lacks CAP_SYS_RESOURCE.
     NeedsResource "needs-resource"
-    /// The caller has another effective user than the process, and lacks CAP_SYS_ADMIN.
+    /// A thread of the process has another effective user than the caller, which is none of its threads and lacks CAP_SYS_ADMIN.
     NotSameUser "not-same-user"
     /// The user asked for is neither the effective, the real nor the saved one, and the caller lacks CAP_SETUID.
     NotOwnUser "not-own-user"
@@ -35,7 +35,7 @@ rules! {
     NoKey "no-key"
     /// The client has ended.
     Ended "ended"
-    /// No client has this process, or the one that has it has ended.
+    /// No process has this pid, or the thread has ended.
     NoProcess "no-process"
     /// The waiting call was interrupted.
     Interrupted "interrupted"
@@ -94,6 +94,14 @@ rules! {
     NoMessage "no-message"
     /// The object was removed while the call waited.
     Removed "removed"
+    /// The client that is to begin hasn't ended.
+    ClientInUse "client-in-use"
+    /// A process has this pid.
+    PidInUse "pid-in-use"
+    /// The pid is 0.
+    BadPid "bad-pid"
+    /// There is no client of this number.
+    NoClient "no-client"
 }
 
 impl Rule {

@@ -3,7 +3,7 @@ use Rattle.std.proofs.Common.{◌≡◌, ℕ, ℤ, Bool, List, [], ◌∷◌, re
 use Rattle.std.specs.Prelude.{IfSome, option_map, unwrap_or}
 use Rattle.std.specs.FinMap as finite
 use Rattle.ipc_call.specs.declared.calls.Call.{Call}
-use Rattle.ipc_call.specs.declared.calls.Call.TheVariants.{MsgGet, MsgSnd, MsgRcv, SemGet, SemOp, SemTimedOp, GetVal, GetPid, GetNcnt, GetZcnt, GetAll, SetVal, SetAll, ShmGet, ShmAt, ShmDt, ShmRead, ShmWrite, IpcStat, IpcSet, IpcRmid, Listing, Interrupt, SetCreds, Exit}
+use Rattle.ipc_call.specs.declared.calls.Call.TheVariants.{MsgGet, MsgSnd, MsgRcv, SemGet, SemOp, SemTimedOp, GetVal, GetPid, GetNcnt, GetZcnt, GetAll, SetVal, SetAll, ShmGet, ShmAt, ShmDt, ShmRead, ShmWrite, IpcStat, IpcSet, IpcRmid, Listing, Interrupt, InterruptThread, Kill, SetCreds, Assume, Begin, Fork, Clone, Name, Exec, Exit}
 use Rattle.ipc_call.specs.declared.calls.Kind.{Kind}
 use Rattle.ipc_call.specs.declared.calls.Kind.TheVariants as kinds
 use Rattle.ipc_call.specs.declared.calls.SemOper.{SemOper}
@@ -141,7 +141,15 @@ module _ (s : State) (client : ℕ) where
   needed (IpcRmid kind id) = tt
   needed (Listing kind) = tt
   needed (Interrupt pid) = tt
+  needed (InterruptThread target) = tt
+  needed (Kill pid) = tt
   needed (SetCreds euid egid groups) = tt
+  needed (Assume creds) = tt
+  needed (Begin pid creds) = tt
+  needed (Fork child pid) = tt
+  needed (Clone child) = tt
+  needed (Name pid) = tt
+  needed Exec = tt
   needed Exit = tt
 
   if-is : (call : Call) (asked : Option Asked) → IsNeeded call asked → IfSome asked (λ a. needs s client call ≡ permission_of a.want (named s a.target))
@@ -184,7 +192,15 @@ module _ (s : State) (client : ℕ) where
   controlled (IpcRmid kind id) = found-control (perm_of s kind id) BadId _ _ (λ perm. (_, refl))
   controlled (Listing kind) = tt
   controlled (Interrupt pid) = tt
+  controlled (InterruptThread target) = tt
+  controlled (Kill pid) = tt
   controlled (SetCreds euid egid groups) = tt
+  controlled (Assume creds) = tt
+  controlled (Begin pid creds) = tt
+  controlled (Fork child pid) = tt
+  controlled (Clone child) = tt
+  controlled (Name pid) = tt
+  controlled Exec = tt
   controlled Exit = tt
 
   if-control : (call : Call) (object : Option (Kind × ℕ)) → IsControlled call object → IfSome object (λ o. NeedsControl (needs s client call) (perm_of s o.0 o.1))

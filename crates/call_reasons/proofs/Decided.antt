@@ -4,7 +4,7 @@ use Rattle.std.specs.Prelude.{Err, IfOk, Ok, Result, ◌&&◌, nat_le, nat_lt, o
 use Rattle.std.specs.List.{list_all}
 use Rattle.std.proofs.lemmas.Option.{none-some, same_Some}
 use Rattle.ipc_call.specs.declared.calls.Call.{Call}
-use Rattle.ipc_call.specs.declared.calls.Call.TheVariants.{MsgGet, MsgSnd, MsgRcv, SemGet, SemOp, SemTimedOp, GetVal, GetPid, GetNcnt, GetZcnt, GetAll, SetVal, SetAll, ShmGet, ShmAt, ShmDt, ShmRead, ShmWrite, IpcStat, IpcSet, IpcRmid, Listing, Interrupt, SetCreds, Exit}
+use Rattle.ipc_call.specs.declared.calls.Call.TheVariants.{MsgGet, MsgSnd, MsgRcv, SemGet, SemOp, SemTimedOp, GetVal, GetPid, GetNcnt, GetZcnt, GetAll, SetVal, SetAll, ShmGet, ShmAt, ShmDt, ShmRead, ShmWrite, IpcStat, IpcSet, IpcRmid, Listing, Interrupt, InterruptThread, Kill, SetCreds, Assume, Begin, Fork, Clone, Name, Exec, Exit}
 use Rattle.ipc_call.specs.declared.calls.SemOper.{SemOper}
 use Rattle.ipc_call.specs.declared.perms.Perm.{Perm}
 use Rattle.ipc_call.specs.declared.replies.Answer.{Answer}
@@ -133,7 +133,15 @@ of-decision s client (IpcSet kind id uid gid mode qbytes) = tt
 of-decision s client (IpcRmid kind id) = tt
 of-decision s client (Listing kind) = tt
 of-decision s client (Interrupt pid) = tt
+of-decision s client (InterruptThread target) = tt
+of-decision s client (Kill pid) = tt
 of-decision s client (SetCreds euid egid groups) = tt
+of-decision s client (Assume creds) = tt
+of-decision s client (Begin pid creds) = tt
+of-decision s client (Fork child pid) = tt
+of-decision s client (Clone child) = tt
+of-decision s client (Name pid) = tt
+of-decision s client Exec = tt
 of-decision s client Exit = tt
 
 if-told : (s : State) (client : ℕ) (call : Call) (stopped : Option Stopped) → stopped ≡ refused_in s client call → IsOfDecision s client call stopped

@@ -34,8 +34,21 @@ fn other_word_of(call: &Call) -> &'static str {
         Call::IpcSet { .. } => "set",
         Call::IpcRmid { .. } => "rmid",
         Call::Listing { .. } => "ipcs",
-        Call::Interrupt { .. } => "interrupt",
+        _ => process_word_of(call),
+    }
+}
+
+fn process_word_of(call: &Call) -> &'static str {
+    match call {
+        Call::Interrupt { .. } | Call::InterruptThread { .. } => "interrupt",
         Call::SetCreds { .. } => "setcreds",
+        Call::Fork { .. } => "fork",
+        Call::Clone { .. } => "clone",
+        Call::Exec => "exec",
+        Call::Kill { .. } => "kill",
+        Call::Begin { .. } => "begin",
+        Call::Name { .. } => "name",
+        Call::Assume { .. } => "assume",
         Call::Exit => "exit",
         _ => "call",
     }

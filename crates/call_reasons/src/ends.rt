@@ -63,6 +63,7 @@ pub fn explain_end(
         None => out.push_str(" let it proceed\n"),
         Some(Rule::Removed) => out.push_str(" removed the object\n"),
         Some(Rule::Interrupted) => out.push_str(" interrupted it\n"),
+        Some(Rule::Ended) => out.push_str(" ended its thread\n"),
         Some(Rule::OwnerBits | Rule::GroupBits | Rule::OtherBits) => {
             out.push_str(" took its right\n")?;
             explain_loss(out, space, client, wait.asked)

@@ -6,7 +6,8 @@ use crate::objects::{
     explain_no_key, explain_no_slot, explain_resource,
 };
 use crate::processes::{
-    explain_groups, explain_no_process, explain_other_user, explain_own_group, explain_own_user,
+    explain_groups, explain_in_use, explain_no_process, explain_other_user, explain_own_group,
+    explain_own_user, explain_pid_in_use,
 };
 use crate::queues::{explain_full, explain_no_message, explain_too_long, explain_type};
 use crate::segments::{explain_not_attached, explain_range, explain_read_only, explain_size};
@@ -38,6 +39,10 @@ pub fn explain_refusal(out: &mut String, case: Case<'_>, rule: Rule) -> Told {
 fn explain_numbers(out: &mut String, case: Case<'_>, rule: Rule) -> Told {
     match rule {
         Rule::NoProcess => explain_no_process(out, case),
+        Rule::ClientInUse => explain_in_use(out, case),
+        Rule::PidInUse => explain_pid_in_use(out, case),
+        Rule::BadPid => out.push_str("0 is the number of no process\n"),
+        Rule::NoClient => out.push_str("there is no such client\n"),
         Rule::QueueFull => explain_full(out, case),
         Rule::NoMessage => explain_no_message(out, case),
         Rule::MessageTooLong | Rule::TextTooLong => explain_too_long(out, case),
@@ -51,7 +56,9 @@ fn explain_numbers(out: &mut String, case: Case<'_>, rule: Rule) -> Told {
         Rule::OutOfSegment => explain_range(out, case),
         Rule::TooManyAttached => out.push_str("the caller has SHMSEG attachments, 4096\n"),
         Rule::TimedOut => explain_late(out, case),
-        Rule::Ended => out.push_str("the caller has called exit, and makes no more calls\n"),
+        Rule::Ended => out.push_str(
+            "the caller's thread has ended; begin, or another client's fork or clone, makes it one again\n",
+        ),
         _ => Ok(()),
     }
 }

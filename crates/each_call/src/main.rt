@@ -2,8 +2,8 @@
 #![tactic(auto)]
 
 use ipc_desk::{
-    AttachFlags, Client, Desk, Flags, GetFlags, Kind, Message, Owner, Progress, Receive, SemFlags,
-    SemOp, SendFlags, Settings, User,
+    AttachFlags, Client, Desk, Failure, Flags, GetFlags, Identity, Items, Kind, Message, Owner,
+    Progress, Receive, SemFlags, SemOp, SendFlags, Settings, User,
 };
 use std::io;
 
@@ -109,11 +109,48 @@ fn processes(rt: &HostRuntime, desk: &mut Desk) -> io::Result<()> {
     get(rt, desk, Client(2))
 }
 
+/// The credentials of user 100.
+fn identity(rt: &HostRuntime) -> Identity {
+    Identity {
+        euid: 100,
+        egid: 10,
+        groups: Items::new(Vec::new(rt.alloc())),
+        caps: 0,
+        ruid: 100,
+        suid: 100,
+        rgid: 10,
+        sgid: 10,
+    }
+}
+
+fn told(rt: &HostRuntime, call: &str, answer: Result<(), Failure>) -> io::Result<()> {
+    match answer {
+        Ok(()) => println!(rt; "{call}: nothing failed"),
+        Err(failure) => println!(rt; "{call}: error {}: {failure}", failure.number()),
+    }
+}
+
+/// The first client has ended. It stands for a process that is forked and killed, for a thread that ends as the other one
+/// execs, and for a process that begins.
+fn lives(rt: &HostRuntime, desk: &mut Desk) -> io::Result<()> {
+    desk.fork(SECOND, FIRST, 9)?;
+    desk.name(FIRST, 8)?;
+    desk.assume(FIRST, identity(rt))?;
+    desk.kill(SECOND, 8)?;
+    told(rt, "kill", desk.kill(SECOND, 8))?;
+    desk.clone(SECOND, FIRST)?;
+    desk.exec(SECOND)?;
+    desk.begin(FIRST, 7, identity(rt))?;
+    told(rt, "begin", desk.begin(FIRST, 6, identity(rt)))?;
+    Ok(desk.interrupt_process(SECOND, 7)?)
+}
+
 fn calls(rt: &HostRuntime, desk: &mut Desk) -> io::Result<()> {
     queues(rt, desk)?;
     sets(rt, desk)?;
     segments(rt, desk)?;
-    processes(rt, desk)
+    processes(rt, desk)?;
+    lives(rt, desk)
 }
 
 fn main(rt: HostRuntime) -> io::Result<()> {

@@ -7,13 +7,15 @@ use Rattle.ipc_abi.specs.declared.operations.Operation.TheVariants.{MsgGet, MsgS
 use Rattle.ipc_abi.specs.declared.operations.Operation.TheVariants.{GetVal, GetPid, GetNcnt, GetZcnt, GetAll, SetVal, SetAll}
 use Rattle.ipc_abi.specs.declared.operations.Operation.TheVariants.{ShmGet, ShmAt, ShmDt, ShmRead, ShmWrite}
 use Rattle.ipc_abi.specs.declared.operations.Operation.TheVariants.{IpcStat, IpcSet, IpcRmid, Listing, Interrupt, SetCreds, Exit}
+use Rattle.ipc_abi.specs.declared.operations.Operation.TheVariants.{InterruptThread, Kill, Assume, Begin, Fork, Clone, Name, Exec}
 
 abbrev pub operations : List Operation
 operations =
     MsgGet ∷ MsgSnd ∷ MsgRcv
     ∷ SemGet ∷ SemOp ∷ SemTimedOp ∷ GetVal ∷ GetPid ∷ GetNcnt ∷ GetZcnt ∷ GetAll ∷ SetVal ∷ SetAll
     ∷ ShmGet ∷ ShmAt ∷ ShmDt ∷ ShmRead ∷ ShmWrite
-    ∷ IpcStat ∷ IpcSet ∷ IpcRmid ∷ Listing ∷ Interrupt ∷ SetCreds ∷ Exit ∷ []
+    ∷ IpcStat ∷ IpcSet ∷ IpcRmid ∷ Listing ∷ Interrupt ∷ SetCreds ∷ Exit
+    ∷ InterruptThread ∷ Kill ∷ Assume ∷ Begin ∷ Fork ∷ Clone ∷ Name ∷ Exec ∷ []
 
 abbrev pub kinds : List Kind
 kinds = Queue ∷ Sems ∷ Segment ∷ []

@@ -2,12 +2,14 @@
 use Rattle.std.specs.Prelude.{ℕ, pos, ◌==◌, List, map, Option, None, Some, option_map, option_and_then, slice_get, if◌then◌else◌}
 use Rattle.ipc_call.specs.declared.calls.Call.{Call}
 use Rattle.ipc_call.specs.declared.calls.Call.TheVariants as calls
+use Rattle.ipc_call.specs.declared.calls.Identity.{Identity}
 use Rattle.ipc_call.specs.declared.calls.SemOper.{SemOper}
 use Rattle.ipc_abi.specs.declared.operations.Operation.{Operation}
 use Rattle.ipc_abi.specs.declared.operations.Operation.TheVariants.{MsgGet, MsgSnd, MsgRcv, SemGet, SemOp, SemTimedOp}
 use Rattle.ipc_abi.specs.declared.operations.Operation.TheVariants.{GetVal, GetPid, GetNcnt, GetZcnt, GetAll, SetVal, SetAll}
 use Rattle.ipc_abi.specs.declared.operations.Operation.TheVariants.{ShmGet, ShmAt, ShmDt, ShmRead, ShmWrite}
 use Rattle.ipc_abi.specs.declared.operations.Operation.TheVariants.{IpcStat, IpcSet, IpcRmid, Listing, Interrupt, SetCreds, Exit}
+use Rattle.ipc_abi.specs.declared.operations.Operation.TheVariants.{InterruptThread, Kill, Assume, Begin, Fork, Clone, Name, Exec}
 use Rattle.ipc_abi.specs.declared.requests.Lists.{Lists}
 use Rattle.ipc_abi.specs.declared.requests.RawRequest.{RawRequest}
 use Rattle.ipc_abi.specs.declared.requests.RawSemOper.{RawSemOper}
@@ -32,6 +34,19 @@ sem_oper o = record { num = o.num; op = o.op; flags = o.flags }
 -- what is given where the number isn't 0
 abbrev pub where_more : {A : Type 0} → ℕ → A → Option A
 where_more more a = if more == 0 then None else Some a
+
+-- the credentials that begin and assume hand in
+abbrev pub identity_of : RawRequest → List ℕ → Identity
+identity_of r groups = record {
+  euid = r.uid;
+  egid = r.gid;
+  groups = groups;
+  caps = r.caps;
+  ruid = r.ruid;
+  suid = r.suid;
+  rgid = r.rgid;
+  sgid = r.sgid;
+}
 
 -- the call of an operation; None where the kind has no such code
 abbrev pub call_of : Operation → RawRequest → Given → Option Call
@@ -61,6 +76,14 @@ call_of Listing r g = option_map (λ kind. calls.Listing kind) (slice_get kinds 
 call_of Interrupt r g = Some (calls.Interrupt r.id)
 call_of SetCreds r g = Some (calls.SetCreds r.uid r.gid (where_more r.more g.groups))
 call_of Exit r g = Some calls.Exit
+call_of InterruptThread r g = Some (calls.InterruptThread r.id)
+call_of Kill r g = Some (calls.Kill r.id)
+call_of Assume r g = Some (calls.Assume (identity_of r g.groups))
+call_of Begin r g = Some (calls.Begin r.id (identity_of r g.groups))
+call_of Fork r g = Some (calls.Fork r.num r.id)
+call_of Clone r g = Some (calls.Clone r.num)
+call_of Name r g = Some (calls.Name r.id)
+call_of Exec r g = Some calls.Exec
 
 -- the call of a request; None where the operation has no such code either
 abbrev pub call_in : RawRequest → Given → Option Call

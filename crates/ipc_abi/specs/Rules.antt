@@ -5,7 +5,7 @@ use Rattle.ipc_call.specs.declared.rules.Rule.TheVariants.{NotOwner, NeedsResour
 use Rattle.ipc_call.specs.declared.rules.Rule.TheVariants.{Ended, NoProcess, Interrupted, MessageTooLong, TooManyOperations, QueueFull, WouldWait, TimedOut}
 use Rattle.ipc_call.specs.declared.rules.Rule.TheVariants.{OwnerBits, GroupBits, OtherBits, ReadOnly, KeyExists, BadId, BadType, TextTooLong}
 use Rattle.ipc_call.specs.declared.rules.Rule.TheVariants.{BadSize, BadSem, BadArgument, NoOperations, SemOutOfSet, NotAttached, OutOfSegment, TooManyAttached}
-use Rattle.ipc_call.specs.declared.rules.Rule.TheVariants.{NoSlot, ValueRange, UndoRange, NoMessage, Removed}
+use Rattle.ipc_call.specs.declared.rules.Rule.TheVariants.{NoSlot, ValueRange, UndoRange, NoMessage, Removed, ClientInUse, PidInUse, BadPid, NoClient}
 
 abbrev pub code_of_rule : Rule → ℕ
 code_of_rule NotOwner = 1
@@ -45,3 +45,7 @@ code_of_rule ValueRange = 34
 code_of_rule UndoRange = 35
 code_of_rule NoMessage = 36
 code_of_rule Removed = 37
+code_of_rule ClientInUse = 38
+code_of_rule PidInUse = 39
+code_of_rule BadPid = 40
+code_of_rule NoClient = 41

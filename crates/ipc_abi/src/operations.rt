@@ -33,9 +33,17 @@ pub enum Operation {
     Interrupt,
     SetCreds,
     Exit,
+    InterruptThread,
+    Kill,
+    Assume,
+    Begin,
+    Fork,
+    Clone,
+    Name,
+    Exec,
 }
 
-const OPERATIONS: [Operation; 25] = [
+const OPERATIONS: [Operation; 33] = [
     Operation::MsgGet,
     Operation::MsgSnd,
     Operation::MsgRcv,
@@ -61,6 +69,14 @@ const OPERATIONS: [Operation; 25] = [
     Operation::Interrupt,
     Operation::SetCreds,
     Operation::Exit,
+    Operation::InterruptThread,
+    Operation::Kill,
+    Operation::Assume,
+    Operation::Begin,
+    Operation::Fork,
+    Operation::Clone,
+    Operation::Name,
+    Operation::Exec,
 ];
 
 const KINDS: [Kind; 3] = [Kind::Queue, Kind::Sems, Kind::Segment];

@@ -2,11 +2,11 @@
 
 ghost use Rattle.std.specs.Prelude.{◌≡◌, None, Some, map, pos, slice_get, IfErr, IfOk};
 ghost use Rattle.ipc_abi.specs.Operations.{kinds};
-ghost use Rattle.ipc_abi.specs.Requests.{call_in, call_of, lists_in, sem_oper, where_more};
+ghost use Rattle.ipc_abi.specs.Requests.{call_in, call_of, identity_of, lists_in, sem_oper, where_more};
 ghost use Rattle.ipc_abi.specs.declared.requests.BadRequest.TheVariants.{Unknown};
 
 use crate::operations::{Operation, kind_from_code};
-use ipc_call::{Call, Items, Kind, Memory, SemOper};
+use ipc_call::{Call, Identity, Items, Kind, Memory, SemOper};
 use std::alloc::Global;
 
 /// A call, in numbers. docs/C.md says which of them each operation uses; it ignores the others.
@@ -27,24 +27,31 @@ pub struct RawRequest {
     pub op: u32,
     /// The code of a kind of objects: 0 for queues, 1 for sets, 2 for segments.
     pub kind: u32,
-    /// The identifier of an object, the number of an attachment, or a process.
+    /// The identifier of an object, the number of an attachment, a pid, or the client that is interrupted.
     pub id: u32,
     /// The key of a get.
     pub key: u32,
     /// The flags.
     pub flags: u32,
-    /// How many semaphores, or which semaphore of a set.
+    /// How many semaphores, which semaphore of a set, or the client of fork and clone.
     pub num: u32,
     /// The value of SETVAL.
     pub value: i32,
-    /// The user of IPC_SET and setcreds.
+    /// The user of IPC_SET, and the effective one of setcreds, begin and assume.
     pub uid: u32,
-    /// The group of IPC_SET and setcreds.
+    /// The group of IPC_SET, and the effective one of setcreds, begin and assume.
     pub gid: u32,
     /// The permission bits of IPC_SET.
     pub mode: u32,
     /// Not 0 where IPC_SET sets `msg_qbytes`, and where setcreds sets supplementary groups.
     pub more: u32,
+    /// The real and the saved user and group of begin and assume.
+    pub ruid: u32,
+    pub rgid: u32,
+    pub suid: u32,
+    pub sgid: u32,
+    /// The capabilities of begin and assume, each a bit.
+    pub caps: u8,
 }
 
 /// One operation of semop (sembuf of semop(2)).
@@ -211,6 +218,38 @@ impl RawRequest {
                 groups: groups_of(alloc, self.more, lists.groups)?,
             },
             Operation::Exit => Call::Exit,
+            Operation::InterruptThread => Call::InterruptThread { client: self.id },
+            Operation::Kill => Call::Kill { pid: self.id },
+            Operation::Assume => Call::Assume {
+                creds: self.identity(alloc, lists.groups)?,
+            },
+            Operation::Begin => Call::Begin {
+                pid: self.id,
+                creds: self.identity(alloc, lists.groups)?,
+            },
+            Operation::Fork => Call::Fork {
+                child: self.num,
+                pid: self.id,
+            },
+            Operation::Clone => Call::Clone { child: self.num },
+            Operation::Name => Call::Name { pid: self.id },
+            Operation::Exec => Call::Exec,
+        })
+    }
+
+    // The credentials that are handed in.
+    fn identity(&self, alloc: Global, groups: &[u32]) -> Result<Identity, Memory>
+        ensures { IfOk result (λ identity. identity ≡ identity_of self.now groups.now) }
+    {
+        Ok(Identity {
+            euid: self.uid,
+            egid: self.gid,
+            groups: items(alloc, groups)?,
+            caps: self.caps,
+            ruid: self.ruid,
+            suid: self.suid,
+            rgid: self.rgid,
+            sgid: self.sgid,
         })
     }
 

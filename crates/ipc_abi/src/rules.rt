@@ -47,5 +47,9 @@ pub(crate) fn rule_code(rule: Rule) -> u32
         Rule::UndoRange => 35,
         Rule::NoMessage => 36,
         Rule::Removed => 37,
+        Rule::ClientInUse => 38,
+        Rule::PidInUse => 39,
+        Rule::BadPid => 40,
+        Rule::NoClient => 41,
     }
 }

@@ -1,6 +1,8 @@
 // The arguments of calls and directives: their names, and what each takes.
 
-use ipc_words::{number, number_16, number_32, signed_16, signed_32, signed_64, split_field};
+use ipc_words::{
+    is_name, number, number_16, number_32, signed_16, signed_32, signed_64, split_field,
+};
 
 /// An argument of a call or a directive, or a part of one.
 #[derive(Clone, Copy, Debug, PartialEq, Eq)]
@@ -34,6 +36,12 @@ pub enum Argument {
     QBytes,
     Pid,
     Groups,
+    /// Another client, by its name.
+    Client,
+    /// A process by its pid, or a client by its name.
+    Target,
+    /// groups=, caps= or saved=.
+    Creds,
     Time,
 }
 
@@ -48,6 +56,9 @@ pub(crate) enum Shape {
     Op,
     Kind,
     Groups,
+    Name,
+    Target,
+    Creds,
 }
 
 impl Argument {
@@ -79,6 +90,9 @@ impl Argument {
             Argument::QBytes => ("QBYTES", Shape::Number(64)),
             Argument::Pid => ("PID", Shape::Number(32)),
             Argument::Groups => ("groups=G,..", Shape::Groups),
+            Argument::Client => ("CLIENT", Shape::Name),
+            Argument::Target => ("PID", Shape::Target),
+            Argument::Creds => ("[groups=G,..] [caps=CAP,..] [saved=UID:GID]", Shape::Creds),
             Argument::Time => ("NUMBER", Shape::Number(64)),
         }
     }
@@ -124,6 +138,9 @@ impl Argument {
             Shape::Op => is_operation(word),
             Shape::Kind => matches!(word, b"q" | b"s" | b"m"),
             Shape::Groups => is_groups(word),
+            Shape::Name => is_name(word),
+            Shape::Target => number_32(word).is_some() || is_name(word),
+            Shape::Creds => is_option_of_client(word),
         }
     }
 }
@@ -149,6 +166,10 @@ fn is_operation(word: &[u8]) -> bool {
     number_16(num).is_some()
         && signed_16(op).is_some()
         && flags.is_none_or(|flags| number_16(flags).is_some())
+}
+
+fn is_option_of_client(word: &[u8]) -> bool {
+    word.starts_with(b"groups=") || word.starts_with(b"caps=") || word.starts_with(b"saved=")
 }
 
 fn is_groups(word: &[u8]) -> bool {

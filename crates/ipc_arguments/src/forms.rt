@@ -2,8 +2,8 @@
 
 use crate::arguments::Argument;
 use crate::arguments::Argument::{
-    Att, Flags, GetFlags, Gid, Groups, Id, Key, Kind, Len, MType, Mode, MsgTyp, NSems, Num, Offset,
-    Op, Pid, QBytes, Size, Text, Timeout, Uid, Value,
+    Att, Client, Creds, Flags, GetFlags, Gid, Groups, Id, Key, Kind, Len, MType, Mode, MsgTyp,
+    NSems, Num, Offset, Op, Pid, QBytes, Size, Target, Text, Timeout, Uid, Value,
 };
 use std::fmt;
 use std::fmt::Write;
@@ -16,6 +16,8 @@ pub enum More {
     Maybe(Argument),
     /// Any number of them.
     Any(Argument),
+    /// Options in an order of their own, or none.
+    Options(Argument),
 }
 
 /// A call with its arguments. It prints as the documents have it.
@@ -36,7 +38,7 @@ impl Form {
             More::Nothing => None,
             More::Maybe(argument) if index == self.takes.len() => Some(argument),
             More::Maybe(_) => None,
-            More::Any(argument) => Some(argument),
+            More::Any(argument) | More::Options(argument) => Some(argument),
         }
     }
 }
@@ -60,6 +62,10 @@ impl fmt::Display for Form {
                 let name = argument.name();
                 write!(f, " {name} ..")
             }
+            More::Options(argument) => {
+                let name = argument.name();
+                write!(f, " {name}")
+            }
         }
     }
 }
@@ -71,7 +77,7 @@ const fn taking(call: &'static str, takes: &'static [Argument], more: More) -> F
 /// The names of all calls and commands.
 pub const CALLS: &str =
     "msgget msgsnd msgrcv semget semop semtimedop getval getpid getncnt getzcnt getall setval setall \
-shmget shmat shmdt shmread shmwrite stat set rmid interrupt setcreds exit ipcs ipcrm ipcmk";
+shmget shmat shmdt shmread shmwrite stat set rmid interrupt kill setcreds assume begin fork clone name exec exit ipcs ipcrm ipcmk";
 
 /// The call of this name, with its arguments.
 pub fn form_of(call: &[u8]) -> Option<Form> {
@@ -87,8 +93,21 @@ pub fn form_of(call: &[u8]) -> Option<Form> {
         b"stat" => Some(taking("stat", &[Kind, Id], More::Nothing)),
         b"rmid" => Some(taking("rmid", &[Kind, Id], More::Nothing)),
         b"set" => Some(taking("set", &[Kind, Id, Uid, Gid, Mode], More::Maybe(QBytes))),
-        b"interrupt" => Some(taking("interrupt", &[Pid], More::Nothing)),
+        _ => process_form(call),
+    }
+}
+
+fn process_form(call: &[u8]) -> Option<Form> {
+    match call {
+        b"interrupt" => Some(taking("interrupt", &[Target], More::Nothing)),
+        b"kill" => Some(taking("kill", &[Pid], More::Nothing)),
         b"setcreds" => Some(taking("setcreds", &[Uid, Gid], More::Maybe(Groups))),
+        b"assume" => Some(taking("assume", &[Uid, Gid], More::Options(Creds))),
+        b"begin" => Some(taking("begin", &[Pid, Uid, Gid], More::Options(Creds))),
+        b"fork" => Some(taking("fork", &[Client, Pid], More::Nothing)),
+        b"clone" => Some(taking("clone", &[Client], More::Nothing)),
+        b"name" => Some(taking("name", &[Pid], More::Nothing)),
+        b"exec" => Some(taking("exec", &[], More::Nothing)),
         b"exit" => Some(taking("exit", &[], More::Nothing)),
         _ => semaphore_form(call),
     }

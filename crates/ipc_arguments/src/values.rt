@@ -34,9 +34,19 @@ pub fn explain_word(out: &mut String, call: &str, argument: Argument, word: Word
     write!(out, "{name} {shown}: ")?;
     match argument.shape() {
         Shape::Number(_) | Shape::Signed(_) => explain_number(out, argument, word),
+        Shape::Target if begins_a_number(word) => explain_number(out, argument, word),
         Shape::Text => explain_text(out, word),
         Shape::Op => explain_operation(out, word),
         Shape::Kind => out.push_str("write q for a queue, s for a semaphore set, m for a segment"),
+        Shape::Name => out.push_str("write the name of a client whose thread has ended"),
+        Shape::Target => out.push_str("write the pid of a process, or the name of a client"),
+        Shape::Creds => out.push_str(
+            "write groups=10,20, caps=IPC_OWNER or saved=100:10, in this order",
+        ),
         Shape::Groups => Ok(()),
     }
+}
+
+fn begins_a_number(word: &[u8]) -> bool {
+    matches!(word, [b'0'..=b'9' | b'-' | b'+', ..])
 }

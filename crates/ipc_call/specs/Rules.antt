@@ -5,7 +5,7 @@ use Rattle.ipc_call.specs.declared.rules.Rule.TheVariants.{NotOwner, NeedsResour
 use Rattle.ipc_call.specs.declared.rules.Rule.TheVariants.{Interrupted, MessageTooLong, QueueFull, WouldWait, TimedOut, OwnerBits}
 use Rattle.ipc_call.specs.declared.rules.Rule.TheVariants.{GroupBits, OtherBits, KeyExists, BadId, BadType}
 use Rattle.ipc_call.specs.declared.rules.Rule.TheVariants.{TextTooLong, BadArgument, NoSlot, ValueRange, UndoRange}
-use Rattle.ipc_call.specs.declared.rules.Rule.TheVariants.{NoMessage, Removed, Ended, TooManyOperations, BadSize}
+use Rattle.ipc_call.specs.declared.rules.Rule.TheVariants.{NoMessage, Removed, Ended, ClientInUse, PidInUse, BadPid, NoClient, TooManyOperations, BadSize}
 use Rattle.ipc_call.specs.declared.rules.Rule.TheVariants.{BadSem, NoOperations, SemOutOfSet, ReadOnly, NotAttached, OutOfSegment, TooManyAttached}
 use Rattle.ipc_call.specs.Errors as errors
 use Rattle.ipc_call.specs.declared.error.Errno.{Errno}
@@ -22,6 +22,10 @@ row_of NeedsSetgid = (EPERM, codes "needs-setgid")
 row_of TooManyGroups = (EINVAL, codes "too-many-groups")
 row_of NoKey = (ENOENT, codes "no-key")
 row_of Ended = (ESRCH, codes "ended")
+row_of ClientInUse = (EAGAIN, codes "client-in-use")
+row_of PidInUse = (EEXIST, codes "pid-in-use")
+row_of BadPid = (EINVAL, codes "bad-pid")
+row_of NoClient = (ESRCH, codes "no-client")
 row_of NoProcess = (ESRCH, codes "no-process")
 row_of Interrupted = (EINTR, codes "interrupted")
 row_of MessageTooLong = (E2BIG, codes "message-too-long")

@@ -27,6 +27,39 @@ pub struct SemOper {
     pub flags: u16,
 }
 
+/// The credentials of a thread, as those say who know them (credentials(7)): at most 32 supplementary groups, and the
+/// capabilities as the bits of a set.
+#[derive(Debug, Drop, PartialEq)]
+pub struct Identity {
+    pub euid: u32,
+    pub egid: u32,
+    pub groups: Items<u32>,
+    pub caps: u8,
+    pub ruid: u32,
+    pub suid: u32,
+    pub rgid: u32,
+    pub sgid: u32,
+}
+
+impl Identity {
+    /// A copy. The error comes only where an allocation fails.
+    pub fn copy(&self) -> Result<Identity, Memory>
+        ensures { IfOk result (λ copied. copied ≡ self.now) }
+    {
+        let groups = self.groups.copy()?;
+        Ok(Identity {
+            euid: self.euid,
+            egid: self.egid,
+            groups,
+            caps: self.caps,
+            ruid: self.ruid,
+            suid: self.suid,
+            rgid: self.rgid,
+            sgid: self.sgid,
+        })
+    }
+}
+
 /// One call of a client with its arguments, as POSIX.1-2017 XSI IPC has it. Flag bits that a call doesn't
 /// know are ignored.
 #[derive(Debug, Drop, PartialEq)]
@@ -163,9 +196,18 @@ pub enum Call {
     Listing {
         kind: Kind,
     },
-    /// Ends the waiting call of a process, the number of its client plus 1, as a caught signal would (EINTR of
-    /// msgop(2)). It stands for kill(2).
+    /// Ends the waiting calls of all threads of a process, as signals that are caught would (EINTR of msgop(2)). It
+    /// stands for kill(2).
     Interrupt {
+        pid: u32,
+    },
+    /// Ends the waiting call of one thread, that of a client. It stands for tgkill(2).
+    InterruptThread {
+        client: u32,
+    },
+    /// Ends a process with all its threads (kill(2) with SIGKILL; of the own process exit_group(2)). Their waiting calls
+    /// end first.
+    Kill {
         pid: u32,
     },
     /// Gives the client another effective user and group, and other supplementary groups where some are given
@@ -175,8 +217,35 @@ pub enum Call {
         egid: u32,
         groups: Option<Items<u32>>,
     },
-    /// Ends the process of the client (_exit(2)). What its semops with `SEM_UNDO` left to undo is added to the
-    /// values (semadj of semop(2)), and what it has attached is detached.
+    /// Gives the client these credentials, as the kernel tells them of its thread. It is the project's own.
+    Assume {
+        creds: Identity,
+    },
+    /// The client, whose thread has ended, begins anew as the only thread of a new process of this pid, with these
+    /// credentials. It is the project's own.
+    Begin {
+        pid: u32,
+        creds: Identity,
+    },
+    /// A client whose thread has ended becomes the only thread of a new process of this pid, with the caller's
+    /// credentials and the attachments of its process (fork(2)).
+    Fork {
+        child: u32,
+        pid: u32,
+    },
+    /// A client whose thread has ended becomes one more thread of the caller's process, with its credentials (clone(2)).
+    Clone {
+        child: u32,
+    },
+    /// The process takes another pid. It stands for what the kernel tells only after a fork, and is the project's own.
+    Name {
+        pid: u32,
+    },
+    /// Ends the other threads of the process, and detaches what it has attached; the saved user and group become the
+    /// effective ones (execve(2)).
+    Exec,
+    /// Ends the thread of the client, and with the last one its process (_exit(2)). What the semops of a process with
+    /// `SEM_UNDO` left to undo is then added to the values (semadj of semop(2)), and what it has attached is detached.
     Exit,
 }
 
@@ -266,6 +335,8 @@ impl Call {
             Call::IpcRmid { kind, id } => Call::IpcRmid { kind, id },
             Call::Listing { kind } => Call::Listing { kind },
             Call::Interrupt { pid } => Call::Interrupt { pid },
+            Call::InterruptThread { client } => Call::InterruptThread { client },
+            Call::Kill { pid } => Call::Kill { pid },
             Call::SetCreds {
                 euid,
                 egid,
@@ -274,6 +345,18 @@ impl Call {
                 let groups = copied(groups)?;
                 Call::SetCreds { euid, egid, groups }
             }
+            Call::Assume { ref creds } => {
+                let creds = creds.copy()?;
+                Call::Assume { creds }
+            }
+            Call::Begin { pid, ref creds } => {
+                let creds = creds.copy()?;
+                Call::Begin { pid, creds }
+            }
+            Call::Fork { child, pid } => Call::Fork { child, pid },
+            Call::Clone { child } => Call::Clone { child },
+            Call::Name { pid } => Call::Name { pid },
+            Call::Exec => Call::Exec,
             Call::Exit => Call::Exit,
         })
     }

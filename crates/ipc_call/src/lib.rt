@@ -18,7 +18,7 @@ mod settings;
 mod threads;
 
 pub use boxed::Boxed;
-pub use calls::{Call, Kind, SemOper};
+pub use calls::{Call, Identity, Kind, SemOper};
 pub use error::Errno;
 pub use flags::{
     IPC_CREAT, IPC_EXCL, IPC_NOWAIT, MSG_EXCEPT, MSG_NOERROR, SEM_UNDO, SHM_RDONLY, creates,

@@ -13,7 +13,8 @@ pub enum Rule {
     NotOwner,
     /// A `msg_qbytes` above MSGMNB is given, and the caller lacks CAP_SYS_RESOURCE.
     NeedsResource,
-    /// The caller has another effective user than the process, and lacks CAP_SYS_ADMIN.
+    /// A thread of the process has another effective user than the caller, which is none of its threads and lacks
+    /// CAP_SYS_ADMIN.
     NotSameUser,
     /// The user asked for is neither the effective, the real nor the saved one, and the caller lacks CAP_SETUID.
     NotOwnUser,
@@ -27,7 +28,15 @@ pub enum Rule {
     NoKey,
     /// The client has ended.
     Ended,
-    /// No client has this process, or the one that has it has ended.
+    /// The client that is to begin hasn't ended.
+    ClientInUse,
+    /// A process has this pid.
+    PidInUse,
+    /// The pid is 0.
+    BadPid,
+    /// There is no client of this number.
+    NoClient,
+    /// No process has this pid, or the thread has ended.
     NoProcess,
     /// The waiting call was interrupted.
     Interrupted,
@@ -118,6 +127,10 @@ impl Rule {
             Rule::TooManyGroups => (Errno::EINVAL, "too-many-groups"),
             Rule::NoKey => (Errno::ENOENT, "no-key"),
             Rule::Ended => (Errno::ESRCH, "ended"),
+            Rule::ClientInUse => (Errno::EAGAIN, "client-in-use"),
+            Rule::PidInUse => (Errno::EEXIST, "pid-in-use"),
+            Rule::BadPid => (Errno::EINVAL, "bad-pid"),
+            Rule::NoClient => (Errno::ESRCH, "no-client"),
             Rule::NoProcess => (Errno::ESRCH, "no-process"),
             Rule::Interrupted => (Errno::EINTR, "interrupted"),
             Rule::MessageTooLong => (Errno::E2BIG, "message-too-long"),

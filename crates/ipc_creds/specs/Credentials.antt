@@ -28,6 +28,11 @@ is_in_group c gid = list_any (λ group. group == gid) (c.egid ∷ c.groups)
 abbrev pub became : ℕ → ℕ → Option (List ℕ) → Credentials → Credentials
 became euid egid groups c = record c { euid = euid; egid = egid; groups = unwrap_or groups c.groups }
 
+-- what execve(2) makes of credentials: the saved user and group are the effective ones. That capabilities stay is the
+-- project's own
+abbrev pub executed : Credentials → Credentials
+executed c = record c { suid = c.euid; sgid = c.egid }
+
 -- the capabilities that the service knows, each a bit
 abbrev pub cap_ipc_owner : ℕ
 cap_ipc_owner = 1

@@ -2,7 +2,7 @@
 
 ghost use Rattle.std.specs.Prelude.{◌≡◌, ◌≤◌, ◌==◌, IfOk, IfSome, length, option_map, vec_len};
 ghost use Rattle.std.specs.List.{list_any};
-ghost use Rattle.ipc_creds.specs.Credentials.{became, is_in_group, own_groups, own_users};
+ghost use Rattle.ipc_creds.specs.Credentials.{became, executed, is_in_group, own_groups, own_users};
 
 use crate::caps::Caps;
 use std::alloc::{AllocError, Global};
@@ -58,6 +58,21 @@ impl Creds {
         ensures { result ≡ record self { suid = suid; sgid = sgid } }
     {
         Creds { suid, sgid, ..self }
+    }
+
+    /// The same with another real user and group (credentials(7)).
+    pub fn with_real(self, ruid: u32, rgid: u32) -> Creds
+        ensures { result ≡ record self { ruid = ruid; rgid = rgid } }
+    {
+        Creds { ruid, rgid, ..self }
+    }
+
+    /// As execve(2) leaves them: the saved user and group are the effective ones.
+    pub fn execute(&mut self)
+        ensures { self.new ≡ executed self.old }
+    {
+        self.suid = self.euid;
+        self.sgid = self.egid;
     }
 
     /// The same with another effective user and group, and other supplementary groups where some are given.

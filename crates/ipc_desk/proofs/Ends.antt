@@ -5,7 +5,7 @@ use Rattle.std.specs.List.{list_all, list_any, AllByRecursion}
 use Rattle.std.proofs.lemmas.Bool.{and_parts, cases_Bool, true≢false}
 use Rattle.std.proofs.lemmas.List.Elements.{All-tail}
 use Rattle.ipc_call.specs.declared.calls.Call.{Call}
-use Rattle.ipc_call.specs.declared.calls.Call.TheVariants.{MsgGet, MsgSnd, MsgRcv, SemGet, SemOp, SemTimedOp, GetVal, GetPid, GetNcnt, GetZcnt, GetAll, SetVal, SetAll, ShmGet, ShmAt, ShmDt, ShmRead, ShmWrite, Exit, IpcStat, IpcSet, IpcRmid, Listing, Interrupt, SetCreds}
+use Rattle.ipc_call.specs.declared.calls.Call.TheVariants.{MsgGet, MsgSnd, MsgRcv, SemGet, SemOp, SemTimedOp, GetVal, GetPid, GetNcnt, GetZcnt, GetAll, SetVal, SetAll, ShmGet, ShmAt, ShmDt, ShmRead, ShmWrite, Exit, IpcStat, IpcSet, IpcRmid, Listing, Interrupt, InterruptThread, Kill, SetCreds, Assume, Begin, Fork, Clone, Name, Exec}
 use Rattle.ipc_call.specs.declared.replies.Answer.{Answer}
 use Rattle.ipc_call.specs.declared.replies.Answer.TheVariants.{Id, Done, Message, Status as StatusAnswer, Value, Values, Attached, Bytes, Rows}
 use Rattle.ipc_call.specs.declared.replies.Completion.{Completion}
@@ -78,7 +78,15 @@ module _ (place turn : ℕ) where
   granted (IpcRmid kind id) answer can gives = absurd (true≢false (sym can))
   granted (Listing kind) answer can gives = absurd (true≢false (sym can))
   granted (Interrupt pid) answer can gives = absurd (true≢false (sym can))
+  granted (InterruptThread target) answer can gives = absurd (true≢false (sym can))
+  granted (Kill pid) answer can gives = absurd (true≢false (sym can))
   granted (SetCreds euid egid groups) answer can gives = absurd (true≢false (sym can))
+  granted (Assume creds) answer can gives = absurd (true≢false (sym can))
+  granted (Begin pid creds) answer can gives = absurd (true≢false (sym can))
+  granted (Fork child pid) answer can gives = absurd (true≢false (sym can))
+  granted (Clone child) answer can gives = absurd (true≢false (sym can))
+  granted (Name pid) answer can gives = absurd (true≢false (sym can))
+  granted Exec answer can gives = absurd (true≢false (sym can))
   granted Exit answer can gives = absurd (true≢false (sym can))
 
   ended : (call : Call) (o : Outcome) → can_wait call ≡ true → can_end call o ≡ true → IsWaited o

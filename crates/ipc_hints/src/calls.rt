@@ -1,5 +1,6 @@
 // Lines of a client that make no call.
 
+use crate::clients::explain_options;
 use ipc_arguments::{
     Argument, CALLS, Form, Quoted, Told, Word, explain_comment, explain_word, form_of, nearest,
 };
@@ -21,6 +22,10 @@ fn explain_arguments(out: &mut String, form: Form, words: &[Word<'_>]) -> Told {
         let Some(argument) = form.argument_at(index) else {
             return explain_more(out, form, *word);
         };
+        if argument == Argument::Creds {
+            let options = words.get(index..).unwrap_or_default();
+            return explain_options(out, form.call, options);
+        }
         if !argument.takes(word.bytes) {
             if words.len() > form.takes.len() && form.takes.last() == Some(&argument) {
                 return explain_parts(out, form, words, *word);
@@ -84,13 +89,13 @@ fn other_name(call: &[u8]) -> Option<&'static str> {
         b"GETVAL" | b"SETVAL" | b"GETALL" | b"SETALL" | b"GETPID" | b"GETNCNT" | b"GETZCNT" => {
             Some("write it in small letters")
         }
-        b"kill" | b"signal" => Some("a waiting call is ended by interrupt PID"),
+        b"signal" => Some("a waiting call is ended by interrupt PID, a process by kill PID"),
         b"sleep" | b"wait" | b"alarm" => Some("the time is told by a line clock NUMBER"),
         b"seteuid" | b"setegid" | b"setuid" | b"setgid" | b"setgroups" | b"su" | b"sudo" => {
             Some("a client takes on another user by setcreds")
         }
-        b"fork" | b"exec" | b"clone" => Some(
-            "a process is a client, by a line client NAME UID GID",
+        b"vfork" | b"spawn" | b"execve" | b"pthread_create" => Some(
+            "a process begins by fork or begin, a thread by clone, and exec is exec",
         ),
         b"quit" | b"_exit" | b"end" => Some("write exit"),
         b"ftok" => Some("a key is any number, as 5 or 0x1234"),

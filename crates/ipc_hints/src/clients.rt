@@ -15,6 +15,8 @@ const OPTIONS: [&str; 3] = ["groups=", "caps=", "saved="];
 /// How many groups a client line may name.
 const GROUPS_MAX: usize = 32;
 
+const AFTER_GID: &str = "after GID come groups=10,20, caps=IPC_OWNER, saved=100:10";
+
 const FORM: &str = "client takes NAME UID GID [groups=G,..] [caps=CAP,..] [saved=UID:GID]";
 
 /// Appends what is wrong with the words after `client`.
@@ -30,7 +32,7 @@ pub(crate) fn explain_client(out: &mut String, words: &[Word<'_>]) -> Told {
         [_, _, gid, ..] if number_32(gid.bytes).is_none() => {
             explain_word(out, "client", Argument::Gid, *gid)
         }
-        [_, _, _, options @ ..] => explain_options(out, options),
+        [_, _, _, options @ ..] => explain_options(out, "client", options),
     }
 }
 
@@ -54,43 +56,41 @@ fn explain_name(out: &mut String, word: Word<'_>) -> Told {
     }
 }
 
-fn explain_options(out: &mut String, options: &[Word<'_>]) -> Told {
+/// Appends what is wrong with the options behind the GID of a client line, or of a call that tells credentials.
+pub(crate) fn explain_options(out: &mut String, line: &str, options: &[Word<'_>]) -> Told {
     let mut least = 0;
     for word in options {
         let Some(place) = OPTIONS
             .iter()
             .position(|option| word.bytes.starts_with(option.as_bytes()))
         else {
-            return explain_no_option(out, *word);
+            return explain_no_option(out, line, *word);
         };
         if place < least {
             word.push_column(out)?;
             let option = Quoted(word.bytes);
             return write!(
                 out,
-                "client: {option}: the order is groups=, caps=, saved=, each at most once"
+                "{line}: {option}: the order is groups=, caps=, saved=, each at most once"
             );
         }
         let (_, text) = split_field(word.bytes, b'=');
         let text = text.unwrap_or(word.bytes);
         if !takes(place, text) {
-            return explain_option(out, place, *word, text);
+            return explain_option(out, line, place, *word, text);
         }
         least = place.saturating_add(1);
     }
-    out.push_str(FORM)
+    write!(out, "{line}: {AFTER_GID}")
 }
 
-fn explain_no_option(out: &mut String, word: Word<'_>) -> Told {
+fn explain_no_option(out: &mut String, line: &str, word: Word<'_>) -> Told {
     if word.bytes.starts_with(b"#") {
         return explain_comment(out, word);
     }
     word.push_column(out)?;
     let shown = Quoted(word.bytes);
-    write!(
-        out,
-        "client: {shown} is no option; after GID come groups=10,20, caps=IPC_OWNER, saved=100:10"
-    )
+    write!(out, "{line}: {shown} is no option; {AFTER_GID}")
 }
 
 /// Whether the option at a place takes the text.
@@ -111,10 +111,10 @@ fn bad_capability(text: &[u8]) -> Option<&[u8]> {
         .find(|field| !is_one_of(field, CAPS))
 }
 
-fn explain_option(out: &mut String, place: usize, word: Word<'_>, text: &[u8]) -> Told {
+fn explain_option(out: &mut String, line: &str, place: usize, word: Word<'_>, text: &[u8]) -> Told {
     word.push_column(out)?;
     let shown = Quoted(word.bytes);
-    write!(out, "client: {shown}: ")?;
+    write!(out, "{line}: {shown}: ")?;
     match place {
         0 => explain_groups(out, text),
         1 => explain_capabilities(out, text),

@@ -118,13 +118,23 @@ impl Hints {
         let Some((first, rest)) = words.as_slice().split_first() else {
             return Ok(());
         };
-        if self.is_told(first.bytes, reason) {
+        let word = self.word_meant(*first, rest, reason);
+        if self.is_told(word.bytes, reason) {
             return Ok(());
         }
         write!(out, "ipcsh: line {number}: ")?;
-        self.explain(text, *first, rest, reason, out)?;
+        self.explain(text, word, rest, reason, out)?;
         out.push('\n')?;
-        self.lose(number, first.bytes, rest, reason)
+        self.lose(number, word.bytes, rest, reason)
+    }
+
+    /// The word of which a reason is told: that which names no client is that of its call where the first one names one.
+    fn word_meant<'a>(&self, first: Word<'a>, rest: &[Word<'a>], reason: Reason) -> Word<'a> {
+        let is_child = reason == Reason::UnknownClient && self.named(first.bytes).is_some();
+        match rest.get(1) {
+            Some(child) if is_child => *child,
+            _ => first,
+        }
     }
 
     /// Appends how many bad lines have no text.

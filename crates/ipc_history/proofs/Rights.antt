@@ -1,13 +1,13 @@
 -- The rights of a call that waits depend on permissions, credentials and limits alone, and no completion changes these.
 use Rattle.std.proofs.Common.{◌≡◌, ℕ, Bool, true, false, List, [], ◌∷◌, ◌++◌, length, refl, sym, ap, subst, ◌∙◌, ⊎_elim, Option, Some, None}
 use Rattle.std.specs.Prelude.{Ok, Err, ◌==◌, if◌then◌else◌, not, pos, int_le, nat_le, nat_lt, option_map, slice_index_or}
-use Rattle.std.specs.List.{AllByRecursion, list_any}
+use Rattle.std.specs.List.{AllByRecursion}
 use Rattle.std.specs.FinMap as finite
 use Rattle.std.proofs.lemmas.Bool.{cases_eq, true≢false}
 use Rattle.std.proofs.lemmas.Option.{none-some}
 use Rattle.ipc_call.specs.declared.settings.Receive.{Receive}
 use Rattle.ipc_call.specs.declared.calls.Call.{Call}
-use Rattle.ipc_call.specs.declared.calls.Call.TheVariants.{Interrupt, IpcRmid, IpcSet, MsgSnd, MsgRcv, SemOp, SemTimedOp}
+use Rattle.ipc_call.specs.declared.calls.Call.TheVariants.{Exec, Interrupt, InterruptThread, IpcRmid, IpcSet, Kill, MsgSnd, MsgRcv, SemOp, SemTimedOp}
 use Rattle.ipc_call.specs.declared.calls.SemOper.{SemOper}
 use Rattle.ipc_call.specs.declared.calls.Kind.{Kind}
 use Rattle.ipc_call.specs.declared.calls.Kind.TheVariants as kinds
@@ -29,7 +29,7 @@ use Rattle.ipc_objects.specs.Objects.{with_contents, with_perm}
 use Rattle.msg_queue.specs.declared.messages.Message.{Message}
 use Rattle.sem_set.specs.Trials.{committed}
 use Rattle.sem_undo.specs.Entries.{Entries, adj_of}
-use Rattle.ipc_model.specs.State.{Caller, Queue, SemSet, Sems, State, Thread, caller, creds_at, no_thread, nobody, pid_at, process_at}
+use Rattle.ipc_model.specs.State.{Caller, Queue, SemSet, Sems, State, Thread, caller, creds_at, has_exited, no_thread, nobody, pid_at, process_at}
 use Rattle.ipc_model.specs.Decision.{Outcome, outcome_of, proceeds}
 use Rattle.ipc_model.specs.Decision as decisions
 use Rattle.ipc_model.specs.Plan.{Check, IsPlain, Needs, Passes, Plan, Proceeds, Refuse, Grant, checks_in, decision, in_order, needs_among, needs_in, unless, is_denial, on_part, ◌⨾◌}
@@ -354,4 +354,7 @@ module _ (s new : State) (client : ℕ) (answer : Answer) (w : Waiting) (can : c
       waited-denied new w.client w.call rule can s (sym kept.0) (sym kept.1) waits (told-first (waits_on kind id w.call) (first_denial (creds_at new w.client) (needs new w.client w.call)) is)
   cancelled-lacks (IpcRmid kind id) granted is = absurd (told-plain (waits_on kind id w.call) Removed tt is)
   cancelled-lacks (Interrupt pid) granted is = absurd (told-plain (pid == pid_at new w.client) Interrupted tt is)
+  cancelled-lacks (InterruptThread client) granted is = absurd (told-plain (client == w.client) Interrupted tt is)
+  cancelled-lacks Exec granted is = absurd (told-plain (has_exited new w.client) Ended tt is)
+  cancelled-lacks (Kill pid) granted is = absurd (told-plain (has_exited new w.client) Ended tt is)
   cancelled-lacks call granted is = absurd (none-some rule is)

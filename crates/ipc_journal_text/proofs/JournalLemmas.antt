@@ -14,9 +14,10 @@ use Rattle.ipc_call.specs.declared.replies.JournalRow.{JournalRow}
 use Rattle.ipc_creds.specs.Credentials.{Credentials}
 use Rattle.ipc_words.specs.Words.{fields_of, words_of}
 use Rattle.ipc_journal_text.proofs.ClientLemmas.{client_ended, client_first, client_line, client_read}
-use Rattle.ipc_journal_text.proofs.CallLemmas.{word_32}
+use Rattle.ipc_journal_text.proofs.CredsLemmas.{before_last-append}
 use Rattle.ipc_journal_text.proofs.NumberLemmas.{within-decimal}
-use Rattle.ipc_journal_text.proofs.RowLemmas.{before_last-append, row_ended, row_first, row_line, row_read}
+use Rattle.ipc_journal_text.proofs.PartLemmas.{word_32}
+use Rattle.ipc_journal_text.proofs.RowLemmas.{row_ended, row_first, row_line, row_read}
 use Rattle.ipc_journal_text.proofs.WordLemmas.{IsWord, both, fields-each, is_free, words-last, words-then}
 use Rattle.ipc_text.specs.Grammar.{limit_of}
 use Rattle.ipc_journal_text.specs.JournalText.{clients_text, heading_text, limit_text, message_limits, other_limits, row_text, text_of}

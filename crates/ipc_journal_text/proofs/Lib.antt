@@ -1,10 +1,12 @@
 mod BackLemmas
 mod CallLemmas
 mod ClientLemmas
+mod CredsLemmas
 mod FieldLemmas
 mod FormLemmas
 mod JournalLemmas
 mod NumberLemmas
+mod PartLemmas
 mod RowLemmas
 mod RuleLemmas
 mod WordLemmas

@@ -1,6 +1,5 @@
 -- The line of a row is read as that row.
-use Rattle.std.proofs.Common.{◌≡◌, ℕ, ◌-◌, true, false, List, [], ◌∷◌, ◌++◌, length, take, drop, arith, refl, codes, append_assoc, length-append, bytes_eq, nat_eq, nat_lt}
-use Rattle.std.proofs.lemmas.Grind.{common_steps}
+use Rattle.std.proofs.Common.{◌≡◌, ℕ, ◌-◌, true, false, List, [], ◌∷◌, ◌++◌, arith, refl, codes, append_assoc, length-append, nat_eq, nat_lt}
 use Rattle.std.specs.List.{starts_with}
 use Rattle.std.specs.Prelude.{decimal, Option, Some, None}
 use Rattle.ipc_call.specs.Errors as errors
@@ -10,38 +9,16 @@ use Rattle.ipc_call.specs.declared.replies.JournalRow.{JournalRow}
 use Rattle.ipc_call.specs.declared.replies.JournalRow.TheVariants.{Called, Answered}
 use Rattle.ipc_call.specs.declared.rules.Rule.{Rule}
 use Rattle.ipc_words.specs.Words.{words_of}
-use Rattle.ipc_journal_text.proofs.CallLemmas.{call_read, read_32, read_64, word_32}
+use Rattle.ipc_journal_text.proofs.CallLemmas.{call_read}
+use Rattle.ipc_journal_text.proofs.CredsLemmas.{IsWord-numbered, numbered_word, read_numbered}
+use Rattle.ipc_journal_text.proofs.PartLemmas.{read_32, read_64, word_32}
 use Rattle.ipc_journal_text.proofs.FormLemmas.{IsNumber-decimal, IsWord-decimal, free_above}
 use Rattle.ipc_journal_text.proofs.RuleLemmas.{IsWord-error, IsWord-rule, named-by, small_number}
 use Rattle.ipc_journal_text.proofs.WordLemmas.{HasFields, HasWords, IsWord, fields-last, fields-then, is_free, list_all-append, words-last, words-then}
 use Rattle.ipc_journal_text.specs.CallText.{call_text}
 use Rattle.ipc_journal_text.specs.JournalText.{ending_text, row_text}
 use Rattle.ipc_journal_text.specs.Ranges.{CallFits, Fits32, Fits64, RowFits}
-use Rattle.ipc_journal_text.specs.Reading.{before_last, client_head, ending_of, numbered, row_of}
-
--- what stands before an ending
-front : (a b : List ℕ) → take (length (a ++ b) - length b) (a ++ b) ≡ a
-front a b = let e = length-append a b in grind (arith, common_steps)
-
-back : (a b : List ℕ) → drop (length (a ++ b) - length b) (a ++ b) ≡ b
-back a b = let e = length-append a b in grind (arith, common_steps)
-
-pub before_last-append : (text last : List ℕ) → bytes_eq last last ≡ true → before_last last (text ++ last) ≡ Some text
-before_last-append text last h = rw (back text last, h, front text last) refl
-
--- client N:
-pub numbered_word : ℕ → List ℕ
-numbered_word n = decimal n ++ 58 ∷ []
-
-read_numbered : (n : ℕ) → Fits32 n → numbered (numbered_word n) ≡ Some n
-unfolding numbered_word
-read_numbered n h = rw (before_last-append (decimal n) (58 ∷ []) refl) (read_32 n h)
-
-IsWord-numbered : (n : ℕ) → Fits32 n → IsWord (numbered_word n)
-unfolding numbered_word
-IsWord-numbered n h =
-    let e = length-append (decimal n) (58 ∷ []) in
-    record { some = omega (arith, e); solid = list_all-append (λ b. nat_lt 32 b) (decimal n) (58 ∷ []) (word_32 n h).solid refl }
+use Rattle.ipc_journal_text.specs.Reading.{client_head, ending_of, row_of}
 
 -- behind the number of a client
 pub client_words : (n : ℕ) (rest : List ℕ) (words : List (List ℕ)) → Fits32 n → HasWords rest words → HasWords (codes "client " ++ (decimal n ++ (codes ": " ++ rest))) (codes "client" ∷ numbered_word n ∷ words)

@@ -3,7 +3,8 @@ use Rattle.std.proofs.Common.{◌≡◌, ◌<◌, ◌^◌, arith, refl}
 use Rattle.std.specs.Prelude.{Some}
 use Rattle.ipc_call.specs.Rules.{name_of_rule, row_of}
 use Rattle.ipc_call.specs.declared.rules.Rule.{Rule}
-use Rattle.ipc_call.specs.declared.rules.Rule.TheVariants.{NotOwner, NeedsResource, NotSameUser, NotOwnUser, NotOwnGroup, NeedsSetgid, TooManyGroups, NoKey, Ended, NoProcess}
+use Rattle.ipc_call.specs.declared.rules.Rule.TheVariants.{NotOwner, NeedsResource, NotSameUser, NotOwnUser, NotOwnGroup, NeedsSetgid, TooManyGroups, NoKey, Ended, ClientInUse}
+use Rattle.ipc_call.specs.declared.rules.Rule.TheVariants.{PidInUse, BadPid, NoClient, NoProcess}
 use Rattle.ipc_call.specs.declared.rules.Rule.TheVariants.{Interrupted, MessageTooLong, TooManyOperations, QueueFull, WouldWait, TimedOut, OwnerBits, GroupBits, OtherBits}
 use Rattle.ipc_call.specs.declared.rules.Rule.TheVariants.{ReadOnly, KeyExists, BadId, BadType, TextTooLong, BadSize, BadSem, BadArgument, NoOperations, SemOutOfSet}
 use Rattle.ipc_call.specs.declared.rules.Rule.TheVariants.{NotAttached, OutOfSegment, TooManyAttached, NoSlot, ValueRange, UndoRange, NoMessage, Removed}
@@ -25,6 +26,10 @@ named-by NeedsSetgid = refl
 named-by TooManyGroups = refl
 named-by NoKey = refl
 named-by Ended = refl
+named-by ClientInUse = refl
+named-by PidInUse = refl
+named-by BadPid = refl
+named-by NoClient = refl
 named-by NoProcess = refl
 named-by Interrupted = refl
 named-by MessageTooLong = refl
@@ -66,6 +71,10 @@ IsWord-rule NeedsSetgid = record { some = omega arith; solid = refl }
 IsWord-rule TooManyGroups = record { some = omega arith; solid = refl }
 IsWord-rule NoKey = record { some = omega arith; solid = refl }
 IsWord-rule Ended = record { some = omega arith; solid = refl }
+IsWord-rule ClientInUse = record { some = omega arith; solid = refl }
+IsWord-rule PidInUse = record { some = omega arith; solid = refl }
+IsWord-rule BadPid = record { some = omega arith; solid = refl }
+IsWord-rule NoClient = record { some = omega arith; solid = refl }
 IsWord-rule NoProcess = record { some = omega arith; solid = refl }
 IsWord-rule Interrupted = record { some = omega arith; solid = refl }
 IsWord-rule MessageTooLong = record { some = omega arith; solid = refl }

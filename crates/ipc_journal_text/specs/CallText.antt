@@ -1,14 +1,16 @@
 -- Calls as text: the words of the script language, each number in one form. The text is the project's own.
-use Rattle.std.specs.Prelude.{ℕ, ℤ, false, List, [], ◌∷◌, ◌++◌, codes, decimal, flat_map, Option, Some, None}
+use Rattle.std.specs.Prelude.{ℕ, ℤ, false, List, [], ◌++◌, codes, decimal, flat_map, Option, Some, None}
 use Rattle.std.specs.Fmt.{digits, signed_decimal}
 use Rattle.hex.specs.Hex.{encode_lower}
 use Rattle.ipc_call.specs.declared.calls.Call.{Call}
 use Rattle.ipc_call.specs.declared.calls.Call.TheVariants.{MsgGet, MsgSnd, MsgRcv, SemGet, SemOp, SemTimedOp, GetVal, GetPid}
 use Rattle.ipc_call.specs.declared.calls.Call.TheVariants.{GetNcnt, GetZcnt, GetAll, SetVal, SetAll, ShmGet, ShmAt, ShmDt}
-use Rattle.ipc_call.specs.declared.calls.Call.TheVariants.{ShmRead, ShmWrite, IpcStat, IpcSet, IpcRmid, Listing, Interrupt, SetCreds, Exit}
+use Rattle.ipc_call.specs.declared.calls.Call.TheVariants.{ShmRead, ShmWrite, IpcStat, IpcSet, IpcRmid, Listing, Interrupt, InterruptThread, Kill}
+use Rattle.ipc_call.specs.declared.calls.Call.TheVariants.{SetCreds, Assume, Begin, Fork, Clone, Name, Exec, Exit}
 use Rattle.ipc_call.specs.declared.calls.Kind.{Kind}
 use Rattle.ipc_call.specs.declared.calls.Kind.TheVariants.{Queue, Sems, Segment}
 use Rattle.ipc_call.specs.declared.calls.SemOper.{SemOper}
+use Rattle.ipc_journal_text.specs.CredentialsText.{identity_text, numbers_text}
 
 -- q, s or m
 abbrev pub kind_text : Kind → List ℕ
@@ -36,14 +38,6 @@ oper_text o =
 abbrev pub value_text : ℤ → List ℕ
 value_text value = codes " " ++ signed_decimal value
 
-abbrev pub more_text : ℕ → List ℕ
-more_text number = codes "," ++ decimal number
-
--- numbers that commas separate, or - where there is none
-abbrev pub numbers_text : List ℕ → List ℕ
-numbers_text [] = codes "-"
-numbers_text (n ∷ ns) = decimal n ++ flat_map more_text ns
-
 -- new supplementary groups, where some are given
 abbrev pub groups_text : Option (List ℕ) → List ℕ
 groups_text None = []
@@ -55,6 +49,9 @@ qbytes_text (Some qbytes) = codes " " ++ decimal qbytes
 
 unfoldable pub timed_text : ℕ → ℕ → List ℕ
 timed_text id timeout = codes "semtimedop " ++ (decimal id ++ (codes " " ++ decimal timeout))
+
+unfoldable pub fork_text : ℕ → ℕ → List ℕ
+fork_text child pid = codes "fork client:" ++ (decimal child ++ (codes " " ++ decimal pid))
 
 -- the call in the words of the script language: a key in hexadecimal, flags and a mode in octal, other numbers in
 -- decimal
@@ -98,6 +95,14 @@ call_text (IpcSet kind id uid gid mode qbytes) =
 call_text (IpcRmid kind id) = object_text (codes "rmid") kind id
 call_text (Listing kind) = codes "ipcs -" ++ kind_text kind
 call_text (Interrupt pid) = codes "interrupt " ++ decimal pid
+call_text (InterruptThread client) = codes "interrupt client:" ++ decimal client
+call_text (Kill pid) = codes "kill " ++ decimal pid
 call_text (SetCreds euid egid groups) =
     codes "setcreds " ++ (decimal euid ++ (codes " " ++ (decimal egid ++ groups_text groups)))
+call_text (Assume creds) = codes "assume" ++ identity_text creds
+call_text (Begin pid creds) = codes "begin " ++ (decimal pid ++ identity_text creds)
+call_text (Fork child pid) = fork_text child pid
+call_text (Clone child) = codes "clone client:" ++ decimal child
+call_text (Name pid) = codes "name " ++ decimal pid
+call_text Exec = codes "exec"
 call_text Exit = codes "exit"

@@ -5,9 +5,10 @@ use Rattle.ipc_call.specs.Limits.{are_in_range}
 use Rattle.ipc_call.specs.declared.limits.Limits.{Limits}
 use Rattle.ipc_call.specs.declared.replies.JournalRow.{JournalRow}
 use Rattle.ipc_creds.specs.Credentials.{Credentials}
+use Rattle.ipc_journal_text.specs.CredentialsText.{Ids}
 use Rattle.ipc_journal_text.specs.JournalText.{text_of}
 use Rattle.ipc_journal_text.specs.Ranges.{IsJournal}
-use Rattle.ipc_journal_text.specs.Reading.{Ids, Read}
+use Rattle.ipc_journal_text.specs.Reading.{Read}
 use Rattle.ipc_journal_text.specs.declared.errors.Cause.{Cause}
 use Rattle.ipc_journal_text.specs.declared.errors.Cause.TheVariants as causes
 use Rattle.ipc_journal_text.specs.declared.errors.Unread.{Unread}

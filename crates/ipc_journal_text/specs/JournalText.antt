@@ -1,13 +1,14 @@
 -- A journal as text: a heading with the version, the limits and the clients' credentials at the start, and then a line for
 -- each row. The text is the project's own.
-use Rattle.std.specs.Prelude.{ℕ, ◌+◌, ◌==◌, List, [], ◌∷◌, ◌++◌, codes, decimal, flat_map, bit_and, Option, Some, None, if◌then◌else◌}
+use Rattle.std.specs.Prelude.{ℕ, ◌+◌, List, [], ◌∷◌, ◌++◌, codes, decimal, flat_map, Option, Some, None}
 use Rattle.ipc_call.specs.Rules.{error_of, name_of_rule}
 use Rattle.ipc_call.specs.declared.limits.Limits.{Limits}
 use Rattle.ipc_call.specs.declared.replies.JournalRow.{JournalRow}
 use Rattle.ipc_call.specs.declared.replies.JournalRow.TheVariants.{Called, Answered}
 use Rattle.ipc_call.specs.declared.rules.Rule.{Rule}
-use Rattle.ipc_creds.specs.Credentials.{Credentials, cap_ipc_owner, cap_setgid, cap_setuid, cap_sys_admin, cap_sys_resource}
-use Rattle.ipc_journal_text.specs.CallText.{call_text, numbers_text}
+use Rattle.ipc_creds.specs.Credentials.{Credentials}
+use Rattle.ipc_journal_text.specs.CallText.{call_text}
+use Rattle.ipc_journal_text.specs.CredentialsText.{capabilities_text, ids_in, ids_text, supplementary_text}
 use Rattle.ipc_text.specs.Rows.{error_text}
 
 unfoldable pub limit_text : List ℕ → ℕ → List ℕ
@@ -28,37 +29,11 @@ other_limits l =
 unfoldable pub heading_text : List ℕ
 heading_text = codes "ipcsh journal 1\n"
 
--- a capability by its name, where the set has it
-unfoldable pub capability_text : ℕ → List ℕ → ℕ → List ℕ
-capability_text caps name cap = if bit_and caps cap == cap then codes "," ++ name else []
-
--- the set of capabilities as a number, and the names of those that are known
-unfoldable pub capabilities_text : ℕ → List ℕ
-capabilities_text caps =
-    codes " caps "
-    ++ (decimal caps
-    ++ (capability_text caps (codes "IPC_OWNER") cap_ipc_owner
-    ++ (capability_text caps (codes "SYS_ADMIN") cap_sys_admin
-    ++ (capability_text caps (codes "SYS_RESOURCE") cap_sys_resource
-    ++ (capability_text caps (codes "SETUID") cap_setuid ++ capability_text caps (codes "SETGID") cap_setgid)))))
-
-unfoldable pub id_pair_text : List ℕ → ℕ → ℕ → List ℕ
-id_pair_text name user group = name ++ (decimal user ++ (codes ":" ++ decimal group))
-
--- the users and groups of a client: the effective, the real and the saved ones
-unfoldable pub ids_text : Credentials → List ℕ
-ids_text c =
-    id_pair_text (codes ": effective ") c.euid c.egid
-    ++ (id_pair_text (codes " real ") c.ruid c.rgid ++ id_pair_text (codes " saved ") c.suid c.sgid)
-
-unfoldable pub supplementary_text : List ℕ → List ℕ
-supplementary_text groups = codes " groups " ++ numbers_text groups
-
 -- a client by its number, and all of its credentials
 abbrev pub client_text : ℕ → Credentials → List ℕ
 client_text client c =
     codes "client "
-    ++ (decimal client ++ (ids_text c ++ (supplementary_text c.groups ++ (capabilities_text c.caps ++ codes "\n"))))
+    ++ (decimal client ++ (ids_text (ids_in c) ++ (supplementary_text c.groups ++ (capabilities_text c.caps ++ codes "\n"))))
 
 -- clients that are numbered from this number on
 abbrev pub clients_text : ℕ → List Credentials → List ℕ

@@ -1,4 +1,5 @@
 pub mod CallText
+pub mod CredentialsText
 pub mod Gives
 pub mod JournalText
 pub mod Laws

@@ -7,7 +7,9 @@ use Rattle.ipc_call.specs.Limits.{are_in_range}
 use Rattle.ipc_call.specs.declared.calls.Call.{Call}
 use Rattle.ipc_call.specs.declared.calls.Call.TheVariants.{MsgGet, MsgSnd, MsgRcv, SemGet, SemOp, SemTimedOp, GetVal, GetPid}
 use Rattle.ipc_call.specs.declared.calls.Call.TheVariants.{GetNcnt, GetZcnt, GetAll, SetVal, SetAll, ShmGet, ShmAt, ShmDt}
-use Rattle.ipc_call.specs.declared.calls.Call.TheVariants.{ShmRead, ShmWrite, IpcStat, IpcSet, IpcRmid, Listing, Interrupt, SetCreds, Exit}
+use Rattle.ipc_call.specs.declared.calls.Call.TheVariants.{ShmRead, ShmWrite, IpcStat, IpcSet, IpcRmid, Listing, Interrupt, InterruptThread, Kill}
+use Rattle.ipc_call.specs.declared.calls.Call.TheVariants.{SetCreds, Assume, Begin, Fork, Clone, Name, Exec, Exit}
+use Rattle.ipc_call.specs.declared.calls.Identity.{Identity}
 use Rattle.ipc_call.specs.declared.calls.SemOper.{SemOper}
 use Rattle.ipc_call.specs.declared.limits.Limits.{Limits}
 use Rattle.ipc_call.specs.declared.replies.JournalRow.{JournalRow}
@@ -26,6 +28,17 @@ AreBytes bytes = All (λ b. b < 2 ^ 8) bytes
 
 abbrev pub OperFits : SemOper → Type 0
 OperFits o = (o.num < 2 ^ 16) × FitsSigned w16 o.op × (o.flags < 2 ^ 16)
+
+-- numbers of 32 bits, and a set of capabilities of 8 bits
+pub record IdentityFits (i : Identity) : Type 0 where
+  pub euid : Fits32 i.euid
+  pub egid : Fits32 i.egid
+  pub ruid : Fits32 i.ruid
+  pub rgid : Fits32 i.rgid
+  pub suid : Fits32 i.suid
+  pub sgid : Fits32 i.sgid
+  pub groups : All Fits32 i.groups
+  pub caps : i.caps < 2 ^ 8
 
 abbrev pub CallFits : Call → Type 0
 CallFits (MsgGet key flags) = Fits32 key × Fits32 flags
@@ -52,7 +65,15 @@ CallFits (IpcSet kind id uid gid mode qbytes) =
 CallFits (IpcRmid kind id) = Fits32 id
 CallFits (Listing kind) = Unit {0}
 CallFits (Interrupt pid) = Fits32 pid
+CallFits (InterruptThread client) = Fits32 client
+CallFits (Kill pid) = Fits32 pid
 CallFits (SetCreds euid egid groups) = Fits32 euid × Fits32 egid × IfSome groups (λ gs. All Fits32 gs)
+CallFits (Assume creds) = IdentityFits creds
+CallFits (Begin pid creds) = Fits32 pid × IdentityFits creds
+CallFits (Fork child pid) = Fits32 child × Fits32 pid
+CallFits (Clone child) = Fits32 child
+CallFits (Name pid) = Fits32 pid
+CallFits Exec = Unit {0}
 CallFits Exit = Unit {0}
 
 abbrev pub RowFits : JournalRow → Type 0

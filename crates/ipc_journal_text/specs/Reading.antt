@@ -3,17 +3,20 @@ use Rattle.std.specs.Prelude.{ℕ, Bool, ◌+◌, ◌-◌, ◌^◌, ◌==◌, mi
 use Rattle.std.specs.List.{starts_with}
 use Rattle.ipc_call.specs.Limits.{with_limit}
 use Rattle.ipc_call.specs.declared.calls.Call.{Call}
-use Rattle.ipc_call.specs.declared.calls.Call.TheVariants.{Listing}
+use Rattle.ipc_call.specs.declared.calls.Call.TheVariants.{Assume, Begin, Listing}
+use Rattle.ipc_call.specs.declared.calls.Identity.{Identity}
 use Rattle.ipc_call.specs.declared.limits.Limit.{Limit}
 use Rattle.ipc_call.specs.declared.limits.Limits.{Limits}
 use Rattle.ipc_call.specs.declared.replies.JournalRow.{JournalRow}
 use Rattle.ipc_call.specs.declared.replies.JournalRow.TheVariants.{Called, Answered}
 use Rattle.ipc_call.specs.declared.rules.Rule.{Rule}
 use Rattle.ipc_creds.specs.Credentials.{Credentials}
+use Rattle.ipc_journal_text.specs.CredentialsText.{Ids}
 use Rattle.ipc_journal_text.specs.RuleNames.{rule_named}
 use Rattle.ipc_text.specs.Calls.{kind_named, new_groups}
 use Rattle.ipc_text.specs.CallWords.{call_of}
 use Rattle.ipc_text.specs.Grammar.{limit_of, of_first, of_first_two, of_one, of_two, only, two_numbers}
+use Rattle.ipc_text.specs.Lives.{call_by, naming_of}
 use Rattle.ipc_words.specs.Numbers.{number_32, number_64, number_within}
 use Rattle.ipc_words.specs.Steps.{◌>>=◌}
 use Rattle.ipc_words.specs.Words.{after_prefix, fields_of, words_of}
@@ -41,15 +44,91 @@ client_head words = do
   number ← numbered client.0
   Some (number, client.1)
 
--- a listing is that of one option of ipcs(1), and any other call as in a script
+-- a listing is that of one option of ipcs(1)
 abbrev pub kind_option : List ℕ → Option Call
 kind_option word = do
   name ← after_prefix (codes "-") word
   kind ← kind_named name
   Some (Listing kind)
 
+-- NAME UID:GID, which one colon (byte 58) separates
+abbrev pub pair_behind : List ℕ → List (List ℕ) → Option ((ℕ × ℕ) × List (List ℕ))
+pair_behind name words = do
+  pair ← word_behind name words
+  ids ← of_two two_numbers (fields_of 58 pair.0)
+  Some (ids, pair.1)
+
+-- effective UID:GID real UID:GID saved UID:GID, and the words behind them
+abbrev pub ids_behind : List (List ℕ) → Option (Ids × List (List ℕ))
+ids_behind words = do
+  effective ← pair_behind (codes "effective") words
+  real ← pair_behind (codes "real") effective.1
+  saved ← pair_behind (codes "saved") real.1
+  Some (record { effective = effective.0; real = real.0; saved = saved.0 }, saved.1)
+
+abbrev pub ids_of : List (List ℕ) → Option (Ids × List (List ℕ))
+ids_of words = do
+  head ← client_head words
+  ids_behind head.1
+
+-- groups GROUPS caps CAPS
+abbrev pub lists_of : List (List ℕ) → Option (List ℕ × List ℕ)
+lists_of words = do
+  groups ← word_behind (codes "groups") words
+  caps ← word_behind (codes "caps") groups.1
+  only (groups.0, caps.0) caps.1
+
+-- the set as a number, which the names behind it follow from
+abbrev pub caps_of : List ℕ → Option ℕ
+caps_of text = of_first (λ bits names. number_within (2 ^ 8 - 1) bits) (fields_of 44 text)
+
+abbrev pub identity_by : Ids → List ℕ → ℕ → Identity
+identity_by ids groups caps = record {
+  euid = ids.effective.0;
+  egid = ids.effective.1;
+  groups = groups;
+  caps = caps;
+  ruid = ids.real.0;
+  suid = ids.saved.0;
+  rgid = ids.real.1;
+  sgid = ids.saved.1;
+}
+
+-- the credentials that a call hands in
+unfoldable pub identity_words : List (List ℕ) → Option Identity
+identity_words words = do
+  ids ← ids_behind words
+  lists ← lists_of ids.1
+  caps ← caps_of lists.1
+  groups ← new_groups lists.0
+  Some (identity_by ids.0 groups caps)
+
+-- PID: CREDENTIALS
+abbrev pub begin_words : List ℕ → List (List ℕ) → Option Call
+begin_words word words = do
+  pid ← numbered word
+  creds ← identity_words words
+  Some (Begin pid creds)
+
+-- a call that names another client, as client:N
+abbrev pub naming_call : List (List ℕ) → Option Call
+naming_call words = do
+  named ← naming_of words
+  text ← after_prefix (codes "client:") named.0
+  client ← number_32 text
+  Some (call_by named.1 client)
+
+-- any other call is as in a script
+abbrev pub call_or : Option Call → List (List ℕ) → Option Call
+call_or None words = call_of words
+call_or (Some call) words = Some call
+
 abbrev pub call_words : List ℕ → List (List ℕ) → Option Call
-call_words word words = if bytes_eq word (codes "ipcs") then of_one kind_option words else call_of (word ∷ words)
+call_words word words =
+    if bytes_eq word (codes "ipcs") then of_one kind_option words
+    else (if bytes_eq word (codes "begin") then of_first begin_words words
+    else (if bytes_eq word (codes "assume:") then option_map (λ creds. Assume creds) (identity_words words)
+    else call_or (naming_call (word ∷ words)) (word ∷ words)))
 
 unfoldable pub call_in : List (List ℕ) → Option Call
 call_in words = of_first call_words words
@@ -108,37 +187,6 @@ called_line line None = answered_line (after_prefix (codes "  ") line)
 -- the row of a line
 unfoldable pub row_of : List ℕ → Option JournalRow
 row_of line = called_line line (after_prefix (codes "at ") line)
-
--- NAME UID:GID, which one colon (byte 58) separates
-abbrev pub pair_behind : List ℕ → List (List ℕ) → Option ((ℕ × ℕ) × List (List ℕ))
-pair_behind name words = do
-  pair ← word_behind name words
-  ids ← of_two two_numbers (fields_of 58 pair.0)
-  Some (ids, pair.1)
-
-pub record Ids : Type 0 where
-  pub effective : ℕ × ℕ
-  pub real : ℕ × ℕ
-  pub saved : ℕ × ℕ
-
-abbrev pub ids_of : List (List ℕ) → Option (Ids × List (List ℕ))
-ids_of words = do
-  head ← client_head words
-  effective ← pair_behind (codes "effective") head.1
-  real ← pair_behind (codes "real") effective.1
-  saved ← pair_behind (codes "saved") real.1
-  Some (record { effective = effective.0; real = real.0; saved = saved.0 }, saved.1)
-
--- groups GROUPS caps CAPS
-abbrev pub lists_of : List (List ℕ) → Option (List ℕ × List ℕ)
-lists_of words = do
-  groups ← word_behind (codes "groups") words
-  caps ← word_behind (codes "caps") groups.1
-  only (groups.0, caps.0) caps.1
-
--- the set as a number, which the names behind it follow from
-abbrev pub caps_of : List ℕ → Option ℕ
-caps_of text = of_first (λ bits names. number_within (2 ^ 8 - 1) bits) (fields_of 44 text)
 
 abbrev pub credentials : Ids → List ℕ → ℕ → Credentials
 credentials ids groups caps = record {

@@ -1,8 +1,10 @@
 // The calls of a journal as text.
 
 ghost use Rattle.std.specs.Prelude.{◌≡◌, ◌++◌, OnOk, flat_map, string_bytes};
-ghost use Rattle.ipc_journal_text.specs.CallText.{bytes_text, call_text, groups_text, kind_text, more_text, numbers_text, object_text, oper_text, pair_text, qbytes_text, timed_text, value_text};
+ghost use Rattle.ipc_journal_text.specs.CredentialsText.{more_text, numbers_text};
+ghost use Rattle.ipc_journal_text.specs.CallText.{bytes_text, call_text, fork_text, groups_text, kind_text, object_text, oper_text, pair_text, qbytes_text, timed_text, value_text};
 
+use crate::credentials::print_identity;
 use ipc_call::{Call, Items, Kind, Memory, SemOper};
 use std::fmt::Write;
 
@@ -78,10 +80,24 @@ pub fn print_call(text: &mut String, call: &Call) -> Result<(), Memory>
             text.push_str(kind_word(*kind))
         }
         Call::Interrupt { pid } => write!(text, "interrupt {pid}"),
+        Call::InterruptThread { client } => write!(text, "interrupt client:{client}"),
+        Call::Kill { pid } => write!(text, "kill {pid}"),
         Call::SetCreds { euid, egid, groups } => {
             write!(text, "setcreds {euid} {egid}")?;
             print_groups(text, groups)
         }
+        Call::Assume { creds } => {
+            text.push_str("assume")?;
+            print_identity(text, creds)
+        }
+        Call::Begin { pid, creds } => {
+            write!(text, "begin {pid}")?;
+            print_identity(text, creds)
+        }
+        Call::Fork { child, pid } => print_fork(text, *child, *pid),
+        Call::Clone { child } => write!(text, "clone client:{child}"),
+        Call::Name { pid } => write!(text, "name {pid}"),
+        Call::Exec => text.push_str("exec"),
         Call::Exit => text.push_str("exit"),
     }
 }
@@ -131,6 +147,13 @@ fn print_timed(text: &mut String, id: u32, timeout: u64) -> Result<(), Memory>
     ensures { OnOk result (string_bytes text.new ≡ string_bytes text.old ++ timed_text id timeout) }
 {
     write!(text, "semtimedop {id} {timeout}")
+}
+
+#[tactic(auto, unfolding(crate::specs::CallText::fork_text))]
+fn print_fork(text: &mut String, child: u32, pid: u32) -> Result<(), Memory>
+    ensures { OnOk result (string_bytes text.new ≡ string_bytes text.old ++ fork_text child pid) }
+{
+    write!(text, "fork client:{child} {pid}")
 }
 
 fn print_value(text: &mut String, value: i32) -> Result<(), Memory>

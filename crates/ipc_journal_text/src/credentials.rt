@@ -1,11 +1,14 @@
 // The clients of a journal as text: their credentials at the start.
 
 ghost use Rattle.std.specs.Prelude.{◌≡◌, ◌++◌, ◌+◌, ◌<◌, ◌^◌, OnOk, length, string_bytes};
-ghost use Rattle.ipc_journal_text.specs.JournalText.{capabilities_text, capability_text, client_text, clients_text, id_pair_text, ids_text, supplementary_text};
+ghost use Rattle.ipc_journal_text.specs.CredentialsText.{capabilities_text, capability_text, id_pair_text, identity_text, ids_text, supplementary_text};
+ghost use Rattle.ipc_journal_text.specs.Gives.{ids_shown};
+ghost use Rattle.ipc_journal_text.specs.JournalText.{client_text, clients_text};
 
 use crate::calls::print_numbers;
+use crate::heads::Ids;
 use bitflags::Flags;
-use ipc_call::Memory;
+use ipc_call::{Identity, Memory};
 use ipc_creds::{Caps, Creds};
 use std::fmt::Write;
 
@@ -24,23 +27,42 @@ pub(crate) fn print_clients(text: &mut String, first: u64, clients: &[Creds]) ->
 fn print_client(text: &mut String, client: u64, creds: &Creds) -> Result<(), Memory>
     ensures { OnOk result (string_bytes text.new ≡ string_bytes text.old ++ client_text client creds.now) }
 {
+    let ids = Ids {
+        effective: (creds.euid(), creds.egid()),
+        real: creds.real(),
+        saved: creds.saved(),
+    };
     write!(text, "client {client}")?;
-    print_ids(text, creds)?;
+    print_ids(text, ids)?;
     print_supplementary(text, creds.groups())?;
     print_capabilities(text, creds.caps())?;
     text.push_str("\n")
 }
 
-#[tactic(auto, unfolding(crate::specs::JournalText::ids_text))]
-fn print_ids(text: &mut String, creds: &Creds) -> Result<(), Memory>
-    ensures { OnOk result (string_bytes text.new ≡ string_bytes text.old ++ ids_text creds.now) }
+/// Appends the credentials that a call hands in, behind its word.
+pub(crate) fn print_identity(text: &mut String, creds: &Identity) -> Result<(), Memory>
+    ensures { OnOk result (string_bytes text.new ≡ string_bytes text.old ++ identity_text creds.now) }
 {
-    print_id_pair(text, ": effective ", (creds.euid(), creds.egid()))?;
-    print_id_pair(text, " real ", creds.real())?;
-    print_id_pair(text, " saved ", creds.saved())
+    let ids = Ids {
+        effective: (creds.euid, creds.egid),
+        real: (creds.ruid, creds.rgid),
+        saved: (creds.suid, creds.sgid),
+    };
+    print_ids(text, ids)?;
+    print_supplementary(text, creds.groups.as_slice())?;
+    print_capabilities(text, Caps::from_bits_retain(creds.caps))
 }
 
-#[tactic(auto, unfolding(crate::specs::JournalText::id_pair_text))]
+#[tactic(auto, unfolding(crate::specs::CredentialsText::ids_text))]
+fn print_ids(text: &mut String, ids: Ids) -> Result<(), Memory>
+    ensures { OnOk result (string_bytes text.new ≡ string_bytes text.old ++ ids_text (ids_shown ids)) }
+{
+    print_id_pair(text, ": effective ", ids.effective)?;
+    print_id_pair(text, " real ", ids.real)?;
+    print_id_pair(text, " saved ", ids.saved)
+}
+
+#[tactic(auto, unfolding(crate::specs::CredentialsText::id_pair_text))]
 fn print_id_pair(text: &mut String, name: &str, ids: (u32, u32)) -> Result<(), Memory>
     ensures { OnOk result (string_bytes text.new ≡ string_bytes text.old ++ id_pair_text name.now ids.0 ids.1) }
 {
@@ -48,7 +70,7 @@ fn print_id_pair(text: &mut String, name: &str, ids: (u32, u32)) -> Result<(), M
     write!(text, "{name}{user}:{group}")
 }
 
-#[tactic(auto, unfolding(crate::specs::JournalText::supplementary_text))]
+#[tactic(auto, unfolding(crate::specs::CredentialsText::supplementary_text))]
 fn print_supplementary(text: &mut String, groups: &[u32]) -> Result<(), Memory>
     ensures { OnOk result (string_bytes text.new ≡ string_bytes text.old ++ supplementary_text groups.now) }
 {
@@ -56,7 +78,7 @@ fn print_supplementary(text: &mut String, groups: &[u32]) -> Result<(), Memory>
     print_numbers(text, groups)
 }
 
-#[tactic(auto, unfolding(crate::specs::JournalText::capabilities_text))]
+#[tactic(auto, unfolding(crate::specs::CredentialsText::capabilities_text))]
 fn print_capabilities(text: &mut String, caps: Caps) -> Result<(), Memory>
     ensures { OnOk result (string_bytes text.new ≡ string_bytes text.old ++ capabilities_text caps.0) }
 {
@@ -69,7 +91,7 @@ fn print_capabilities(text: &mut String, caps: Caps) -> Result<(), Memory>
     print_capability(text, caps, "SETGID", Caps::SETGID)
 }
 
-#[tactic(auto, unfolding(crate::specs::JournalText::capability_text))]
+#[tactic(auto, unfolding(crate::specs::CredentialsText::capability_text))]
 fn print_capability(text: &mut String, caps: Caps, name: &str, cap: Caps) -> Result<(), Memory>
     ensures { OnOk result (string_bytes text.new ≡ string_bytes text.old ++ capability_text caps.0 name.now cap.0) }
 {

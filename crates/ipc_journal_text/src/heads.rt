@@ -2,7 +2,7 @@
 
 ghost use Rattle.std.specs.Prelude.{◌≡◌, ◌≤◌, IfOk, codes, option_map, vec_len};
 ghost use Rattle.ipc_journal_text.specs.Gives.{Gives, ids_shown};
-ghost use Rattle.ipc_journal_text.specs.Reading.{caps_of as caps_word, client_of as client_words, credentials, ids_of as ids_words, lists_of as lists_words, pair_behind as behind_pair};
+ghost use Rattle.ipc_journal_text.specs.Reading.{caps_of as caps_word, client_of as client_words, credentials, identity_by, identity_words, ids_behind as behind_ids, ids_of as ids_words, lists_of as lists_words, pair_behind as behind_pair};
 ghost use Rattle.ipc_text.specs.Calls.{new_groups};
 ghost use Rattle.ipc_text.specs.Grammar.{number_list as numbers_word};
 ghost use Rattle.ipc_words.specs.Words.{words_of};
@@ -10,6 +10,7 @@ ghost use Rattle.ipc_words.specs.Words.{words_of};
 use crate::errors::{Cause, Wanted};
 use crate::rows::{client_and_rest, two_fields, word_behind};
 use bitflags::Flags;
+use ipc_call::{Identity, Items};
 use ipc_creds::{Caps, Creds, GROUPS_MAX};
 use ipc_text::two_numbers;
 use ipc_words::{number, number_32, split_field, split_word};
@@ -37,10 +38,10 @@ pub(crate) fn client_of(alloc: Global, line: &[u8]) -> Result<Creds, Cause>
 
 /// The users and groups of a client, but for supplementary ones.
 #[derive(Clone, Copy)]
-struct Ids {
-    effective: (u32, u32),
-    real: (u32, u32),
-    saved: (u32, u32),
+pub(crate) struct Ids {
+    pub(crate) effective: (u32, u32),
+    pub(crate) real: (u32, u32),
+    pub(crate) saved: (u32, u32),
 }
 
 impl Ids {
@@ -56,12 +57,35 @@ impl Ids {
         creds.take_on(self.effective.0, self.effective.1, None);
         creds
     }
+
+    /// The same as a call hands them in.
+    fn identity(self, groups: Items<u32>, caps: Caps) -> Identity
+        ensures { result ≡ identity_by (ids_shown self) groups caps.0 }
+    {
+        Identity {
+            euid: self.effective.0,
+            egid: self.effective.1,
+            groups,
+            caps: caps.bits(),
+            ruid: self.real.0,
+            suid: self.saved.0,
+            rgid: self.real.1,
+            sgid: self.saved.1,
+        }
+    }
 }
 
 fn ids_of(line: &[u8]) -> Option<(Ids, &[u8])>
     ensures { option_map (λ x. (ids_shown x.0, words_of x.1.now)) result ≡ ids_words (words_of line.now) }
 {
     let (_, words) = client_and_rest(line)?;
+    ids_behind(words)
+}
+
+// `effective UID:GID real UID:GID saved UID:GID`
+fn ids_behind(words: &[u8]) -> Option<(Ids, &[u8])>
+    ensures { option_map (λ x. (ids_shown x.0, words_of x.1.now)) result ≡ behind_ids (words_of words.now) }
+{
     let (effective, words) = pair_behind(b"effective", words)?;
     let (real, words) = pair_behind(b"real", words)?;
     let (saved, words) = pair_behind(b"saved", words)?;
@@ -71,6 +95,26 @@ fn ids_of(line: &[u8]) -> Option<(Ids, &[u8])>
         saved,
     };
     Some((ids, words))
+}
+
+/// The credentials of `effective UID:GID real UID:GID saved UID:GID groups GROUPS caps CAPS`, as a call hands them in.
+#[tactic(auto, unfolding(crate::specs::Reading::identity_words))]
+pub(crate) fn identity_of(alloc: Global, words: &[u8]) -> Result<Option<Identity>, AllocError>
+    ensures { IfOk result (λ identity. identity ≡ identity_words (words_of words.now)) }
+{
+    let Some((ids, words)) = ids_behind(words) else {
+        return Ok(None);
+    };
+    let Some((groups, caps)) = lists_of(words) else {
+        return Ok(None);
+    };
+    let Some(caps) = caps_of(caps) else {
+        return Ok(None);
+    };
+    match groups_of(alloc, groups)? {
+        Some(groups) => Ok(Some(ids.identity(Items::new(groups), caps))),
+        None => Ok(None),
+    }
 }
 
 // `NAME UID:GID`

@@ -2,14 +2,15 @@
 
 ghost use Rattle.std.specs.Prelude.{◌≡◌, ◌≢◌, [], ◌∷◌, IfOk, MatchOption, codes, length, option_map};
 ghost use Rattle.ipc_journal_text.specs.Gives.{Gives};
-ghost use Rattle.ipc_journal_text.specs.Reading.{call_in as call_of_words, called_of as called_of_words, client_head, ending_of as ending_words, kind_option, placed, numbered as number_word, row_of as row_of_line, answered_of as answered_of_words, timed, word_behind as behind_word};
+ghost use Rattle.ipc_journal_text.specs.Reading.{begin_words, call_in as call_of_words, called_of as called_of_words, client_head, ending_of as ending_words, kind_option, naming_call, placed, numbered as number_word, row_of as row_of_line, answered_of as answered_of_words, timed, word_behind as behind_word};
 ghost use Rattle.ipc_text.specs.Grammar.{of_first, of_one};
 ghost use Rattle.ipc_words.specs.Words.{fields_of, words_of};
 
 use crate::errors::{Cause, Wanted};
+use crate::heads::identity_of;
 use crate::rules::rule_named;
 use ipc_call::{Call, JournalRow, Rule};
-use ipc_text::{call_of, first_two, four_words, kind_named, one_word};
+use ipc_text::{call_of, first_two, four_words, kind_named, naming_of, one_word};
 use ipc_words::{number, number_32, split_field, split_word};
 use std::alloc::{AllocError, Global};
 
@@ -97,9 +98,39 @@ fn call_in(alloc: Global, words: &[u8]) -> Result<Option<Call>, AllocError>
     };
     if word == b"ipcs".as_slice() {
         Ok(listing_of(rest))
+    } else if word == b"begin".as_slice() {
+        begin_of(alloc, rest)
+    } else if word == b"assume:".as_slice() {
+        let creds = identity_of(alloc, rest)?;
+        Ok(creds.map(|creds| Call::Assume { creds }))
+    } else if let Some(call) = call_naming(words) {
+        Ok(Some(call))
     } else {
         call_of(alloc, words)
     }
+}
+
+// `PID: CREDENTIALS`
+fn begin_of(alloc: Global, words: &[u8]) -> Result<Option<Call>, AllocError>
+    ensures { IfOk result (λ call. call ≡ of_first begin_words (words_of words.now)) }
+{
+    let Some((pid, words)) = split_word(words) else {
+        return Ok(None);
+    };
+    let Some(pid) = numbered(pid) else {
+        return Ok(None);
+    };
+    let creds = identity_of(alloc, words)?;
+    Ok(creds.map(|creds| Call::Begin { pid, creds }))
+}
+
+// A call that names another client, as `client:N`.
+fn call_naming(words: &[u8]) -> Option<Call>
+    ensures { result ≡ naming_call (words_of words.now) }
+{
+    let (word, naming) = naming_of(words)?;
+    let client = number_32(word.strip_prefix(b"client:")?)?;
+    Some(naming.call(client))
 }
 
 fn listing_of(words: &[u8]) -> Option<Call>

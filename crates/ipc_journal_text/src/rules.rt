@@ -6,7 +6,7 @@ ghost use Rattle.ipc_journal_text.specs.RuleNames.{rule_named as rule_of_name};
 use ipc_call::Rule;
 
 /// All rules.
-const RULES: [Rule; 37] = [
+const RULES: [Rule; 41] = [
     Rule::NotOwner,
     Rule::NeedsResource,
     Rule::NotSameUser,
@@ -16,6 +16,10 @@ const RULES: [Rule; 37] = [
     Rule::TooManyGroups,
     Rule::NoKey,
     Rule::Ended,
+    Rule::ClientInUse,
+    Rule::PidInUse,
+    Rule::BadPid,
+    Rule::NoClient,
     Rule::NoProcess,
     Rule::Interrupted,
     Rule::MessageTooLong,

@@ -1,9 +1,10 @@
 -- The segments that a client has attached, after an attach and a detach.
-use Rattle.std.proofs.Common.{◌≡◌, ℕ, ◌+◌, Bool, true, false, cond, refl, sym, ap, arith, ◌∙◌, Option, Some, None}
+use Rattle.std.proofs.Common.{◌≡◌, ◌≢◌, ℕ, ◌+◌, Bool, true, false, cond, refl, sym, ap, arith, ◌∙◌, Option, Some, None}
 use Rattle.std.specs.Prelude.{◌==◌, nat_lt}
 use Rattle.std.specs.Ordering.{is_eq}
 use Rattle.std.specs.FinMap as finite
 use Rattle.std.proofs.lemmas.Bool.Decides.{nat_tests}
+use Rattle.std.proofs.lemmas.Bool.{ne_eqb}
 use Rattle.client_map.specs.Keys.{key}
 use Rattle.client_map.proofs.Orders.{equal_keys, key_same, key_total}
 use Rattle.shm_seg.specs.declared.attachments.Attachment.{Attachment}
@@ -50,6 +51,37 @@ module _ (client : ℕ) where
         by true false o = refl
         by false true o = refl
         by false false o = refl
+
+  -- what another process attaches
+  own-apart : (m : Attached) (child n : ℕ) (a : Attachment) → child ≢ client → own (with_attachment m child n a) ≡ own m
+  own-apart m child n a ne = finite.same_map key_total key_same _ _ (λ q.
+      get-own (with_attachment m child n a) q ∙ ap (λ o. cond (q.client == client) o None) (finite.get-insert key_total m (key child n) a q)
+      ∙ by q (is_eq (handle_cmp q (key child n))) refl ∙ sym (get-own m q))
+    where
+      by : (q : Handle) (b : Bool) → is_eq (handle_cmp q (key child n)) ≡ b → cond (q.client == client) (cond (is_eq (handle_cmp q (key child n))) (Some a) (finite.get m q)) None
+          ≡ cond (q.client == client) (finite.get m q) None
+      by q true is =
+          let other : (q.client == client) ≡ false = ap (λ (x : Handle). x.client == client) (equal_keys key_total key_same q (key child n) is) ∙ ne_eqb child client ne in
+          ap (λ b. cond b (cond (is_eq (handle_cmp q (key child n))) (Some a) (finite.get m q)) None) other ∙ sym (ap (λ b. cond b (finite.get m q) None) other)
+      by q false isnt = ap (λ b. cond (q.client == client) (cond b (Some a) (finite.get m q)) None) isnt
+
+  own-left : (m : Attached) (child n : ℕ) → child ≢ client → own (without_attachment m child n) ≡ own m
+  own-left m child n ne = finite.same_map key_total key_same _ _ (λ q.
+      get-own (without_attachment m child n) q ∙ ap (λ o. cond (q.client == client) o None) (finite.get-remove key_total m (key child n) q)
+      ∙ by q (is_eq (handle_cmp q (key child n))) refl ∙ sym (get-own m q))
+    where
+      by : (q : Handle) (b : Bool) → is_eq (handle_cmp q (key child n)) ≡ b → cond (q.client == client) (cond (is_eq (handle_cmp q (key child n))) None (finite.get m q)) None
+          ≡ cond (q.client == client) (finite.get m q) None
+      by q true is =
+          let other : (q.client == client) ≡ false = ap (λ (x : Handle). x.client == client) (equal_keys key_total key_same q (key child n) is) ∙ ne_eqb child client ne in
+          ap (λ b. cond b (cond (is_eq (handle_cmp q (key child n))) None (finite.get m q)) None) other ∙ sym (ap (λ b. cond b (finite.get m q) None) other)
+      by q false isnt = ap (λ b. cond (q.client == client) (cond b None (finite.get m q)) None) isnt
+
+  pub attached-left : (m : Attached) (child n q : ℕ) → child ≢ client → has_attached (without_attachment m child n) client q ≡ has_attached m client q
+  attached-left m child n q ne = ap (λ x. nat_lt 0 (attach_count x q)) (own-left m child n ne)
+
+  pub attached-apart : (m : Attached) (child n : ℕ) (a : Attachment) (q : ℕ) → child ≢ client → has_attached (with_attachment m child n a) client q ≡ has_attached m client q
+  attached-apart m child n a q ne = ap (λ x. nat_lt 0 (attach_count x q)) (own-apart m child n a ne)
 
   -- another segment than the new one is attached as before
   pub attached-other : (m : Attached) (n : ℕ) (a : Attachment) (q : ℕ) → attachment_at m client n ≡ None → (a.segment ≡ q → ⊥) → has_attached (with_attachment m client n a) client q ≡ has_attached m client q

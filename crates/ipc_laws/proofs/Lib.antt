@@ -2,6 +2,7 @@ mod Attached
 mod Closed
 mod Controls
 pub mod Deadlines
+mod Fresh
 mod Lists
 mod Needs
 mod Own

@@ -1,27 +1,26 @@
 -- Each call of the client itself comes out alike in a state and in its blur: a line for each call.
-use Rattle.std.proofs.Common.{◌≡◌, ◌≢◌, ⊎_elim, ℕ, Bool, true, false, cond, List, [], ◌∷◌, ◌++◌, refl, sym, ap, ◌∙◌, subst, ℤ, Some, None}
-use Rattle.std.specs.Prelude.{◌==◌, not, ◌&&◌, length, nat_le, nat_lt, is_some, option_map, unwrap_or, slice_get, slice_set, if◌then◌else◌}
-use Rattle.std.specs.List.{count_by}
+use Rattle.std.proofs.Common.{◌≡◌, ◌≢◌, ⊎_elim, ℕ, Bool, true, false, cond, List, [], ◌∷◌, refl, sym, ap, ◌∙◌, subst, ℤ, Some, None}
+use Rattle.std.specs.Prelude.{◌==◌, ◌+◌, not, ◌&&◌, length, map, nat_le, nat_lt, is_some, option_map, unwrap_or, slice_get, slice_set, if◌then◌else◌}
+use Rattle.std.specs.List.{count_by, find, list_any}
 use Rattle.std.proofs.lemmas.Bool.{cases_eq, eqb-true, true≢false}
 use Rattle.ipc_call.specs.declared.calls.Call.{Call}
-use Rattle.ipc_call.specs.declared.calls.Call.TheVariants.{MsgGet, MsgSnd, MsgRcv, SemGet, SemOp, SemTimedOp, GetVal, GetPid, GetNcnt, GetZcnt, GetAll, SetVal, SetAll, ShmGet, ShmAt, ShmDt, ShmRead, ShmWrite, Exit, IpcStat, IpcSet, IpcRmid, Listing, Interrupt, SetCreds}
-use Rattle.ipc_call.specs.declared.calls.Kind.{Kind}
+use Rattle.ipc_call.specs.declared.calls.Call.TheVariants.{MsgGet, MsgSnd, MsgRcv, SemGet, SemOp, SemTimedOp, GetVal, GetPid, GetNcnt, GetZcnt, GetAll, SetVal, SetAll, ShmGet, ShmAt, ShmDt, ShmRead, ShmWrite, Exit, IpcStat, IpcSet, IpcRmid, Listing, Interrupt, SetCreds, Assume, Begin, Fork, Clone, Name, Exec, Kill, InterruptThread}
 use Rattle.ipc_call.specs.declared.calls.Kind.TheVariants as kinds
 use Rattle.ipc_call.specs.declared.calls.SemOper.{SemOper}
 use Rattle.ipc_call.specs.declared.replies.Answer.TheVariants.{Done}
-use Rattle.ipc_call.specs.declared.rules.Rule.TheVariants.{Ended, NoProcess, TooManyGroups}
+use Rattle.ipc_call.specs.declared.rules.Rule.TheVariants.{BadPid, ClientInUse, Ended, NoClient, NoProcess, PidInUse, TooManyGroups}
 use Rattle.ipc_creds.specs.Credentials.{Credentials, became, groups_max}
 use Rattle.ipc_perm.specs.Access.{BecomeGroup, BecomeUser, SameUser, SetGroups}
 use Rattle.ipc_objects.specs.declared.object.Object.{Object}
 use Rattle.sem_set.specs.Sets.{pid_of as last_of, value_of}
 use Rattle.sem_undo.specs.Entries.{adj_of}
-use Rattle.ipc_model.specs.State.{Caller, Queues, SemSet, Sems, Shared, State, caller, creds_at, has_exited, is_running, pid_at, process_at}
+use Rattle.ipc_model.specs.State.{Caller, Queues, SemSet, Sems, Shared, State, Thread, caller, creds_at, has_pid, is_running, pid_at, process_at}
 use Rattle.ipc_model.specs.Plan.{Needs, Passes, Plan}
 use Rattle.ipc_model.specs.Gets.{getting_queue, Get}
 use Rattle.ipc_model.specs.Semaphores.{after_exit, set_at, stopping, stopping_on}
-use Rattle.ipc_model.specs.Segments.{after_detaches}
-use Rattle.ipc_model.specs.Processes.{ended, process, process_ended, with_creds}
-use Rattle.ipc_model.specs.Decide.{OnQueues, OnSems, OnShared, get_waiting, is_negative, is_stopped_at, is_zero, part_plan, plan, plan_alive, waits_at, waits_for, whole}
+use Rattle.ipc_model.specs.Segments.{after_detaches, after_fork}
+use Rattle.ipc_model.specs.Processes.{after_exec, all_ended, as_process, credentials_of, ended, free_client, is_other, is_process, process_ended, renamed, to_signal, with_client, with_creds}
+use Rattle.ipc_model.specs.Decide.{OnQueues, OnSems, OnShared, get_waiting, is_negative, is_stopped_at, is_zero, may_call, part_plan, plan, plan_alive, waits_at, waits_for, whole}
 use Rattle.ipc_laws.specs.Worlds.{blank_queue, blank_set, blur_by, blur_shared, hides_closed, is_hidden, is_hidden_at}
 use Rattle.ipc_laws.proofs.Controls.{own-list, own-remove, own-set, own-stat}
 use Rattle.ipc_laws.proofs.Lists.{count-kept}
@@ -108,8 +107,47 @@ module _ (client : ℕ) (s : State) where
   own-exit true = own-ended
   own-exit false = own-process
 
+  own-begun : (child q p next : ℕ) (d : Credentials) (u v : Shared) → segments.IsAlike home c s.shared u v
+      → R (record (with_client s child q p d) { next = next; shared = u }) (record (with_client b child q p d) { next = next; shared = v })
+  own-begun child q p next d u v on_shared =
+      own-parts (record (with_client s child q p d) { next = next; shared = u }) (record (with_client b child q p d) { next = next; shared = v }) refl (sets.same-sems home c s.sems)
+      (λ i. record (dim-twice home c s i) { clients = (with_client s child q p d).clients; threads = (with_client s child q p d).threads; next = next; shared = on_shared.0 i })
+
+  own-named : (p : ℕ) → R (record s { threads = map (renamed home p) s.threads }) (record b { threads = map (renamed home p) s.threads })
+  own-named p = own-parts (record s { threads = map (renamed home p) s.threads }) (record b { threads = map (renamed home p) s.threads }) refl (sets.same-sems home c s.sems)
+      (λ i. record (dim-twice home c s i) { threads = map (renamed home p) s.threads })
+
   own-creds : (new : Credentials) → R (with_creds s client new) (with_creds b client new)
   own-creds new = (λ i. record (dim-twice home c s i) { clients = slice_set s.clients client new }, (λ q is. is, λ q is. is))
+
+  own-exec : R (after_exec s me) (after_exec b me)
+  own-exec = own-parts (after_exec s me) (after_exec b me) refl (sets.same-sems home c s.sems)
+      (λ i. record (dim-twice home c s i) {
+        clients = (after_exec s me).clients;
+        threads = (after_exec s me).threads;
+        shared = (segments.own-exit home c client (pid_at s client) c s.clock s.shared).0 i;
+      })
+
+  -- the end of a process, its own or another
+  module _ (t : Thread) where
+    abbrev victim : Caller
+    victim = as_process me t
+
+    kill-sems : sets.IsAlike home c s.sems (after_exit s.sems victim) (after_exit b.sems victim)
+    kill-sems = sets.own-exit home c s.sems victim
+
+    abbrev IsLeft : ℕ → Type 0
+    IsLeft q = blur_shared home c (after_detaches s.shared (record victim { process = q })) ≡ blur_shared home c (after_detaches b.shared (record victim { process = q }))
+
+    kill-shared : IsLeft t.process
+    kill-shared = ⊎_elim
+        (λ (same : t.process ≡ home). subst IsLeft (sym same) (segments.own-exit home c client t.pid c s.clock s.shared).0)
+        (λ (other : t.process ≢ home). segments.other-exit home c victim other s.shared)
+        (cases_eq t.process home)
+
+    own-kill : R (process_ended (all_ended s t.process) victim) (process_ended (all_ended b t.process) victim)
+    own-kill = own-parts (process_ended (all_ended s t.process) victim) (process_ended (all_ended b t.process) victim) refl kill-sems
+        (λ i. record (dim-twice home c s i) { threads = (all_ended s t.process).threads; sems = kill-sems.0 i; shared = kill-shared i })
 
   own-alive : (call : Call) → Both c R (plan_alive s client call) (plan_alive b client call)
   unfolding part_plan
@@ -141,15 +179,33 @@ module _ (client : ℕ) (s : State) where
   own-alive (IpcSet kind id uid gid mode qbytes) = own-set home c s kind id (record { uid = uid; gid = gid; mode = mode; qbytes = qbytes })
   own-alive (IpcRmid kind id) = own-remove home c s kind id
   own-alive (Listing kind) = own-list home c s client (pid_at s client) s.clock kind
-  own-alive (Interrupt pid) = both-found R c (process s pid) NoProcess tt (λ target is. both-check R c (Needs (SameUser target.euid)) (both-grant R c Done s b (same-state home c s)))
+  own-alive (Interrupt p) = both-check R c (Passes (is_process s p) NoProcess tt) (both-order R c (to_signal s me p) (both-grant R c Done s b (same-state home c s)))
+  own-alive (InterruptThread target) = both-found R c (slice_get s.threads target) NoClient tt (λ t is.
+      both-check R c (Passes (not t.has_ended) NoProcess tt)
+      (both-order R c (if t.pid == pid_at s client then [] else Needs (SameUser (creds_at s target).euid) ∷ []) (both-grant R c Done s b (same-state home c s))))
+  own-alive (Kill p) = both-found R c (find (has_pid p) s.threads) NoProcess tt (λ t is. both-order R c (to_signal s me p) (both-grant R c Done _ _ (own-kill t)))
   own-alive (SetCreds euid egid groups) =
       let new = became euid egid groups c in
       both-check R c (Passes (nat_le (length (unwrap_or groups [])) groups_max) TooManyGroups tt) (both-check R c (Needs (BecomeUser euid)) (both-check R c (Needs (BecomeGroup egid))
       (both-order R c (if is_some groups then Needs SetGroups ∷ [] else []) (both-grant R c Done (with_creds s client new) (with_creds b client new) (own-creds new)))))
+  own-alive (Assume creds) = both-check R c (Passes (nat_le (length creds.groups) groups_max) TooManyGroups tt) (both-grant R c Done _ _ (own-creds (credentials_of creds)))
+  own-alive (Begin p creds) = both-found R c (free_client s client) ClientInUse tt (λ t is.
+      both-check R c (Passes (nat_lt 0 p) BadPid tt) (both-check R c (Passes (nat_le (length creds.groups) groups_max) TooManyGroups tt)
+      (both-check R c (Passes (not (is_process s p)) PidInUse tt)
+      (both-grant R c Done _ _ (own-begun client s.next p (s.next + 1) (credentials_of creds) s.shared b.shared (segments.same-shared home c s.shared))))))
+  own-alive (Fork child p) = both-check R c (Passes (nat_lt 0 p) BadPid tt) (both-check R c (Passes (nat_lt child (length s.threads)) NoClient tt)
+      (both-found R c (free_client s child) ClientInUse tt (λ t is. both-check R c (Passes (not (is_process s p)) PidInUse tt)
+      (both-grant R c Done _ _ (own-begun child s.next p (s.next + 1) c (after_fork s.shared me s.next) (after_fork b.shared me s.next)
+      (segments.own-fork home c client (pid_at s client) c s.clock s.next s.shared))))))
+  own-alive (Clone child) = both-check R c (Passes (nat_lt child (length s.threads)) NoClient tt) (both-found R c (free_client s child) ClientInUse tt (λ t is.
+      both-grant R c Done _ _ (own-begun child home (pid_at s client) s.next c s.shared b.shared (segments.same-shared home c s.shared))))
+  own-alive (Name p) = both-check R c (Passes (nat_lt 0 p) BadPid tt) (both-check R c (Passes (not (list_any (is_other home p) s.threads)) PidInUse tt)
+      (both-grant R c Done _ _ (own-named p)))
+  own-alive Exec = both-grant R c Done _ _ own-exec
   own-alive Exit = both-grant R c Done _ _ (own-exit (is_running (ended s client) home))
 
   own-plan : (call : Call) → Both c R (plan s client call) (plan b client call)
-  own-plan call = both-check R c (Passes (not (has_exited s client)) Ended tt) (own-alive call)
+  own-plan call = both-check R c (Passes (may_call s client call) Ended tt) (own-alive call)
 
 -- with the client's process and credentials by other names
 pub own-alike : (client p : ℕ) (d : Credentials) (s : State) (call : Call) → creds_at s client ≡ d → process_at s client ≡ p → Both d (IsAlike p d s) (plan s client call) (plan (blur_by p d s) client call)

@@ -15,9 +15,10 @@ use Rattle.msg_queue.specs.declared.messages.Message.{Message}
 use Rattle.ipc_model.specs.State.{Caller, Queue, Queues}
 use Rattle.ipc_model.specs.Plan.{Needs, Passes, Proceeds, on_part}
 use Rattle.ipc_model.specs.Messages.{Send, chosen, has_room, queue_at, receive_found, receive_message, send_found, send_message, take_chosen, with_message, without_message}
+use Rattle.ipc_model.proofs.Granting.{Grants, grants-check, grants-found, grants-grant, grants-refuse}
 use Rattle.ipc_laws.specs.Worlds.{blank_queue, blur_queues, hides_closed, is_closed, is_hidden_in}
 use Rattle.ipc_laws.proofs.Closed.{denied-permission}
-use Rattle.ipc_laws.proofs.Pairs.{Both, Grants, both-check, both-denied, both-grant, both-less, both-refuse, grants-check, grants-found, grants-grant, grants-refuse}
+use Rattle.ipc_laws.proofs.Pairs.{Both, both-check, both-denied, both-grant, both-less, both-refuse}
 use Rattle.ipc_laws.proofs.Parts.{Alike, Exact, exact-alike, exact-changed, hidden-changed, own-found, seen-found}
 use Rattle.ipc_laws.proofs.Tables.{again, hidden-at}
 

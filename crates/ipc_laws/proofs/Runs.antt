@@ -10,7 +10,7 @@ use Rattle.ipc_model.specs.Decide.{waits_at}
 use Rattle.ipc_history.specs.History.{AreLegalFrom, run_from}
 use Rattle.ipc_model.specs.Step.{Event, begun, moved_by, step}
 use Rattle.ipc_history.specs.Waits.{AreNotReady}
-use Rattle.ipc_laws.specs.Worlds.{AreOutOfSight, AreTwoWorlds, IsOutOfSight, IsSettled, IsUnaware, blur, blur_by, ends_from, ends_of, is_hidden_at, own_by, own_events, own_from}
+use Rattle.ipc_laws.specs.Worlds.{AreOutOfSight, AreTwoWorlds, IsOutOfSight, IsOwn, IsSettled, IsUnaware, blur, blur_by, ends_from, ends_of, is_hidden_at, own_by, own_events, own_from}
 use Rattle.ipc_laws.proofs.Settled.{IsAnother}
 use Rattle.ipc_laws.proofs.Sight.{blur-more, sight}
 use Rattle.ipc_laws.proofs.Within.{IsWithin, Lives, lives-step}
@@ -53,8 +53,8 @@ alone : (client process : ℕ) (c : Credentials) (s t : State) (es : List Event)
     → AreLegalFrom s es → AreOutOfSight client s es → IsAlone client s t es
 alone client process c s t [] is at also there settled_s settled_t same legal out = (refl, refl, ((λ i. blur_by (at i) (is i) s) ∙ same ∙ sym (λ i. blur_by (there i) (also i) t)))
 alone client process c s t (e ∷ es) is at also there settled_s settled_t same legal out = ⊎_elim
-    (λ (own : (e.client == client) ≡ true).
-    let who : e.client ≡ client = eqb-true e.client client own in
+    (λ (own : IsOwn client e).
+    let who : e.client ≡ client = eqb-true e.client client own.0 in
     let free : is_waiting s client ≡ false = ap (is_waiting s) (sym who) ∙ legal.0.free in
     let free_t = free-alike c client process s t is also settled_s.not_ready settled_t.not_ready same free in
     let on_s = own-step client process c s e is at settled_s.not_ready (apart-once s settled_s.once) who free in
@@ -64,13 +64,14 @@ alone client process c s t (e ∷ es) is at also there settled_s settled_t same 
     let ends = on_s.2 ∙ ap (λ (x : State). ends_of client (step x e).ended) same ∙ sym on_t.2 in
     let d = creds_at (step s e).state client in
     let alike : creds_at (step t e).state client ≡ d = sym (ap (λ (x : State). creds_at x client) states) in
-    let lives : Lives client s (step s e).state = subst (λ k. Lives k s (step s e).state) who (lives-step s e settled_s.not_ready) in
+    let lives : Lives client s (step s e).state = subst (λ k. Lives k s (step s e).state) who (lives-step s e own.1 settled_s.not_ready) in
     let within : IsWithin c d = subst (λ k. IsWithin k d) is lives.0 in
     let still : process_at (step s e).state client ≡ process = lives.1 ∙ at in
     let still_t : process_at (step t e).state client ≡ process = sym (ap (λ (x : State). process_at x client) states) ∙ still in
     let rest = alone client process d (step s e).state (step t e).state es refl still alike still_t (settled-step s e legal.0.free settled_s) (settled-step t e (ap (is_waiting t) who ∙ free_t) settled_t)
     (blur-within process c d (step s e).state (step t e).state within states) legal.1 out.1 in
-    let kept : own_events client (e ∷ es) ≡ e ∷ own_events client es = rw own refl in (
+    let mine = own.0 in
+    let kept : own_events client (e ∷ es) ≡ e ∷ own_events client es = rw mine refl in (
       (λ i. owns i ++ rest.0 i) ∙ ap (own_from client t) (sym kept),
       (λ i. ends i ++ rest.1 i) ∙ ap (ends_from client t) (sym kept),
       rest.2 ∙ ap (λ l. blur client (run_from t l)) (sym kept),

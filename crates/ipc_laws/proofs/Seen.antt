@@ -1,7 +1,7 @@
 -- Calls of anyone: one that may wait comes out alike in sight, one that is unseen leaves the blur, and the client's own
 -- call doesn't wait out of sight. A line for each call.
 use Rattle.std.proofs.Common.{◌≡◌, ℕ, true, false, List, length, refl, sym, ap, ◌∙◌, Some}
-use Rattle.std.specs.Prelude.{int_le, nat_le, nat_lt, pos, not, option_map}
+use Rattle.std.specs.Prelude.{int_le, nat_le, nat_lt, pos, option_map}
 use Rattle.std.proofs.lemmas.Bool.{true≢false}
 use Rattle.ipc_call.specs.declared.settings.Receive.{Receive}
 use Rattle.ipc_call.specs.declared.calls.Call.{Call}
@@ -15,7 +15,7 @@ use Rattle.ipc_creds.specs.Credentials.{Credentials}
 use Rattle.ipc_perm.specs.Access.{Permission, class_of, rule_of, to_alter, to_read}
 use Rattle.shm_seg.specs.declared.attachments.Attachment.{Attachment}
 use Rattle.shm_seg.specs.Attachments.{attachment_at}
-use Rattle.ipc_model.specs.State.{Queues, Sems, Shared, State, caller, creds_at, has_exited, process_at}
+use Rattle.ipc_model.specs.State.{Queues, Sems, Shared, State, caller, creds_at, process_at}
 use Rattle.ipc_model.specs.Decision.{proceeds}
 use Rattle.ipc_model.specs.Plan.{Needs, Passes, Plan, decision}
 use Rattle.ipc_model.proofs.Plans.{IfGranted}
@@ -23,10 +23,11 @@ use Rattle.ipc_model.specs.Messages.{queue_at, receive_message, send_message, Se
 use Rattle.ipc_model.specs.Semaphores.{operate, set_at, wanted_by}
 use Rattle.ipc_model.specs.Controls.{status_of}
 use Rattle.ipc_model.specs.Listings.{rows_to}
-use Rattle.ipc_model.specs.Decide.{OnQueues, OnSems, OnShared, can_wait, decide, part_plan, plan, plan_alive, waits_at, whole}
+use Rattle.ipc_model.specs.Decide.{OnQueues, OnSems, OnShared, can_wait, decide, may_call, part_plan, plan, plan_alive, waits_at, whole}
+use Rattle.ipc_model.proofs.Granting.{Grants, grants-check, grants-found, grants-grant, grants-less, grants-on}
 use Rattle.ipc_laws.specs.Worlds.{blur_by, blur_queues, blur_sems, blur_shared, hides_closed, is_hidden_at, is_unseen}
 use Rattle.ipc_laws.proofs.Closed.{denied-permission}
-use Rattle.ipc_laws.proofs.Pairs.{Both, Goes, Grants, both-check, both-on, goes-denied, goes-found, goes-on, goes-passes, grants-check, grants-found, grants-grant, grants-less, grants-on}
+use Rattle.ipc_laws.proofs.Pairs.{Both, Goes, both-check, both-on, goes-denied, goes-found, goes-on, goes-passes}
 use Rattle.ipc_laws.proofs.Queues as queues
 use Rattle.ipc_laws.proofs.Segments as segments
 use Rattle.ipc_laws.proofs.Sets as sets
@@ -59,7 +60,7 @@ module _ (client : ℕ) (c : Credentials) (s : State) where
     visible-alive call can seen = absurd (true≢false (sym can))
 
     pub visible-alike : (call : Call) → can_wait call ≡ true → is_hidden_at client c s (waits_at call) ≡ false → Both d (IsExact client c s) (plan s who call) (plan b who call)
-    visible-alike call can seen = both-check (IsExact client c s) d (Passes (not (has_exited s who)) Ended tt) (visible-alive call can seen)
+    visible-alike call can seen = both-check (IsExact client c s) d (Passes (may_call s who call) Ended tt) (visible-alive call can seen)
 
     -- a call on hidden contents
     stays-queues : {p : Plan Queues} → Grants d (λ u. blur_queues client c u ≡ blur_queues client c s.queues) p → Grants d (IsSame client c s) (whole s (OnQueues p))
@@ -96,7 +97,7 @@ module _ (client : ℕ) (c : Credentials) (s : State) where
     stays-alive call hidden = absurd (true≢false (sym hidden))
 
     pub unseen-stays : (call : Call) → is_unseen client c s who call ≡ true → IfGranted (λ answer new. IsSame client c s new) (decide s who call)
-    unseen-stays call unseen = (grants-check (IsSame client c s) d (Passes (not (has_exited s who)) Ended tt) (stays-alive call unseen)).granted
+    unseen-stays call unseen = (grants-check (IsSame client c s) d (Passes (may_call s who call) Ended tt) (stays-alive call unseen)).granted
 
     -- a call that may wait is unseen where its object is hidden
     pub unseen-waits : (call : Call) → can_wait call ≡ true → is_unseen client c s who call ≡ is_hidden_at client c s (waits_at call)
@@ -144,4 +145,4 @@ module _ (client : ℕ) (c : Credentials) (s : State) where
 
     pub own-refused : (call : Call) → is_hidden_at client c s (waits_at call) ≡ true → proceeds (decide s who call) ≡ true
     own-refused call hidden =
-        ap (λ e. proceeds (decision e (plan s who call))) creds ∙ (goes-passes c (not (has_exited s who)) Ended tt (λ alive. refused-alive call hidden)).goes
+        ap (λ e. proceeds (decision e (plan s who call))) creds ∙ (goes-passes c (may_call s who call) Ended tt (λ alive. refused-alive call hidden)).goes

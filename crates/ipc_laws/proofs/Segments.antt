@@ -14,7 +14,7 @@ use Rattle.ipc_creds.specs.Credentials.{Credentials}
 use Rattle.ipc_perm.specs.Access.{Permission, Writable, class_of, rule_of}
 use Rattle.ipc_ids.specs.Table.{Table, without_object}
 use Rattle.ipc_objects.specs.declared.object.Object.{Object}
-use Rattle.ipc_objects.specs.Objects.{changed, with_contents}
+use Rattle.ipc_objects.specs.Objects.{changed, with_contents, with_perm}
 use Rattle.shm_seg.specs.declared.attachments.Attachment.{Attachment}
 use Rattle.shm_seg.specs.Attachments.{Attached, attach_count, attachment_at, free_number, shmseg, with_attachment, without_attachment}
 use Rattle.shm_seg.specs.Segments.{lies_within, overwritten, part_of}
@@ -23,11 +23,12 @@ use Rattle.ipc_model.specs.State.{Caller, Segment, Shared}
 use Rattle.ipc_model.specs.Plan.{Needs, Passes, Grant, found, ◌⨾◌}
 use Rattle.ipc_model.specs.Gets.{Get, get_segment, getting_segment}
 use Rattle.ipc_model.specs.Controls.{marked, without_segment}
-use Rattle.ipc_model.specs.Segments.{after_detaches, attach, attached_by, behind, detach, detached, detached_by, detached_from, left_segment, read_bytes, segment_at, wanted_to_attach, with_attached, with_bytes, without_number, write_bytes, attachment_to}
+use Rattle.ipc_model.specs.Segments.{after_detaches, after_fork, attach, attached_by, behind, copied, copied_from, detach, detached, detached_by, detached_from, left_segment, read_bytes, segment_at, wanted_to_attach, with_attached, noted, with_bytes, with_copy, without_number, write_bytes, attachment_to}
+use Rattle.ipc_model.proofs.Granting.{Grants, grants-check, grants-found, grants-grant, grants-passes}
 use Rattle.ipc_laws.specs.Worlds.{all_masked, blank, blank_segment, blur_shared, has_attached, hides_segment, is_closed, is_hidden_in, masked}
-use Rattle.ipc_laws.proofs.Attached.{attached-other, attached-there, detached-fewer}
+use Rattle.ipc_laws.proofs.Attached.{attached-apart, attached-left, attached-other, attached-there, detached-fewer}
 use Rattle.ipc_laws.proofs.Closed.{denied-permission}
-use Rattle.ipc_laws.proofs.Pairs.{Both, Grants, both-check, both-denied, both-found, both-grant, both-on, grants-check, grants-found, grants-grant, grants-passes}
+use Rattle.ipc_laws.proofs.Pairs.{Both, both-check, both-denied, both-found, both-grant, both-on}
 use Rattle.ipc_laws.proofs.Parts.{Alike, alike-changed, alike-without, both-get, hidden-changed, own-found}
 use Rattle.ipc_laws.proofs.Tables.{again, get-masked, get-seen, hidden-at, masked-hidden, masked-seen, more-same, without-alike}
 
@@ -283,3 +284,132 @@ module _ (client : ℕ) (c : Credentials) where
 
     pub own-exit : (a : Shared) → IsAlike a (after_detaches a caller) (after_detaches (blur_shared client c a) caller)
     own-exit a = alike-each shmseg 0 a
+
+    -- fork: what the process has attached is in sight
+    module _ (child : ℕ) where
+      abbrev renewed : Object Segment → Object Segment
+      renewed o = record o { contents = attached_by caller o.contents }
+
+      of-child : (a : Shared) (number : ℕ) (of : Attachment) → attachment_at a.attached client number ≡ Some of → attachment_at a.attached child number ≡ None → child ≢ client
+      of-child a number of there free e = none-some of (sym free ∙ ap (λ n. attachment_at a.attached n number) e ∙ there)
+
+      alike-copy-of : (a : Shared) (number : ℕ) (of : Attachment) → attachment_at a.attached client number ≡ Some of → attachment_at a.attached child number ≡ None → (o : Option (Object Segment)) → segment_at a of.segment ≡ o
+          → IsAlike a (with_copy a caller child number (Some of) None) (with_copy (blur_shared client c a) caller child number (Some of) None)
+      alike-copy-of a number of there free (Some o) is =
+          alike-set a of.segment (with_attachment a.attached child number of) o is (here a self shown creds now number of there o.perm)
+          (λ q ne none. attached-apart client a.attached child number of q (of-child a number of there free) ∙ none) renewed
+      alike-copy-of a number of there free None is =
+          let b = blur_shared client c a in
+          let rest = with_attachment a.attached child number of in
+          let still : (q : ℕ) (p : Perm) → hides_segment client c a.attached q p ≡ true → hides_segment client c rest q p ≡ true =
+          λ q p hidden. ap (λ x. is_closed c p && not x) (attached-apart client a.attached child number of q (of-child a number of there free)) ∙ hidden in
+          let none : noted a.segments caller of.segment ≡ a.segments = ap (λ o. with_perm a.segments of.segment renewed o) is in
+          let none_b : noted b.segments caller of.segment ≡ b.segments = ap (λ o. with_perm b.segments of.segment renewed o) (same-there a self shown creds now number of there ∙ is) in
+          subst (λ t. IsAlike a (record { segments = t; attached = rest }) (with_copy b caller child number (Some of) None)) (sym none)
+          (subst (λ t. IsAlike a (record { segments = a.segments; attached = rest }) (record { segments = t; attached = rest })) (sym none_b)
+          (alike-shared a a.segments b.segments rest
+          (again blank_segment segment-twice (hides_segment client c a.attached) (hides_segment client c rest) a.segments still, λ q hidden. more-same a.segments (hides_segment client c a.attached) (hides_segment client c rest) q (still q) hidden)))
+
+      alike-copy : (a : Shared) (number : ℕ) (mine theirs : Option Attachment) → attachment_at a.attached client number ≡ mine → attachment_at a.attached child number ≡ theirs
+          → IsAlike a (with_copy a caller child number mine theirs) (with_copy (blur_shared client c a) caller child number mine theirs)
+      alike-copy a number None theirs there free = same-shared a
+      alike-copy a number (Some of) (Some other) there free = same-shared a
+      alike-copy a number (Some of) None there free = alike-copy-of a number of there free (segment_at a of.segment) refl
+
+      alike-copies : (n number : ℕ) (a : Shared) → IsAlike a (copied_from n number caller child a) (copied_from n number caller child (blur_shared client c a))
+      unfolding copied_from
+      alike-copies zero number a = same-shared a
+      alike-copies (suc n) number a =
+          let b = blur_shared client c a in
+          let first = alike-copy a number (attachment_at a.attached client number) (attachment_at a.attached child number) refl refl in
+          let x = copied a caller child number in
+          let y = copied b caller child number in
+          let on_x = alike-copies n (number + 1) x in
+          let on_y = alike-copies n (number + 1) y in (
+            on_x.0 ∙ ap (λ z. blur_shared client c (copied_from n (number + 1) caller child z)) first.0 ∙ sym on_y.0,
+            λ q is. on_x.1 q (first.1 q is),
+          )
+
+      pub own-fork : (a : Shared) → IsAlike a (after_fork a caller child) (after_fork (blur_shared client c a) caller child)
+      own-fork a = alike-copies shmseg 0 a
+
+  -- the end of another process
+  module _ (who : Caller) (other : who.process ≢ client) where
+    module _ (a : Shared) (number : ℕ) (of : Attachment) where
+      abbrev id : ℕ
+      id = of.segment
+
+      abbrev now-left : Attached
+      now-left = without_attachment a.attached who.process number
+
+      abbrev seen-now : Shared
+      seen-now = blur_shared client c a
+
+      abbrev hides : ℕ → Perm → Bool
+      hides = hides_segment client c a.attached
+
+      abbrev later : ℕ → Perm → Bool
+      later = hides_segment client c now-left
+
+      as-before : (q : ℕ) (p : Perm) → later q p ≡ hides q p
+      as-before q p = ap (λ x. is_closed c p && not x) (attached-left client a.attached who.process number q other)
+
+      more-hidden : (q : ℕ) (p : Perm) → hides q p ≡ true → later q p ≡ true
+      more-hidden q p is = as-before q p ∙ is
+
+      same-rest : mask now-left a.segments ≡ mask now-left seen-now.segments
+      same-rest = again blank_segment segment-twice hides later a.segments more-hidden
+
+      put-together : (t u : Table (Object Segment)) → mask now-left t ≡ mask now-left u → blur_shared client c (record { segments = t; attached = now-left }) ≡ blur_shared client c (record { segments = u; attached = now-left })
+      put-together t u same = ap (λ x. record { segments = x; attached = now-left }) same
+
+      gone : mask now-left (without_object a.segments id) ≡ mask now-left (without_object seen-now.segments id)
+      gone = without-alike blank_segment segment-twice hides later a.segments id (λ q ne. more-hidden q)
+
+      -- a hidden segment is noted in its blank contents alone
+      left-noted : (t : Table (Object Segment)) (o : Object Segment) → finite.get t.objects id ≡ Some o → later id o.perm ≡ true → mask now-left (with_contents t id (detached_by who o.contents)) ≡ mask now-left t
+      left-noted t o there is = hidden-changed blank_segment later t id o there is (λ (y : Object Segment). record y { contents = detached_by who o.contents }) refl (blank-same (detached_by who o.contents) o.contents refl refl refl)
+
+      module _ (o : Object Segment) (there : finite.get a.segments.objects id ≡ Some o) where
+        hidden-left : later id o.perm ≡ true → (b : Bool) → mask now-left (cond b (without_object a.segments id) (with_contents a.segments id (detached_by who o.contents)))
+            ≡ mask now-left (cond b (without_object seen-now.segments id) (with_contents seen-now.segments id (detached_by who (blank_segment o.contents))))
+        hidden-left is true = gone
+        hidden-left is false =
+            left-noted a.segments o there is ∙ same-rest
+            ∙ sym (left-noted seen-now.segments (blank blank_segment o) (get-masked blank_segment hides a.segments id ∙ ap (option_map (masked blank_segment hides id)) there ∙ ap (λ (x : Object Segment). Some x) (masked-hidden blank_segment hides id o (sym (as-before id o.perm) ∙ is))) is)
+
+        seen-left : hides id o.perm ≡ false → (b : Bool) → mask now-left (cond b (without_object a.segments id) (with_contents a.segments id (detached_by who o.contents)))
+            ≡ mask now-left (cond b (without_object seen-now.segments id) (with_contents seen-now.segments id (detached_by who o.contents)))
+        seen-left isnt true = gone
+        seen-left isnt false = (alike-changed blank_segment hides a.segments id segment-twice later (λ q ne p is. more-hidden q p is) o there isnt (λ (y : Object Segment). record y { contents = detached_by who o.contents })).0
+
+        by-mask : (b : Bool) → hides id o.perm ≡ b → blur_shared client c (left_segment (record a { attached = now-left }) who id (Some o)) ≡ blur_shared client c (left_segment (record seen-now { attached = now-left }) who id (Some (masked blank_segment hides id o)))
+        by-mask true is =
+            put-together _ _ (hidden-left (as-before id o.perm ∙ is) (o.contents.is_marked && attach_count now-left id == 0))
+            ∙ ap (λ x. blur_shared client c (left_segment (record seen-now { attached = now-left }) who id (Some x))) (sym (masked-hidden blank_segment hides id o is))
+        by-mask false isnt =
+            put-together _ _ (seen-left isnt (o.contents.is_marked && attach_count now-left id == 0))
+            ∙ ap (λ x. blur_shared client c (left_segment (record seen-now { attached = now-left }) who id (Some x))) (sym (masked-seen blank_segment hides id o isnt))
+
+      by-there : (o : Option (Object Segment)) → segment_at a id ≡ o → blur_shared client c (left_segment (record a { attached = now-left }) who id o) ≡ blur_shared client c (left_segment (record seen-now { attached = now-left }) who id (option_map (masked blank_segment hides id) o))
+      by-there None is = put-together a.segments seen-now.segments same-rest
+      by-there (Some o) is = by-mask o is (hides id o.perm) refl
+
+      other-left : blur_shared client c (without_number a who number (Some of)) ≡ blur_shared client c (without_number seen-now who number (Some of))
+      other-left = by-there (segment_at a id) refl ∙ ap (λ o. blur_shared client c (left_segment (record seen-now { attached = now-left }) who id o)) (sym (get-masked blank_segment hides a.segments id))
+
+    other-number : (a : Shared) (number : ℕ) (o : Option Attachment) → blur_shared client c (without_number a who number o) ≡ blur_shared client c (without_number (blur_shared client c a) who number o)
+    other-number a number None = shared-twice a
+    other-number a number (Some of) = other-left a number of
+
+    other-each : (n number : ℕ) (a : Shared) → blur_shared client c (detached_from n number who a) ≡ blur_shared client c (detached_from n number who (blur_shared client c a))
+    unfolding detached_from
+    other-each zero number a = shared-twice a
+    other-each (suc n) number a =
+        let b = blur_shared client c a in
+        let x = detached a who number in
+        let y = detached b who number in
+        other-each n (number + 1) x ∙ ap (λ z. blur_shared client c (detached_from n (number + 1) who z)) (other-number a number (attachment_at a.attached who.process number)) ∙ sym (other-each n (number + 1) y)
+
+    pub other-exit : (a : Shared) → blur_shared client c (after_detaches a who) ≡ blur_shared client c (after_detaches (blur_shared client c a) who)
+    other-exit a = other-each shmseg 0 a

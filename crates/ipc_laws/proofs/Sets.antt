@@ -28,9 +28,10 @@ use Rattle.ipc_model.specs.Controls.{without_set}
 use Rattle.ipc_model.specs.Gets.{Get, get_set, getting_set}
 use Rattle.ipc_model.specs.Semaphores.{after_exit, set_after_exit, undone_set, get_all, look, lowered, operate, operate_found, operated, renewed, set_all, set_at, set_value, trial_checks, values_of, wanted_by, with_values}
 use Rattle.ipc_model.proofs.Apart.{cleared-apart, lowered-apart}
+use Rattle.ipc_model.proofs.Granting.{Grants, grants-check, grants-found, grants-grant, grants-order, grants-passes}
 use Rattle.ipc_laws.specs.Worlds.{all_masked, blank, blank_set, masked, blur_sems, hides_closed, is_closed, is_hidden_in}
 use Rattle.ipc_laws.proofs.Closed.{denied-permission}
-use Rattle.ipc_laws.proofs.Pairs.{Both, Grants, both-check, both-denied, both-grant, both-less, both-on, both-order, both-passes, grants-check, grants-found, grants-grant, grants-order, grants-passes}
+use Rattle.ipc_laws.proofs.Pairs.{Both, both-check, both-denied, both-grant, both-less, both-on, both-order, both-passes}
 use Rattle.ipc_laws.proofs.Parts.{Alike, Exact, alike-changed, alike-without, both-get, exact-alike, exact-changed, hidden-changed, own-found, seen-found}
 use Rattle.ipc_laws.proofs.Tables.{again, blank-like, get-masked, hidden-at, hidden-masked, masked-hidden, masked-seen, same-tables}
 use Rattle.ipc_laws.proofs.Undo.{AreSame, kept-same, lowered-kept, same-kept, same-retained}

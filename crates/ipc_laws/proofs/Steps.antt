@@ -6,7 +6,7 @@ use Rattle.std.proofs.lemmas.Bool.{cases_Bool, true≢false}
 use Rattle.std.proofs.lemmas.List.{append-nil}
 use Rattle.std.proofs.lemmas.List.Elements.{filter-append}
 use Rattle.ipc_call.specs.declared.calls.Call.{Call}
-use Rattle.ipc_call.specs.declared.calls.Call.TheVariants.{IpcSet, IpcRmid, Interrupt}
+use Rattle.ipc_call.specs.declared.calls.Call.TheVariants.{IpcSet, IpcRmid, Interrupt, InterruptThread, Exec, Kill}
 use Rattle.ipc_call.specs.declared.replies.Waiting.{Waiting}
 use Rattle.ipc_call.specs.declared.rules.Rule.{Rule}
 use Rattle.ipc_creds.specs.Credentials.{Credentials}
@@ -79,6 +79,9 @@ module _ (client process : ℕ) (c : Credentials) where
   never-cancels s t who (IpcSet kind id uid gid mode qbytes) hidden w = absurd (true≢false (sym hidden))
   never-cancels s t who (IpcRmid kind id) hidden w = absurd (true≢false (sym hidden))
   never-cancels s t who (Interrupt p) hidden w = absurd (true≢false (sym hidden))
+  never-cancels s t who (InterruptThread target) hidden w = absurd (true≢false (sym hidden))
+  never-cancels s t who Exec hidden w = absurd (true≢false (sym hidden))
+  never-cancels s t who (Kill p) hidden w = absurd (true≢false (sym hidden))
   never-cancels s t who call hidden w = refl
 
   module _ (s : State) (who : ℕ) (call : Call) (hidden : is_unseen process c s who call ≡ true) (other : (who == client) ≡ false) where

@@ -20,7 +20,7 @@ use Rattle.sem_set.specs.Sets.{zeroed}
 use Rattle.shm_seg.specs.Attachments.{Attached, attach_count, attachment_at}
 use Rattle.ipc_model.specs.State.{Queue, Queues, Segment, SemSet, Sems, Shared, State, creds_at, process_at}
 use Rattle.ipc_model.specs.Decision.{Outcome}
-use Rattle.ipc_model.specs.Decide.{waits_at}
+use Rattle.ipc_model.specs.Decide.{hands_in, waits_at}
 use Rattle.ipc_model.specs.Step.{Event, Stepped, step}
 use Rattle.ipc_history.specs.History.{AreLegalFrom, run_from}
 use Rattle.ipc_history.specs.Waits.{AreInTime, AreNotReady, WaitOnce}
@@ -172,16 +172,20 @@ is_unseen process c s other call = only_reads call || is_hidden_at process c s (
 
 -- an event out of the client's sight: a call of another, which reads, or changes the contents of an object that is
 -- hidden from the client, at a time that doesn't move the clock. Not so the calls that create, remove, attach or detach,
--- that set permissions, that interrupt, and exit: what they change may be in sight
+-- that set permissions, that interrupt, by which threads and processes begin and end: what they change may be in sight
 pub record IsOutOfSight (client : ℕ) (s : State) (e : Event) : Type 0 where
   pub other : (e.client == client) ≡ false
   pub unseen : is_unseen (process_at s client) (creds_at s client) s e.client e.call ≡ true
   pub early : e.now ≤ s.clock
 
+-- the client's own event, which hands in no credentials: the law is of a thread's life from one such to the next
+abbrev pub IsOwn : ℕ → Event → Type 0
+IsOwn client e = ((e.client == client) ≡ true) × (hands_in e.call ≡ false)
+
 abbrev pub AreOutOfSight : ℕ → State → List Event → Type 0
 AreOutOfSight client s [] = Unit {0}
 AreOutOfSight client s (e ∷ es) =
-    (((e.client == client) ≡ true) ⊎ IsOutOfSight client s e) × AreOutOfSight client (step s e).state es
+    (IsOwn client e ⊎ IsOutOfSight client s e) × AreOutOfSight client (step s e).state es
 
 abbrev pub own_events : ℕ → List Event → List Event
 own_events client es = filter (λ e. e.client == client) es

@@ -1,5 +1,5 @@
 -- A change of one object, and of what exit undoes there, leaves the others as they were.
-use Rattle.std.proofs.Common.{◌+◌, ◌≡◌, ◌≢◌, ℕ, zero, suc, get_or, ℤ, Bool, true, false, cond, eqb, List, [], ◌∷◌, ◌++◌, refl, sym, ap, ◌∙◌, ⊎_elim, Option, Some, None}
+use Rattle.std.proofs.Common.{◌+◌, ◌≡◌, ◌≢◌, ℕ, zero, suc, get_or, ℤ, Bool, true, false, cond, eqb, List, [], ◌∷◌, refl, sym, ap, ◌∙◌, ⊎_elim, Option, Some, None}
 use Rattle.std.specs.Prelude.{◌&&◌, ◌||◌, filter, is_none, map, not, pos, ◌-ℤ◌, option_map}
 use Rattle.std.specs.List.{list_any}
 use Rattle.std.specs.Ordering.{int_eq}
@@ -18,6 +18,7 @@ use Rattle.sem_set.specs.Trials.{sum_of, undoes, undoes_on}
 use Rattle.sem_undo.specs.Entries.{Adjusted, Entries, adj_of, cleared, without_client}
 use Rattle.sem_undo.proofs.Entries.{get_kept, get_with_apart, key}
 use Rattle.ipc_model.specs.State.{Caller, SemSet, Sems, Thread, no_thread, runs}
+use Rattle.ipc_model.specs.Processes.{ends, renamed}
 use Rattle.ipc_model.specs.Semaphores.{set_after_exit, lowered, with_adjs}
 
 -- an object at another identifier
@@ -87,3 +88,23 @@ none-runs (t ∷ ts) process (suc c) none alive = none-runs ts process c (later 
     later : (b : Bool) → b || list_any (runs process) ts ≡ false → list_any (runs process) ts ≡ false
     later true none = absurd (true≢false none)
     later false none = none
+
+-- where all threads of a process have ended, each that hasn't is of another one, and is so still
+pub left-alone : (ts : List Thread) (process c : ℕ) → (get_or (map (ends process) ts) c no_thread).has_ended ≡ false → (get_or (map (ends process) ts) c no_thread ≡ get_or ts c no_thread) × ((get_or ts c no_thread).process ≢ process)
+left-alone [] process c alive = absurd (true≢false alive)
+left-alone (t ∷ ts) process (suc c) alive = left-alone ts process c alive
+left-alone (t ∷ ts) process zero alive = by (eqb t.process process) refl alive
+  where
+    by : (b : Bool) → eqb t.process process ≡ b → (cond b (record t { has_ended = true }) t).has_ended ≡ false → (ends process t ≡ t) × (t.process ≢ process)
+    by true is alive = absurd (true≢false alive)
+    by false is alive = (ap (λ b. cond b (record t { has_ended = true }) t) is, λ same. true≢false (sym (eq-eqb t.process process same) ∙ is))
+
+-- another pid leaves what a client is a thread of
+pub renamed-process : (ts : List Thread) (process p c : ℕ) → (get_or (map (renamed process p) ts) c no_thread).process ≡ (get_or ts c no_thread).process
+renamed-process [] process p c = refl
+renamed-process (t ∷ ts) process p (suc c) = renamed-process ts process p c
+renamed-process (t ∷ ts) process p zero = by (eqb t.process process)
+  where
+    by : (b : Bool) → (cond b (record t { pid = p }) t).process ≡ t.process
+    by true = refl
+    by false = refl

@@ -1,10 +1,10 @@
 -- The calls, a line for each in three tables: on what a plan doesn't depend, which plans wait, and what a grant keeps.
 use Rattle.std.proofs.Common.{◌≡◌, ℕ, Bool, true, false, cond, List, [], ◌∷◌, length, refl, sym, ap, ◌∙◌, Option, Some, None}
-use Rattle.std.specs.Prelude.{if◌then◌else◌, is_some, not, pos, int_le, nat_le, nat_lt, option_and_then, option_map}
+use Rattle.std.specs.Prelude.{◌==◌, ◌+◌, if◌then◌else◌, is_some, map, pos, int_le, nat_le, nat_lt, option_and_then, option_map, slice_get}
 use Rattle.std.proofs.lemmas.Bool.{true≢false}
 use Rattle.ipc_call.specs.declared.settings.Receive.{Receive}
 use Rattle.ipc_call.specs.declared.calls.Call.{Call}
-use Rattle.ipc_call.specs.declared.calls.Call.TheVariants.{MsgGet, MsgSnd, MsgRcv, SemGet, SemOp, SemTimedOp, GetVal, GetPid, GetNcnt, GetZcnt, GetAll, SetVal, SetAll, ShmGet, ShmAt, ShmDt, ShmRead, ShmWrite, Exit, IpcStat, IpcSet, IpcRmid, Listing, Interrupt, SetCreds}
+use Rattle.ipc_call.specs.declared.calls.Call.TheVariants.{MsgGet, MsgSnd, MsgRcv, SemGet, SemOp, SemTimedOp, GetVal, GetPid, GetNcnt, GetZcnt, GetAll, SetVal, SetAll, ShmGet, ShmAt, ShmDt, ShmRead, ShmWrite, Exit, IpcStat, IpcSet, IpcRmid, Listing, Interrupt, SetCreds, Assume, Begin, Fork, Clone, Name, Exec, Kill, InterruptThread}
 use Rattle.ipc_call.specs.declared.calls.Kind.{Kind}
 use Rattle.ipc_call.specs.declared.calls.SemOper.{SemOper}
 use Rattle.ipc_call.specs.declared.calls.Kind.TheVariants as kinds
@@ -12,13 +12,13 @@ use Rattle.ipc_call.specs.declared.settings.Settings.{Settings}
 use Rattle.ipc_call.specs.declared.replies.Answer.{Answer}
 use Rattle.ipc_call.specs.declared.replies.Answer.TheVariants.{Done, Id, Rows, Status as StatusAnswer}
 use Rattle.ipc_call.specs.declared.replies.Waiting.{Waiting}
-use Rattle.ipc_call.specs.declared.rules.Rule.TheVariants.{BadId, BadType, Ended, NoOperations, NoProcess, NoSlot, NotAttached, SemOutOfSet, TextTooLong, TooManyAttached, TooManyOperations}
+use Rattle.ipc_call.specs.declared.rules.Rule.TheVariants.{BadId, BadType, ClientInUse, Ended, NoClient, NoOperations, NoProcess, NoSlot, NotAttached, SemOutOfSet, TextTooLong, TooManyAttached, TooManyOperations}
 use Rattle.ipc_creds.specs.Credentials.{Credentials}
-use Rattle.ipc_perm.specs.Access.{Permission, Resource, SetGroups, to_read}
+use Rattle.ipc_perm.specs.Access.{Permission, Resource, SameUser, SetGroups, to_read}
 use Rattle.ipc_ids.specs.Table.{Table, next_id, with_object, without_object}
 use Rattle.ipc_objects.specs.declared.object.Object.{Object}
 use Rattle.msg_queue.specs.declared.messages.Message.{Message}
-use Rattle.ipc_model.specs.State.{Caller, Queue, Queues, Segment, SemSet, Sems, Shared, State, caller, creds_at, has_exited, is_running, pid_at, process_at}
+use Rattle.ipc_model.specs.State.{Caller, Queue, Queues, Segment, SemSet, Sems, Shared, State, caller, creds_at, has_pid, is_running, pid_at, process_at}
 use Rattle.ipc_model.specs.Decision.{proceeds}
 use Rattle.ipc_model.specs.Plan.{Needs, Passes, Plan, decision, in_order, on_part, ◌⨾◌}
 use Rattle.ipc_model.specs.Plan as plans
@@ -31,15 +31,16 @@ use Rattle.sem_set.specs.Trials.{are_in}
 use Rattle.sem_undo.specs.Entries.{adj_of}
 use Rattle.ipc_objects.specs.Objects.{changed, with_contents}
 use Rattle.std.proofs.lemmas.List.{length-set}
-use Rattle.ipc_creds.specs.Credentials.{became}
-use Rattle.ipc_model.specs.Processes.{ended, process, process_ended, with_creds}
+use Rattle.ipc_creds.specs.Credentials.{became, executed}
+use Rattle.std.specs.List.{find}
+use Rattle.ipc_model.specs.Processes.{all_ended, as_process, credentials_of, ended, free_client, process_ended, to_signal, threads_of, with_client, with_creds}
 use Rattle.ipc_model.specs.Controls.{is_within, perm_of, removed, status_of, with_new_owner, with_set, with_settings, without_segment, without_set}
 use Rattle.ipc_model.specs.Listings.{rows_to}
-use Rattle.ipc_model.specs.Decide.{OnQueues, OnSems, OnShared, can_wait, get_waiting, is_negative, is_zero, decide, decide_alive, part_plan, plan, plan_alive, whole}
+use Rattle.ipc_model.specs.Decide.{OnQueues, OnSems, OnShared, can_wait, get_waiting, is_negative, is_zero, decide, decide_alive, may_call, part_plan, plan, plan_alive, whole}
 use Rattle.ipc_model.specs.Step.{at_time}
 use Rattle.ipc_model.proofs.Alike.{blank, blank-found, blank-on, blank-order, proceeds-alike}
 use Rattle.ipc_model.proofs.Growing.{Follows-queues, Follows-same, Follows-sems, Follows-shared, Grows, Grows-changed, Grows-gone, Grows-mapped, Grows-new, Grows-same, Keeps, Leads, Leads-same, Succeeds, Succeeds-same}
-use Rattle.ipc_model.proofs.Leading.{Leads-attached, Leads-changed, Leads-detached, Leads-each, Leads-new, Leads-removed, Leads-written}
+use Rattle.ipc_model.proofs.Leading.{Leads-attached, Leads-changed, Leads-copies, Leads-detached, Leads-each, Leads-new, Leads-removed, Leads-written}
 use Rattle.ipc_model.proofs.Plans.{never-found, never-on, never_waits, proceeds-never, Ends, Ends-decision, Ends-found, Ends-on, Ends-order}
 use Rattle.std.specs.FinMap as finite
 use Rattle.std.proofs.lemmas.Option.{none-some, same_Some}
@@ -103,7 +104,7 @@ module _ (s : State) (parked : List Waiting) (clock : ℕ) where
   alive-alike client call can = absurd (true≢false (sym can))
 
   pub plan-alike : (client : ℕ) (call : Call) → can_wait call ≡ true → blank (plan later client call) ≡ blank (plan s client call)
-  plan-alike client call can = ap (λ p. Passes (not (has_exited s client)) Ended tt ⨾ p) (alive-alike client call can)
+  plan-alike client call can = ap (λ p. Passes (may_call s client call) Ended tt ⨾ p) (alive-alike client call can)
 
 -- only a call of a kind that may wait is made to wait
 never-sems : (s : State) (p : Plan Sems) → never_waits p ≡ true → never_waits (whole s (OnSems p)) ≡ true
@@ -115,6 +116,18 @@ never-shared s p never = never-on (λ shared. record s { shared = shared }) p ne
 never-groups : (groups : Option (List ℕ)) (new : State) → never_waits (in_order (if is_some groups then Needs SetGroups ∷ [] else []) (plans.Grant Done new)) ≡ true
 never-groups None new = refl
 never-groups (Some gs) new = refl
+
+never-needs : (cs : List Credentials) (p : Plan State) → never_waits p ≡ true → never_waits (in_order (map (λ c. Needs (SameUser c.euid)) cs) p) ≡ true
+never-needs [] p never = never
+never-needs (c ∷ cs) p never = never-needs cs p never
+
+never-signal : (own : Bool) (cs : List Credentials) (new : State) → never_waits (in_order (if own then [] else map (λ c. Needs (SameUser c.euid)) cs) (plans.Grant Done new)) ≡ true
+never-signal true cs new = refl
+never-signal false cs new = never-needs cs (plans.Grant Done new) refl
+
+never-one : (own : Bool) (c : Credentials) (new : State) → never_waits (in_order (if own then [] else Needs (SameUser c.euid) ∷ []) (plans.Grant Done new)) ≡ true
+never-one true c new = refl
+never-one false c new = refl
 
 never-plan : (s : State) (client : ℕ) (call : Call) → can_wait call ≡ false → never_waits (plan s client call) ≡ true
 unfolding part_plan
@@ -161,8 +174,16 @@ never-plan s client (IpcSet kind id uid gid mode qbytes) never =
     never-found (perm_of s kind id) BadId tt _ (λ perm. never-set (with_set s kind id set) (is_within s qbytes))
 never-plan s client (IpcRmid kind id) never = never-found (perm_of s kind id) BadId tt _ (λ perm. refl)
 never-plan s client (Listing kind) never = refl
+never-plan s client (Assume creds) never = refl
+never-plan s client (Begin p creds) never = never-found (free_client s client) ClientInUse tt _ (λ t. refl)
+never-plan s client (Fork child p) never = never-found (free_client s child) ClientInUse tt _ (λ t. refl)
+never-plan s client (Clone child) never = never-found (free_client s child) ClientInUse tt _ (λ t. refl)
+never-plan s client (Name p) never = refl
+never-plan s client Exec never = refl
 never-plan s client (SetCreds euid egid groups) never = never-groups groups _
-never-plan s client (Interrupt pid) never = never-found (process s pid) NoProcess tt _ (λ target. refl)
+never-plan s client (Interrupt p) never = never-signal (p == pid_at s client) (threads_of s p) s
+never-plan s client (InterruptThread target) never = never-found (slice_get s.threads target) NoClient tt _ (λ t. never-one (t.pid == pid_at s client) (creds_at s target) s)
+never-plan s client (Kill p) never = never-found (find (has_pid p) s.threads) NoProcess tt _ (λ t. never-signal (p == pid_at s client) (threads_of s p) _)
 
 can-wait : (b : Bool) (call : Call) (c : Credentials) (p : Plan State) → (can_wait call ≡ false → never_waits p ≡ true) → can_wait call ≡ b → proceeds (decision c p) ≡ false → b ≡ true
 can-wait true call c p never is waits = refl
@@ -275,6 +296,10 @@ Ends-operate s client id ops =
     Ends-sems s (operate s.limits s.sems who id ops) (Ends-found _ (set_at s.sems id) BadId tt _ (λ set is.
     Ends-order (λ answer u. Grows s.sems.sets u.sets) (trial_checks set.contents.semaphores (adj_of s.sems.undo (process_at s client) id) [] ops) (plans.Grant Done (operated s.sems who id ops set.contents)) (Grows-changed s.sems.sets id _)))
 
+-- a client begins, as a thread of this process or of a new one, and the segments follow
+Succeeds-begun : (s : State) (child process p next : ℕ) (d : Credentials) (shared : Shared) → Leads s.shared shared → Succeeds s Done (record (with_client s child process p d) { next = next; shared = shared })
+Succeeds-begun s child process p next d shared leads = (refl, record { queues = Grows-same s.queues; sets = Grows-same s.sems.sets; shared = leads; clients = length-set s.clients child d; limits = refl })
+
 -- a thread ends, or a process
 Succeeds-exit : (s : State) (client : ℕ) (running : Bool) → Succeeds s Done (cond running (ended s client) (process_ended (ended s client) (caller s client)))
 Succeeds-exit s client true = (refl, Follows-same s (ended s client) refl refl refl refl refl)
@@ -303,6 +328,12 @@ Ends-plan s client (SemOp id ops) = Ends-operate s client id ops
 Ends-plan s client (SemTimedOp id ops timeout) = Ends-operate s client id ops
 Ends-plan s client (GetNcnt id num) = Ends-sems s (get_waiting s id num (is_negative num)) (Ends-found _ (set_at s.sems id) BadId tt _ (λ set is. Grows-same s.sems.sets))
 Ends-plan s client (GetZcnt id num) = Ends-sems s (get_waiting s id num (is_zero num)) (Ends-found _ (set_at s.sems id) BadId tt _ (λ set is. Grows-same s.sems.sets))
+Ends-plan s client (Assume creds) = (refl, Follows-same s _ refl refl refl (length-set s.clients client (credentials_of creds)) refl)
+Ends-plan s client (Begin p creds) = Ends-found (Succeeds s) (free_client s client) ClientInUse tt _ (λ t is. Succeeds-begun s client s.next p (s.next + 1) (credentials_of creds) s.shared (Leads-same s.shared))
+Ends-plan s client (Fork child p) = Ends-found (Succeeds s) (free_client s child) ClientInUse tt _ (λ t is. Succeeds-begun s child s.next p (s.next + 1) (creds_at s client) _ (Leads-copies shmseg 0 (caller s client) s.next s.shared))
+Ends-plan s client (Clone child) = Ends-found (Succeeds s) (free_client s child) ClientInUse tt _ (λ t is. Succeeds-begun s child (process_at s client) (pid_at s client) s.next (creds_at s client) s.shared (Leads-same s.shared))
+Ends-plan s client (Name p) = (refl, Follows-same s _ refl refl refl refl refl)
+Ends-plan s client Exec = (refl, record { queues = Grows-same s.queues; sets = Grows-same s.sems.sets; shared = Leads-each shmseg 0 (caller s client) s.shared; clients = length-set s.clients client (executed (creds_at s client)); limits = refl })
 Ends-plan s client Exit = Succeeds-exit s client (is_running (ended s client) (process_at s client))
 Ends-plan s client (GetVal id num) = Ends-sems s (get_value s.sems id num) (Ends-found _ (set_at s.sems id) BadId tt _ (λ set is. Grows-same s.sems.sets))
 Ends-plan s client (GetPid id num) = Ends-sems s (get_pid s.sems id num) (Ends-found _ (set_at s.sems id) BadId tt _ (λ set is. Grows-same s.sems.sets))
@@ -337,7 +368,13 @@ Ends-plan s client (SetCreds euid egid groups) =
     let new = with_creds s client (became euid egid groups (creds_at s client)) in
     Ends-order (Succeeds s) (if is_some groups then Needs SetGroups ∷ [] else []) (plans.Grant Done new)
     (refl, Follows-same s new refl refl refl (length-set s.clients client (became euid egid groups (creds_at s client))) refl)
-Ends-plan s client (Interrupt pid) = Ends-found (Succeeds s) (process s pid) NoProcess tt _ (λ target is. Succeeds-same s Done)
+Ends-plan s client (Interrupt p) = Ends-order (Succeeds s) (to_signal s (caller s client) p) (plans.Grant Done s) (Succeeds-same s Done)
+Ends-plan s client (InterruptThread target) = Ends-found (Succeeds s) (slice_get s.threads target) NoClient tt _ (λ t is.
+    Ends-order (Succeeds s) (if t.pid == pid_at s client then [] else Needs (SameUser (creds_at s target).euid) ∷ []) (plans.Grant Done s) (Succeeds-same s Done))
+Ends-plan s client (Kill p) = Ends-found (Succeeds s) (find (has_pid p) s.threads) NoProcess tt _ (λ t is.
+    let who : Caller = as_process (caller s client) t in
+    Ends-order (Succeeds s) (to_signal s (caller s client) p) (plans.Grant Done (process_ended (all_ended s t.process) who))
+    (refl, record { queues = Grows-same s.queues; sets = Grows-mapped (set_after_exit s.sems who) s.sems.sets; shared = Leads-each shmseg 0 who s.shared; clients = refl; limits = refl }))
 
 pub Keeps-decide : (s : State) (client : ℕ) (call : Call) → Keeps s (decide s client call)
 Keeps-decide s client call = Ends-decision (creds_at s client) (Succeeds s) (plan s client call) (Ends-plan s client call)

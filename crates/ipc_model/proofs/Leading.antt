@@ -11,11 +11,11 @@ use Rattle.ipc_ids.proofs.Sound.{get-insert-other, get-insert-same}
 use Rattle.ipc_objects.specs.declared.object.Object.{Object}
 use Rattle.ipc_objects.specs.Objects.{changed, with_perm}
 use Rattle.shm_seg.specs.declared.attachments.Attachment.{Attachment}
-use Rattle.shm_seg.specs.Attachments.{Attached, attach_count, attachment_at, free_number, without_attachment}
+use Rattle.shm_seg.specs.Attachments.{Attached, attach_count, attachment_at, free_number, with_attachment, without_attachment}
 use Rattle.shm_seg.proofs.Changes.{attached_count, detached_count_other, free_there}
 use Rattle.ipc_model.specs.State.{Caller, Segment, Shared}
 use Rattle.ipc_model.specs.Controls.{marked, without_segment}
-use Rattle.ipc_model.specs.Segments.{AreAttached, attached_by, attachment_to, detached, detached_by, detached_from, left_segment, segment_at, with_attached, with_bytes, without_number}
+use Rattle.ipc_model.specs.Segments.{AreAttached, attached_by, attachment_to, copied, copied_from, detached, detached_by, detached_from, left_segment, segment_at, with_attached, with_bytes, with_copy, without_number}
 use Rattle.ipc_model.proofs.Growing.{Grows-changed, Grows-gone, Grows-new, Grows-same, Leads, Leads-on, Leads-same}
 
 module _ (t : Table (Object Segment)) (id : ℕ) where
@@ -73,6 +73,23 @@ Leads-attached a who id flags number segment there free =
     Leads-kept a id (λ (o : Object Segment). record o { contents = attached_by who segment.contents }) (with_attached a who number (attachment_to id flags) segment.contents).attached
     (λ x is. ap (λ (o : Object Segment). o.contents.is_marked) (same_Some segment x (sym there ∙ is)))
     (λ j was. let more = attached_count a.attached who.process number (attachment_to id flags) (free_there a.attached who.process number free) j in omega (arith, more, was))
+
+-- fork: the child has nothing under the number
+Leads-copy : (a : Shared) (who : Caller) (child number : ℕ) (parents childs : Option Attachment) → attachment_at a.attached child number ≡ childs → Leads a (with_copy a who child number parents childs)
+Leads-copy a who child number (Some of) None free =
+    Leads-kept a of.segment (λ (o : Object Segment). record o { contents = attached_by who o.contents }) (with_attachment a.attached child number of)
+    (λ x is. refl)
+    (λ j was. let more = attached_count a.attached child number of free j in omega (arith, more, was))
+Leads-copy a who child number (Some of) (Some other) is = Leads-same a
+Leads-copy a who child number None childs is = Leads-same a
+
+pub Leads-copies : (left number : ℕ) (who : Caller) (child : ℕ) (a : Shared) → Leads a (copied_from left number who child a)
+unfolding copied_from
+Leads-copies zero number who child a = Leads-same a
+Leads-copies (suc left) number who child a =
+    let first = copied a who child number in
+    Leads-on a first (copied_from left (number + 1) who child first)
+    (Leads-copy a who child number (attachment_at a.attached who.process number) (attachment_at a.attached child number) refl) (Leads-copies left (number + 1) who child first)
 
 -- shmwrite
 pub Leads-written : (a : Shared) (id : ℕ) (segment : Object Segment) (offset : ℕ) (new : _) → segment_at a id ≡ Some segment → Leads a (with_bytes a id segment.contents offset new)

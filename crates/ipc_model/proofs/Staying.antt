@@ -1,46 +1,47 @@
 -- What the grant of a call leaves as it was: each object that the call doesn't touch, to the calls of other clients that
 -- wait there.
-use Rattle.std.proofs.Common.{◌≡◌, ◌≢◌, ℕ, zero, suc, Bool, true, false, cond, eqb, get_or, set, List, [], ◌∷◌, ◌++◌, refl, sym, ap, ◌∙◌, Option, Some, None}
-use Rattle.std.specs.Prelude.{◌==◌, ◌&&◌, is_some, pos, option_and_then, option_map, slice_get, unwrap_or, if◌then◌else◌}
+use Rattle.std.proofs.Common.{◌≡◌, ◌≢◌, ℕ, zero, suc, Bool, true, false, cond, eqb, get_or, set, List, [], ◌∷◌, refl, sym, ap, ◌∙◌, Option, Some, None}
+use Rattle.std.specs.Prelude.{◌==◌, ◌&&◌, ◌+◌, is_some, map, pos, option_and_then, option_map, slice_get, unwrap_or, if◌then◌else◌}
 use Rattle.std.specs.FinMap as finite
+use Rattle.std.specs.List.{find}
 use Rattle.std.proofs.lemmas.Bool.{eqb-false, false≢true, true≢false}
 use Rattle.std.proofs.lemmas.Option.{none-some}
 use Rattle.std.proofs.lemmas.List.{get_or-set_other}
 use Rattle.ipc_call.specs.declared.settings.Receive.{Receive}
 use Rattle.ipc_call.specs.declared.calls.Call.{Call}
-use Rattle.ipc_call.specs.declared.calls.Call.TheVariants.{MsgGet, MsgSnd, MsgRcv, SemGet, SemOp, SemTimedOp, GetVal, GetPid, GetNcnt, GetZcnt, GetAll, SetVal, SetAll, ShmGet, ShmAt, ShmDt, ShmRead, ShmWrite, Exit, IpcStat, IpcSet, IpcRmid, Listing, Interrupt, SetCreds}
+use Rattle.ipc_call.specs.declared.calls.Call.TheVariants.{MsgGet, MsgSnd, MsgRcv, SemGet, SemOp, SemTimedOp, GetVal, GetPid, GetNcnt, GetZcnt, GetAll, SetVal, SetAll, ShmGet, ShmAt, ShmDt, ShmRead, ShmWrite, Exit, IpcStat, IpcSet, IpcRmid, Listing, Interrupt, SetCreds, Assume, Begin, Fork, Clone, Name, Exec, Kill, InterruptThread}
 use Rattle.ipc_call.specs.declared.calls.Kind.{Kind}
 use Rattle.ipc_call.specs.declared.calls.Kind.TheVariants as kinds
 use Rattle.ipc_call.specs.declared.calls.SemOper.{SemOper}
 use Rattle.ipc_call.specs.declared.settings.Settings.{Settings}
 use Rattle.ipc_call.specs.declared.replies.Answer.TheVariants.{Done}
-use Rattle.ipc_call.specs.declared.rules.Rule.TheVariants.{BadId, NoProcess}
-use Rattle.ipc_creds.specs.Credentials.{Credentials, became}
+use Rattle.ipc_call.specs.declared.rules.Rule.TheVariants.{BadId, ClientInUse, NoClient, NoProcess}
+use Rattle.ipc_creds.specs.Credentials.{Credentials, became, executed}
 use Rattle.ipc_ids.specs.Table.{Table, next_id, with_object}
 use Rattle.ipc_ids.proofs.Images.{get-entries}
 use Rattle.ipc_ids.proofs.Sound.{get-insert-other, get-remove-other}
 use Rattle.ipc_objects.specs.declared.object.Object.{Object}
 use Rattle.ipc_objects.specs.Objects.{changed, with_contents}
-use Rattle.ipc_perm.specs.Access.{Resource, SetGroups}
+use Rattle.ipc_perm.specs.Access.{Resource, SameUser, SetGroups}
 use Rattle.msg_queue.specs.declared.messages.Message.{Message}
 use Rattle.sem_set.specs.declared.set.Semaphore.{Semaphore}
 use Rattle.sem_set.specs.Exits.{any_from}
 use Rattle.sem_undo.specs.Entries.{adj_of}
 use Rattle.sem_undo.proofs.Entries.{key}
-use Rattle.ipc_model.specs.State.{Caller, Queue, Queues, SemSet, Sems, Shared, State, Thread, caller, creds_at, has_exited, is_running, no_thread, nobody, process_at, thread_at}
+use Rattle.ipc_model.specs.State.{Caller, Queue, Queues, SemSet, Sems, Shared, State, Thread, caller, creds_at, has_exited, has_pid, is_running, no_thread, nobody, pid_at, process_at, thread_at}
 use Rattle.ipc_model.specs.Plan.{Needs, Plan, found, on_part, ◌⨾◌}
 use Rattle.ipc_model.specs.Plan as plans
 use Rattle.ipc_model.specs.Cancelled.{is_same}
 use Rattle.ipc_model.specs.Gets.{get, get_queue, get_segment, get_set, getting_queue, getting_set, object_of_key, Get}
 use Rattle.ipc_model.specs.Messages.{chosen, queue_at, receive_found, receive_message, send_found, send_message, take_chosen, Send}
 use Rattle.ipc_model.specs.Semaphores.{after_exit, set_after_exit, get_all, get_pid, get_value, operate, operated, set_all, set_at, set_value, trial_checks, with_values}
-use Rattle.ipc_model.specs.Processes.{ended, process, process_ended, with_creds}
+use Rattle.ipc_model.specs.Processes.{after_exec, all_ended, as_process, credentials_of, ended, free_client, if_ended, process_ended, renamed, to_signal, with_client, with_creds}
 use Rattle.ipc_model.specs.Controls.{is_within, perm_of, removed, status_of, with_set, without_set}
 use Rattle.ipc_model.specs.Decide.{get_waiting, is_negative, is_zero, part_plan, plan}
-use Rattle.ipc_model.specs.Segments.{after_detaches, attach, detach, read_bytes, write_bytes}
-use Rattle.ipc_model.specs.Touched.{is_id, owes, touches}
+use Rattle.ipc_model.specs.Segments.{after_fork, attach, detach, read_bytes, write_bytes}
+use Rattle.ipc_model.specs.Touched.{is_id, owes, thread_owes, touches}
 use Rattle.ipc_model.proofs.Stays.{AreLiving, IsSeenAlike, Stays}
-use Rattle.ipc_model.proofs.Apart.{changed-apart, cleared-apart, exited-none, none-runs, lowered-apart, without-apart}
+use Rattle.ipc_model.proofs.Apart.{changed-apart, cleared-apart, exited-none, left-alone, none-runs, lowered-apart, renamed-process, without-apart}
 use Rattle.ipc_model.proofs.Calls.{Ends-getting}
 use Rattle.ipc_model.proofs.Plans.{Ends, Ends-found, Ends-order}
 
@@ -51,6 +52,22 @@ off false b h is = absurd (false≢true is)
 -- identifiers that aren't equal, the other way around
 apart : (a b : ℕ) → eqb a b ≡ false → b ≢ a
 apart a b h e = eqb-false a b h (sym e)
+
+-- a client that is free has ended
+pub free-ended : (s : State) (c : ℕ) (t : Thread) → free_client s c ≡ Some t → has_exited s c ≡ true
+free-ended s c t is = by s.threads c is
+  where
+    here : (x : Thread) → if_ended x ≡ Some t → x.has_ended ≡ true
+    here x is = got x.has_ended is
+      where
+        got : (b : Bool) → cond b (Some x) None ≡ Some t → b ≡ true
+        got true is = refl
+        got false is = absurd (none-some t is)
+
+    by : (ts : List Thread) (n : ℕ) → option_and_then if_ended (slice_get ts n) ≡ Some t → (get_or ts n no_thread).has_ended ≡ true
+    by [] n is = refl
+    by (x ∷ ts) zero is = here x is
+    by (x ∷ ts) (suc n) is = by ts n is
 
 module _ (s : State) (client : ℕ) (kind : Kind) (at : ℕ) where
   abbrev KeepsQueue : Queues → Type 0
@@ -79,23 +96,23 @@ module _ (s : State) (client : ℕ) (kind : Kind) (at : ℕ) where
   set-same is = (refl, λ c ne living num. refl)
 
   stays-same : Kept s
-  stays-same = record { limits = refl; creds = λ c ne living. refl; alive = λ c ne living. refl; object = seen s queue-same set-same }
+  stays-same = record { limits = refl; creds = λ c ne living. refl; process = λ c ne living. refl; object = seen s queue-same set-same }
 
   stays-queues : (u : Queues) → KeepsQueue u → Kept (record s { queues = u })
-  stays-queues u keeps = record { limits = refl; creds = λ c ne living. refl; alive = λ c ne living. refl; object = seen (record s { queues = u }) keeps set-same }
+  stays-queues u keeps = record { limits = refl; creds = λ c ne living. refl; process = λ c ne living. refl; object = seen (record s { queues = u }) keeps set-same }
 
   stays-sems : (u : Sems) → KeepsSet u → Kept (record s { sems = u })
-  stays-sems u keeps = record { limits = refl; creds = λ c ne living. refl; alive = λ c ne living. refl; object = seen (record s { sems = u }) queue-same keeps }
+  stays-sems u keeps = record { limits = refl; creds = λ c ne living. refl; process = λ c ne living. refl; object = seen (record s { sems = u }) queue-same keeps }
 
   stays-shared : (u : Shared) → Kept (record s { shared = u })
-  stays-shared u = record { limits = refl; creds = λ c ne living. refl; alive = λ c ne living. refl; object = seen (record s { shared = u }) queue-same set-same }
+  stays-shared u = record { limits = refl; creds = λ c ne living. refl; process = λ c ne living. refl; object = seen (record s { shared = u }) queue-same set-same }
 
   -- setcreds changes the caller's credentials
   stays-creds : (d : Credentials) → Kept (with_creds s client d)
   stays-creds d = record {
     limits = refl;
     creds = λ c ne living. get_or-set_other s.clients client c d nobody ne;
-    alive = λ c ne living. refl;
+    process = λ c ne living. refl;
     object = seen (with_creds s client d) queue-same set-same;
   }
 
@@ -225,15 +242,57 @@ module _ (s : State) (client : ℕ) (kind : Kind) (at : ℕ) where
   exit-kept other true is = record {
     limits = refl;
     creds = λ c ne living. refl;
-    alive = λ c ne living. thread-other _ c ne;
+    process = λ c ne living. ap (λ (t : Thread). t.process) (thread-other _ c ne);
     object = seen rest queue-same set-same;
   }
   exit-kept other false is = record {
     limits = refl;
     creds = λ c ne living. refl;
-    alive = λ c ne living. thread-other _ c ne;
+    process = λ c ne living. ap (λ (t : Thread). t.process) (thread-other _ c ne);
     object = process-seen (caller s client) (process_ended rest (caller s client)) (λ c ne living. of-another is c ne living.0) other refl refl;
   }
+
+  -- the end of the process that is found
+  kill-kept : (found : Thread) → is_same kinds.Sems kind && owes s.sems found.process at ≡ false → Kept (process_ended (all_ended s found.process) (as_process (caller s client) found))
+  kill-kept found other = record {
+    limits = refl;
+    creds = λ c ne living. refl;
+    process = λ c ne living. ap (λ (t : Thread). t.process) (left-alone s.threads found.process c living.1).0;
+    object = process-seen (as_process (caller s client) found) (process_ended (all_ended s found.process) (as_process (caller s client) found)) (λ c ne living. (left-alone s.threads found.process c living.1).1) other refl refl;
+  }
+
+  -- exec
+  exec-kept : Kept (after_exec s (caller s client))
+  exec-kept = record {
+    limits = refl;
+    creds = λ c ne living. get_or-set_other s.clients client c (executed (creds_at s client)) nobody ne;
+    process = λ c ne living.
+        let there = get_or-set_other (all_ended s own).threads client c (thread_at s client) no_thread ne in
+        ap (λ (t : Thread). t.process) (there ∙ (left-alone s.threads own c (sym (ap (λ (t : Thread). t.has_ended) there) ∙ living.1)).0);
+    object = seen (after_exec s (caller s client)) queue-same set-same;
+  }
+
+  -- the process takes another pid
+  name-kept : (p : ℕ) → Kept (record s { threads = map (renamed own p) s.threads })
+  name-kept p = record {
+    limits = refl;
+    creds = λ c ne living. refl;
+    process = λ c ne living. renamed-process s.threads own p c;
+    object = seen (record s { threads = map (renamed own p) s.threads }) queue-same set-same;
+  }
+
+  -- a client that has ended begins, and the segments change
+  begun-kept : (child process p next : ℕ) (d : Credentials) (shared : Shared) → ((c : ℕ) → c ≢ client → has_exited s c ≡ false → c ≢ child) → Kept (record (with_client s child process p d) { next = next; shared = shared })
+  begun-kept child process p next d shared ne-child = record {
+    limits = refl;
+    creds = λ c ne living. get_or-set_other s.clients child c d nobody (ne-child c ne living.0);
+    process = λ c ne living. ap (λ (t : Thread). t.process) (get_or-set_other s.threads child c (record { process = process; pid = p; has_ended = false }) no_thread (ne-child c ne living.0));
+    object = seen (record (with_client s child process p d) { next = next; shared = shared }) queue-same set-same;
+  }
+
+  -- a client that hasn't ended isn't one that has
+  not-child : (child : ℕ) (t : Thread) → free_client s child ≡ Some t → (c : ℕ) → c ≢ client → has_exited s c ≡ false → c ≢ child
+  not-child child t is c ne living e = true≢false (sym (free-ended s child t is) ∙ sym (ap (λ (n : ℕ). has_exited s n) e) ∙ living)
 
   -- each call
   pub stays : (call : Call) → touches s client call kind at ≡ false → Ends (λ answer new. Kept new) (plan s client call)
@@ -279,8 +338,19 @@ module _ (s : State) (client : ℕ) (kind : Kind) (at : ℕ) where
       Ends-order (λ answer new. Kept new) (if is_within s qbytes then [] else Needs Resource ∷ []) (plans.Grant Done (with_set s of id new)) (put-kept of id new other))
   stays (IpcRmid of id) other = Ends-found (λ answer new. Kept new) (perm_of s of id) BadId tt _ (λ perm is. gone-kept of id other)
   stays (Listing of) other = stays-same
-  stays (Interrupt pid) other = Ends-found (λ answer new. Kept new) (process s pid) NoProcess tt _ (λ target is. stays-same)
+  stays (Interrupt p) other = Ends-order (λ answer new. Kept new) (to_signal s (caller s client) p) (plans.Grant Done s) stays-same
+  stays (InterruptThread target) other = Ends-found (λ answer new. Kept new) (slice_get s.threads target) NoClient tt _ (λ t is.
+      Ends-order (λ answer new. Kept new) (if t.pid == pid_at s client then [] else Needs (SameUser (creds_at s target).euid) ∷ []) (plans.Grant Done s) stays-same)
+  stays (Kill p) other = Ends-found (λ answer new. Kept new) (find (has_pid p) s.threads) NoProcess tt _ (λ t is.
+      Ends-order (λ answer new. Kept new) (to_signal s (caller s client) p) (plans.Grant Done (process_ended (all_ended s t.process) (as_process (caller s client) t)))
+      (kill-kept t (ap (λ (o : Option Thread). is_same kinds.Sems kind && thread_owes s.sems at o) (sym is) ∙ other)))
   stays (SetCreds euid egid groups) other =
       let new = became euid egid groups (creds_at s client) in
       Ends-order (λ answer new. Kept new) (if is_some groups then Needs SetGroups ∷ [] else []) (plans.Grant Done (with_creds s client new)) (stays-creds new)
+  stays (Assume creds) other = stays-creds (credentials_of creds)
+  stays (Begin p creds) other = Ends-found (λ answer new. Kept new) (free_client s client) ClientInUse tt _ (λ t is. begun-kept client s.next p (s.next + 1) (credentials_of creds) s.shared (λ c ne living. ne))
+  stays (Fork child p) other = Ends-found (λ answer new. Kept new) (free_client s child) ClientInUse tt _ (λ t is. begun-kept child s.next p (s.next + 1) (creds_at s client) (after_fork s.shared (caller s client) s.next) (not-child child t is))
+  stays (Clone child) other = Ends-found (λ answer new. Kept new) (free_client s child) ClientInUse tt _ (λ t is. begun-kept child own (pid_at s client) s.next (creds_at s client) s.shared (not-child child t is))
+  stays (Name p) other = name-kept p
+  stays Exec other = exec-kept
   stays Exit other = exit-kept other (is_running rest own) refl

@@ -3,7 +3,7 @@ use Rattle.std.specs.Prelude.{◌≡◌, ◌≢◌, ℕ, false}
 use Rattle.ipc_call.specs.declared.calls.Kind.{Kind}
 use Rattle.ipc_call.specs.declared.calls.Kind.TheVariants as kinds
 use Rattle.sem_undo.specs.Entries.{adj_of}
-use Rattle.ipc_model.specs.State.{State, creds_at, has_exited, process_at, thread_at}
+use Rattle.ipc_model.specs.State.{State, creds_at, has_exited, process_at}
 use Rattle.ipc_model.specs.Messages.{queue_at}
 use Rattle.ipc_model.specs.Semaphores.{set_at}
 
@@ -20,9 +20,9 @@ IsSeenAlike kinds.Sems id client s new = (set_at new.sems id ≡ set_at s.sems i
 IsSeenAlike kinds.Segment id client s new = Unit {0}
 
 -- all that a call of another client that waits on this object depends on stays: the limits, its client's credentials,
--- its thread, and the object; it hasn't ended
+-- its process, and the object; it hasn't ended
 pub record Stays (s : State) (client : ℕ) (kind : Kind) (id : ℕ) (new : State) : Type 0 where
   pub limits : new.limits ≡ s.limits
   pub creds : (c : ℕ) → c ≢ client → AreLiving s new c → creds_at new c ≡ creds_at s c
-  pub alive : (c : ℕ) → c ≢ client → AreLiving s new c → thread_at new c ≡ thread_at s c
+  pub process : (c : ℕ) → c ≢ client → AreLiving s new c → process_at new c ≡ process_at s c
   pub object : IsSeenAlike kind id client s new

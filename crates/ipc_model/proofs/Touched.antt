@@ -1,7 +1,7 @@
 -- A call that waits on an object that an event doesn't touch is ready after it if it was before. So the earliest that is
 -- ready is found among those that were touched.
 use Rattle.std.proofs.Common.{◌≡◌, ◌≢◌, ℕ, Bool, true, false, cond, eqb, List, [], ◌∷◌, length, refl, sym, ap, subst, ◌∙◌, ⊎_elim, Option, Some, None}
-use Rattle.std.specs.Prelude.{◌&&◌, is_some, not, pos, int_le, nat_le, nat_lt}
+use Rattle.std.specs.Prelude.{◌&&◌, ◌||◌, is_some, not, pos, int_le, nat_le, nat_lt}
 use Rattle.std.specs.FinMap as finite
 use Rattle.std.specs.List.{AllByRecursion, find, filter}
 use Rattle.std.proofs.lemmas.Bool.{cases_Bool, eqb-true, false≢true, true≢false}
@@ -22,13 +22,13 @@ use Rattle.ipc_perm.specs.Access.{Permission, to_read}
 use Rattle.msg_queue.specs.declared.messages.Message.{Message}
 use Rattle.sem_set.specs.Trials.{are_in}
 use Rattle.sem_undo.specs.Entries.{adj_of}
-use Rattle.ipc_model.specs.State.{Caller, Queue, Queues, SemSet, Sems, State, Thread, caller, creds_at, has_exited, process_at}
+use Rattle.ipc_model.specs.State.{Caller, Queue, Queues, SemSet, Sems, State, caller, creds_at, process_at}
 use Rattle.ipc_model.specs.Decision.{proceeds}
 use Rattle.ipc_model.specs.Plan.{Grant, Needs, Passes, Plan, decision, in_order, on_part, ◌⨾◌}
 use Rattle.ipc_model.specs.Cancelled.{is_same, waits_on}
 use Rattle.ipc_model.specs.Messages.{chosen, queue_at, receive_found, receive_message, send_found, send_message, take_chosen, Send}
 use Rattle.ipc_model.specs.Semaphores.{operate, operate_found, operated, set_at, trial_checks, wanted_by}
-use Rattle.ipc_model.specs.Decide.{OnQueues, OnSems, decide, part_plan, plan, plan_alive, waits_at, whole}
+use Rattle.ipc_model.specs.Decide.{OnQueues, OnSems, begins, decide, may_call, part_plan, plan, plan_alive, waits_at, whole}
 use Rattle.ipc_model.specs.Step.{first_ready, is_ready}
 use Rattle.ipc_model.specs.Touched.{is_id}
 use Rattle.ipc_model.proofs.Stays.{AreLiving, IsSeenAlike, Stays}
@@ -66,7 +66,7 @@ module _ (s new : State) (client c : ℕ) (kind : Kind) (at : ℕ) (stays : Stay
       by kinds.Queue seen on = absurd (false≢true on)
       by kinds.Sems seen on =
           subst (λ (i : ℕ). (set_at new.sems i ≡ set_at s.sems i) × (adj_of new.sems.undo (process_at new c) i ≡ adj_of s.sems.undo (process_at s c) i)) (sym (eqb-true id at on))
-          (seen.0, ap (λ (t : Thread). adj_of new.sems.undo t.process at) (stays.alive c other living) ∙ (λ i num. seen.1 c other living num i))
+          (seen.0, ap (λ (p : ℕ). adj_of new.sems.undo p at) (stays.process c other living) ∙ (λ i num. seen.1 c other living num i))
       by kinds.Segment seen on = absurd (false≢true on)
 
   operate-seen : (id : ℕ) (ops : List SemOper) → is_same kinds.Sems kind && eqb id at ≡ true
@@ -103,8 +103,8 @@ pub stays_alike : (s new : State) (client c : ℕ) (kind : Kind) (at : ℕ) → 
 stays_alike s new client c kind at stays other living call on =
     ap (λ d. proceeds (decision d (plan new c call))) (stays.creds c other living)
     ∙ proceeds-alike (creds_at s c) (plan new c call) (plan s c call)
-    ((λ i. Passes (not (stays.alive c other living i).has_ended) Ended tt ⨾ blank (plan_alive new c call))
-    ∙ ap (λ p. Passes (not (has_exited s c)) Ended tt ⨾ p) (alive-seen s new client c kind at stays other living call on))
+    ((λ i. Passes (begins call || not ((living.1 ∙ sym living.0) i)) Ended tt ⨾ blank (plan_alive new c call))
+    ∙ ap (λ p. Passes (may_call s c call) Ended tt ⨾ p) (alive-seen s new client c kind at stays other living call on))
 
 -- the object on which a call waits is there
 abbrev pub is_there : State → Kind → ℕ → Bool

@@ -1,32 +1,27 @@
 -- After an event, and after each waiting call that ends by it, no call is ready that waits where nothing was touched.
 use Rattle.std.proofs.Common.{◌≡◌, ◌≢◌, ℕ, Bool, true, false, cond, eqb, List, [], ◌∷◌, refl, sym, ap, subst, ◌∙◌, Option, Some}
-use Rattle.std.specs.Prelude.{◌&&◌, is_some, not, option_map, slice_index_or, unwrap_or, if◌then◌else◌}
+use Rattle.std.specs.Prelude.{◌&&◌, ◌||◌, is_some, not, option_map, slice_index_or, unwrap_or}
 use Rattle.std.specs.List.{AllByRecursion}
 use Rattle.std.proofs.lemmas.Bool.{eqb-true, eq-eqb, false≢true, true≢false}
-use Rattle.std.proofs.lemmas.List.{get_or-set_other}
 use Rattle.std.proofs.lemmas.Option.{same_Some}
 use Rattle.ipc_call.specs.declared.calls.Call.{Call}
-use Rattle.ipc_call.specs.declared.calls.Call.TheVariants.{Exit, SetCreds, MsgGet, MsgSnd, MsgRcv, SemGet, SemOp, SemTimedOp}
+use Rattle.ipc_call.specs.declared.calls.Call.TheVariants.{Begin, MsgGet, MsgSnd, MsgRcv, SemGet, SemOp, SemTimedOp}
 use Rattle.ipc_call.specs.declared.calls.Kind.{Kind}
 use Rattle.ipc_call.specs.declared.calls.Kind.TheVariants as kinds
 use Rattle.ipc_call.specs.declared.replies.Answer.{Answer}
-use Rattle.ipc_call.specs.declared.replies.Answer.TheVariants.{Done}
 use Rattle.ipc_call.specs.declared.replies.Waiting.{Waiting}
 use Rattle.ipc_call.specs.declared.rules.Rule.TheVariants.{Ended}
 use Rattle.ipc_ids.specs.Table.{next_id}
-use Rattle.ipc_perm.specs.Access.{SetGroups}
-use Rattle.ipc_model.specs.Plan.{Needs}
-use Rattle.ipc_model.specs.Processes.{ended, process_ended}
-use Rattle.ipc_model.specs.State.{State, Thread, caller, creds_at, has_exited, is_running, no_thread, process_at, thread_at}
-use Rattle.ipc_model.specs.Decision.{Decision, Granted, Refused, Waits, proceeds}
-use Rattle.ipc_model.specs.Decide.{can_wait, decide, decide_alive, part_plan, plan, waits_at}
+use Rattle.ipc_model.specs.State.{State, Thread, creds_at, has_exited, no_thread}
+use Rattle.ipc_model.specs.Decision.{Decision, Granted, Refused, proceeds}
+use Rattle.ipc_model.specs.Decide.{begins, can_wait, decide, decide_alive, may_call, plan, waits_at}
 use Rattle.ipc_model.specs.Cancelled.{is_same, waits_on}
 use Rattle.ipc_model.specs.Step.{is_ready}
 use Rattle.ipc_model.specs.Touched.{is_id, touches, touches_place}
 use Rattle.ipc_model.proofs.Stays.{Stays}
 use Rattle.ipc_model.proofs.Beside.{KeepsClients, clients-kept, is_set_creds}
 use Rattle.ipc_model.proofs.Calls.{only_parkable}
-use Rattle.ipc_model.proofs.Plans.{Ends, Ends-decision, Ends-order, IfGranted}
+use Rattle.ipc_model.proofs.Plans.{Ends-decision, IfGranted}
 use Rattle.ipc_model.proofs.Staying.{stays}
 use Rattle.ipc_model.proofs.Touched.{is_there, stays_alike, unawaited, waits-there}
 
@@ -55,6 +50,11 @@ not-changing (SemOp id ops) can = refl
 not-changing (SemTimedOp id ops timeout) can = refl
 not-changing call can = absurd (false≢true can)
 
+-- a call that may wait isn't one by which a client begins
+pub begins-not : (call : Call) → can_wait call ≡ true → begins call ≡ false
+begins-not (Begin pid creds) can = absurd (false≢true can)
+begins-not call can = refl
+
 -- so the client of one that waits hasn't ended
 pub living-waits : (s : State) (client : ℕ) (call : Call) → proceeds (decide s client call) ≡ false → has_exited s client ≡ false
 living-waits s client call waits = by (has_exited s client) refl
@@ -62,41 +62,8 @@ living-waits s client call waits = by (has_exited s client) refl
     by : (b : Bool) → has_exited s client ≡ b → b ≡ false
     by false is = refl
     by true is =
-        absurd (true≢false (sym (ap (λ (b : Bool). proceeds (cond (not b) (decide_alive s client call) (Refused Ended))) is) ∙ waits))
-
--- a grant ends no other client
-abbrev pub KeepsOthers : State → ℕ → Answer → State → Type 0
-KeepsOthers s client answer new = (c : ℕ) → c ≢ client → has_exited new c ≡ has_exited s c
-
-others-exit : (s : State) (client : ℕ) (running : Bool) → KeepsOthers s client Done (cond running (ended s client) (process_ended (ended s client) (caller s client)))
-others-exit s client true c ne = ap (λ (t : Thread). t.has_ended) (get_or-set_other s.threads client c (record (thread_at s client) { has_ended = true }) no_thread ne)
-others-exit s client false c ne = ap (λ (t : Thread). t.has_ended) (get_or-set_other s.threads client c (record (thread_at s client) { has_ended = true }) no_thread ne)
-
-others-ended : (s : State) (client : ℕ) → Ends (KeepsOthers s client) (plan s client Exit)
-unfolding part_plan
-others-ended s client = others-exit s client (is_running (ended s client) (process_at s client))
-
-others-becoming : (s : State) (client euid egid : ℕ) (groups : Option (List ℕ)) → Ends (KeepsOthers s client) (plan s client (SetCreds euid egid groups))
-unfolding part_plan
-others-becoming s client euid egid groups = Ends-order (KeepsOthers s client) (if is_some groups then Needs SetGroups ∷ [] else []) _ (λ c ne. refl)
-
-by-kept : (s : State) (client : ℕ) (d : Decision State) → IfGranted (KeepsClients s) d → IfGranted (KeepsOthers s client) d
-by-kept s client (Refused rule) kept = tt
-by-kept s client Waits kept = tt
-by-kept s client (Granted answer new) kept = λ c ne. ap (λ (ts : List Thread). (slice_index_or ts c no_thread).has_ended) kept.1
-
-others-kept : (s : State) (client : ℕ) (call : Call) → IfGranted (KeepsOthers s client) (decide s client call)
-others-kept s client Exit = Ends-decision (creds_at s client) (KeepsOthers s client) (plan s client Exit) (others-ended s client)
-others-kept s client (SetCreds euid egid groups) = Ends-decision (creds_at s client) (KeepsOthers s client) (plan s client (SetCreds euid egid groups)) (others-becoming s client euid egid groups)
-others-kept s client call = by-kept s client (decide s client call) (clients-kept s client call refl)
-
--- so those that wait live on after it
-pub living-others : (s new : State) (client : ℕ) (call : Call) (answer : Answer) → decide s client call ≡ Granted answer new → (ws : List Waiting) → AllByRecursion (λ w. is_ready s w ≡ false) ws → AllByRecursion (λ w. w.client ≢ client) ws
-    → AllByRecursion (λ w. (w.client ≢ client) × (has_exited new w.client ≡ false)) ws
-living-others s new client call answer is [] waits others = tt
-living-others s new client call answer is (w ∷ ws) waits others =
-    let kept : KeepsOthers s client answer new = subst (λ (d : Decision State). IfGranted (KeepsOthers s client) d) is (others-kept s client call) in
-    ((others.0, kept w.client others.0 ∙ living-waits s w.client w.call waits.0), living-others s new client call answer is ws waits.1 others.1)
+        let no : may_call s client call ≡ false = λ i. begins-not call (only_parkable s client call waits) i || not (is i) in
+        absurd (true≢false (sym (ap (λ (b : Bool). proceeds (cond b (decide_alive s client call) (Refused Ended))) no) ∙ waits))
 
 still-waits : (s new : State) (client : ℕ) (call : Call) (answer : Answer) → decide s client call ≡ Granted answer new → (w : Waiting) → is_ready s w ≡ false → w.client ≢ client → has_exited new w.client ≡ false → touches_place s client call w ≡ false → is_ready new w ≡ false
 still-waits s new client call answer is w waits other lives off =

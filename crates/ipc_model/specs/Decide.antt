@@ -1,8 +1,8 @@
 -- The decision on each call, and what it needs of its caller.
-use Rattle.std.specs.Prelude.{ℕ, ◌+◌, ◌==◌, min, nat_le, pos, int_lt, Bool, true, false, not, ◌&&◌, List, Option, Some, None, is_some}
+use Rattle.std.specs.Prelude.{ℕ, ◌+◌, ◌==◌, min, nat_le, pos, int_lt, Bool, true, false, not, ◌&&◌, ◌||◌, List, Option, Some, None, is_some}
 use Rattle.std.specs.List.{count_by}
 use Rattle.std.specs.Ordering.{int_eq}
-use Rattle.ipc_call.specs.declared.calls.Call.TheVariants.{MsgGet, MsgSnd, MsgRcv, SemGet, SemOp, SemTimedOp, GetVal, GetPid, GetNcnt, GetZcnt, GetAll, SetVal, SetAll, ShmGet, ShmAt, ShmDt, ShmRead, ShmWrite, IpcStat, IpcSet, IpcRmid, Listing, Interrupt, SetCreds, Exit}
+use Rattle.ipc_call.specs.declared.calls.Call.TheVariants.{MsgGet, MsgSnd, MsgRcv, SemGet, SemOp, SemTimedOp, GetVal, GetPid, GetNcnt, GetZcnt, GetAll, SetVal, SetAll, ShmGet, ShmAt, ShmDt, ShmRead, ShmWrite, IpcStat, IpcSet, IpcRmid, Listing, Interrupt, InterruptThread, Kill, SetCreds, Assume, Begin, Fork, Clone, Name, Exec, Exit}
 use Rattle.ipc_call.specs.declared.rules.Rule.TheVariants.{Ended, TimedOut}
 use Rattle.ipc_call.specs.declared.calls.Kind.TheVariants as kinds
 use Rattle.ipc_perm.specs.Access.{Need}
@@ -14,7 +14,7 @@ use Rattle.ipc_model.specs.Gets.{get_queue, get_segment, get_set}
 use Rattle.ipc_model.specs.Messages.{receive_message, send_message}
 use Rattle.ipc_model.specs.Semaphores.{get_all, get_pid, get_value, look, operate, set_all, set_value, stopping}
 use Rattle.ipc_model.specs.Segments.{attach, detach, read_bytes, write_bytes}
-use Rattle.ipc_model.specs.Processes.{exit, interrupt, set_creds}
+use Rattle.ipc_model.specs.Processes.{assume, begin, clone, exec, exit, fork, interrupt, interrupt_thread, kill, name, set_creds}
 use Rattle.ipc_model.specs.Controls.{remove_object, set_object, stat_object}
 use Rattle.ipc_model.specs.Listings.{list_objects}
 
@@ -83,17 +83,40 @@ part_plan s who (IpcSet kind id uid gid mode qbytes) =
     OnState (set_object s kind id (record { uid = uid; gid = gid; mode = mode; qbytes = qbytes }))
 part_plan s who (IpcRmid kind id) = OnState (remove_object s kind id)
 part_plan s who (Listing kind) = OnState (list_objects s who kind)
-part_plan s who (Interrupt pid) = OnState (interrupt s pid)
+part_plan s who (Interrupt pid) = OnState (interrupt s who pid)
+part_plan s who (InterruptThread client) = OnState (interrupt_thread s who client)
+part_plan s who (Kill pid) = OnState (kill s who pid)
 part_plan s who (SetCreds euid egid groups) = OnState (set_creds s who euid egid groups)
+part_plan s who (Assume creds) = OnState (assume s who creds)
+part_plan s who (Begin pid creds) = OnState (begin s who pid creds)
+part_plan s who (Fork child pid) = OnState (fork s who child pid)
+part_plan s who (Clone child) = OnState (clone s who child)
+part_plan s who (Name pid) = OnState (name s who pid)
+part_plan s who Exec = OnState (exec s who)
 part_plan s who Exit = OnState (exit s who)
 
--- of a client that hasn't ended
+-- a call by which a client begins whose thread has ended
+abbrev pub begins : Call → Bool
+begins (Begin pid creds) = true
+begins call = false
+
+-- a call that hands in a client's credentials
+abbrev pub hands_in : Call → Bool
+hands_in (Assume creds) = true
+hands_in (Begin pid creds) = true
+hands_in call = false
+
+-- the client's thread hasn't ended, or it begins anew
+abbrev pub may_call : State → ℕ → Call → Bool
+may_call s client call = begins call || not (has_exited s client)
+
+-- of a client that may call
 abbrev pub plan_alive : State → ℕ → Call → Plan State
 plan_alive s client call = whole s (part_plan s (caller s client) call)
 
--- before all else the client hasn't ended (ESRCH; the project's own)
+-- before all else the client's thread hasn't ended, or it begins anew (ESRCH; the project's own)
 abbrev pub plan : State → ℕ → Call → Plan State
-plan s client call = Passes (not (has_exited s client)) Ended _ ⨾ plan_alive s client call
+plan s client call = Passes (may_call s client call) Ended _ ⨾ plan_alive s client call
 
 -- the decision relation: the credentials are the caller's, by its number
 abbrev pub decide : State → ℕ → Call → Decision State

@@ -2,6 +2,7 @@ pub mod Cancelled
 pub mod Controls
 pub mod Decide
 pub mod Decision
+pub mod Fresh
 pub mod Gets
 pub mod Listings
 pub mod Messages
@@ -11,4 +12,5 @@ pub mod Segments
 pub mod Semaphores
 pub mod State
 pub mod Step
+pub mod Tidy
 pub mod Touched

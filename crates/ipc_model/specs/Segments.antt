@@ -9,8 +9,8 @@ use Rattle.ipc_call.specs.declared.rules.Rule.TheVariants.{BadId, NotAttached, O
 use Rattle.ipc_call.specs.declared.replies.Answer.TheVariants.{Attached as AttachedAnswer, Bytes, Done}
 use Rattle.ipc_perm.specs.declared.access.Want.{Want}
 use Rattle.ipc_perm.specs.Access.{Permission, Writable}
-use Rattle.ipc_ids.specs.Table.{without_object}
-use Rattle.ipc_objects.specs.Objects.{with_contents}
+use Rattle.ipc_ids.specs.Table.{Table, without_object}
+use Rattle.ipc_objects.specs.Objects.{changed, with_contents}
 use Rattle.shm_seg.specs.declared.attachments.Attachment.{Attachment}
 use Rattle.shm_seg.specs.Attachments.{attach_count, attachment_at, free_number, shmseg, with_attachment, without_attachment}
 use Rattle.shm_seg.specs.Segments.{lies_within, overwritten, part_of}
@@ -80,6 +80,31 @@ detached_from (suc left) number who shared = detached_from left (number + 1) who
 -- exit: all, the least number first
 abbrev pub after_detaches : Shared → Caller → Shared
 after_detaches shared who = detached_from shmseg 0 who shared
+
+-- a segment, where there is one, with shm_lpid and shm_atime set
+abbrev pub noted : Table (Object Segment) → Caller → ℕ → Table (Object Segment)
+noted t who id = changed t id (λ segment. record segment { contents = attached_by who segment.contents })
+
+-- fork: what the caller has attached under a number, for the child too, which has nothing there. It is noted as by shmat
+abbrev pub with_copy : Shared → Caller → ℕ → ℕ → Option Attachment → Option Attachment → Shared
+with_copy shared who child number (Some a) None = record {
+  segments = noted shared.segments who a.segment;
+  attached = with_attachment shared.attached child number a;
+}
+with_copy shared who child number parents childs = shared
+
+abbrev pub copied : Shared → Caller → ℕ → ℕ → Shared
+copied shared who child number = with_copy shared who child number (attachment_at shared.attached who.process number)
+    (attachment_at shared.attached child number)
+
+-- so many numbers, from this one on
+unfoldable pub copied_from : ℕ → ℕ → Caller → ℕ → Shared → Shared
+copied_from zero number who child shared = shared
+copied_from (suc left) number who child shared = copied_from left (number + 1) who child (copied shared who child number)
+
+-- fork: all, the least number first
+abbrev pub after_fork : Shared → Caller → ℕ → Shared
+after_fork shared who child = copied_from shmseg 0 who child shared
 
 -- what a process has attached under a number, with its segment
 abbrev pub behind : Shared → ℕ → ℕ → Option (Attachment × Object Segment)

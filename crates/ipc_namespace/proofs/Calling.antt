@@ -1,6 +1,7 @@
 -- The calls of queues as a namespace makes them: what is decided of its queues is decided of its state.
 use Rattle.std.proofs.Common.{◌≡◌, ℕ, ℤ, Bool, true, false, List, [], ◌∷◌, length, refl, sym, ap, subst, ◌∙◌, Option, Some, None, Ok, Err}
-use Rattle.std.specs.Prelude.{⊤, not, if◌then◌else◌, is_some, pos, int_le, nat_le, nat_lt, IfOk, IfSome, IsSome, Result}
+use Rattle.std.proofs.lemmas.Bool.{true≢false}
+use Rattle.std.specs.Prelude.{⊤, ◌||◌, not, if◌then◌else◌, is_some, pos, int_le, nat_le, nat_lt, IfOk, IfSome, IsSome, Result}
 use Rattle.std.proofs.lemmas.Bool.{eqb-true, false≢true}
 use Rattle.std.proofs.lemmas.Option.{none-some}
 use Rattle.ipc_call.specs.declared.calls.Call.{Call}
@@ -16,6 +17,8 @@ use Rattle.ipc_objects.specs.declared.object.Object.{Object}
 use Rattle.msg_queue.specs.declared.messages.Message.{Message}
 use Rattle.ipc_model.specs.State.{Caller, Queue, Queues, SemSet, Sems, Shared, State, caller, creds_at, has_exited}
 use Rattle.ipc_model.specs.Decision.{Decision, Granted, Outcome, Refused, Waits, left_by, outcome_of, proceeds}
+use Rattle.ipc_model.proofs.Calls.{only_parkable_alive}
+use Rattle.ipc_model.proofs.Turning.{begins-not}
 use Rattle.ipc_model.specs.Plan.{Plan, decision, on_part, unless}
 use Rattle.ipc_perm.specs.Access.{Permission, denial}
 use Rattle.sem_set.specs.Trials.{are_in}
@@ -23,7 +26,7 @@ use Rattle.ipc_model.specs.Semaphores.{operate, operate_found, set_at, wanted_by
 use Rattle.ipc_model.specs.Gets.{get_queue}
 use Rattle.ipc_model.specs.Messages.{Send, queue_at, receive_message, send_found, send_message}
 use Rattle.ipc_model.specs.Decide as decisions
-use Rattle.ipc_model.specs.Decide.{OnSems, PartPlan, decide_alive as decide, part_plan, whole}
+use Rattle.ipc_model.specs.Decide.{OnSems, PartPlan, begins, decide_alive as decide, may_call, part_plan, whole}
 use Rattle.ipc_model.specs.Step.{end_waiting, ended_by, without}
 use Rattle.ipc_model.proofs.Plans.{Ends-decision, Ends-found, IfGranted, left-on, outcome-on}
 use Rattle.ipc_model.proofs.Alike.{proceeds-on}
@@ -210,9 +213,39 @@ ended-as s client (Refused rule) outcome is = let same : Err rule ≡ outcome = 
 ended-as s client Waits outcome is = absurd (none-some outcome is)
 ended-as s client (Granted answer new) outcome is = let same : Ok answer ≡ outcome = cc in ap (λ o. record { state = new; ended = record { client = client; outcome = o } ∷ [] }) same
 
--- of a client that hasn't ended
+pub not-over : (b : Bool) → not b ≡ false → b ≡ true
+not-over true is = refl
+not-over false is = absurd (true≢false is)
+
+-- of a client that may call
+pub called-decides : (s : State) (client : ℕ) (call : Call) → may_call s client call ≡ true → decisions.decide s client call ≡ decide s client call
+called-decides s client call may = ap (λ b. if b then decide s client call else Refused rules.Ended) may
+
+-- and so of one that hasn't ended
+pub alive-may : (s : State) (client : ℕ) (call : Call) → has_exited s client ≡ false → may_call s client call ≡ true
+alive-may s client call alive = ap (λ b. begins call || not b) alive ∙ either (begins call)
+  where
+    either : (b : Bool) → b || true ≡ true
+    either true = refl
+    either false = refl
+
 pub alive-decides : (s : State) (client : ℕ) (call : Call) → has_exited s client ≡ false → decisions.decide s client call ≡ decide s client call
-alive-decides s client call alive = ap (λ b. if not b then decide s client call else Refused rules.Ended) alive
+alive-decides s client call alive = called-decides s client call (alive-may s client call alive)
+
+-- a call that is made to wait is of one that hasn't
+pub waits-alive : (s : State) (client : ℕ) (call : Call) → may_call s client call ≡ true → outcome_of (decide s client call) ≡ None → has_exited s client ≡ false
+waits-alive s client call may waits =
+    let can = only_parkable_alive s client call (no-outcome (decide s client call) waits) in
+    un-not (has_exited s client) (sym (ap (λ b. b || not (has_exited s client)) (begins-not call can)) ∙ may)
+  where
+    no-outcome : (d : Decision State) → outcome_of d ≡ None → proceeds d ≡ false
+    no-outcome (Refused rule) is = cc
+    no-outcome Waits is = refl
+    no-outcome (Granted answer new) is = cc
+
+    un-not : (b : Bool) → not b ≡ true → b ≡ false
+    un-not true is = absurd (true≢false (sym is))
+    un-not false is = refl
 
 -- a waiting call that ends
 pub ends-so : (s new : State) (client : ℕ) (call : Call) (until : Option ℕ) (outcome : Outcome) → has_exited s client ≡ false → outcome_of (decide (without s client) client call) ≡ Some outcome

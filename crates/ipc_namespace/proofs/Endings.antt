@@ -84,6 +84,8 @@ module _ (s : State) (parked : List Waiting) where
   cancelled_as-alike (cancellings.Denied kind id) w = denied-alike (waits_on kind id w.call) w (λ on. waits-can kind id (waits_at w.call) on)
   cancelled_as-alike (cancellings.Removed kind id) w = refl
   cancelled_as-alike (cancellings.Interrupted pid) w = refl
+  cancelled_as-alike (cancellings.ThreadInterrupted client) w = refl
+  cancelled_as-alike (cancellings.Ended process) w = refl
 
   pub same_rule : (cancelling : Cancelling) → cancelled_as other cancelling ≡ cancelled_as s cancelling
   same_rule cancelling = λ i w. cancelled_as-alike cancelling w i
@@ -93,6 +95,8 @@ pub without-until : (s : State) (cancelling : Cancelling) (w : Waiting) → canc
 without-until s (cancellings.Denied kind id) w = refl
 without-until s (cancellings.Removed kind id) w = refl
 without-until s (cancellings.Interrupted pid) w = refl
+without-until s (cancellings.ThreadInterrupted client) w = refl
+without-until s (cancellings.Ended process) w = refl
 
 -- one turn of those that end by a rule: the first leaves, and what is left to end is the rest
 module _ (initial s : State) (f0 : Waiting → Option Rule) (rest : s ≡ record initial { parked = s.parked }) where

@@ -1,25 +1,25 @@
 -- The waiting calls whose deadline is reached, and a call that doesn't look at those that wait.
 use Rattle.std.proofs.Common.{◌≡◌, ℕ, ◌+◌, ◌≤◌, Bool, true, false, List, [], ◌∷◌, ◌++◌, cond, length, append_assoc, arith, length-append, refl, sym, ap, subst, ◌∙◌, Option, Some, None, Err}
-use Rattle.std.specs.Prelude.{◌==◌, is_none, is_some, option_map, IfSome}
+use Rattle.std.specs.Prelude.{◌==◌, nat_lt, is_none, is_some, option_map, IfSome}
 use Rattle.std.specs.List.{find, AllByRecursion}
 use Rattle.std.proofs.lemmas.Bool.{true≢false}
 use Rattle.std.proofs.lemmas.List.{append-nil}
 use Rattle.std.proofs.lemmas.List.Elements.{filter-append}
 use Rattle.std.proofs.lemmas.Option.{none-some, same_Some}
 use Rattle.ipc_call.specs.declared.calls.Call.{Call}
-use Rattle.ipc_call.specs.declared.calls.Call.TheVariants.{IpcStat, IpcSet, IpcRmid, Interrupt, GetNcnt, GetZcnt, SetCreds, Exit, Listing}
+use Rattle.ipc_call.specs.declared.calls.Call.TheVariants.{IpcStat, IpcSet, IpcRmid, Interrupt, InterruptThread, Kill, Exec, GetNcnt, GetZcnt, SetCreds, Assume, Begin, Fork, Clone, Name, Exit, Listing}
 use Rattle.ipc_call.specs.declared.calls.Kind.TheVariants as kinds
 use Rattle.ipc_call.specs.declared.replies.Waiting.{Waiting}
 use Rattle.ipc_call.specs.declared.replies.Answer.TheVariants.{Done}
 use Rattle.ipc_call.specs.declared.replies.Completion.{Completion}
 use Rattle.ipc_call.specs.declared.rules.Rule.{Rule}
-use Rattle.ipc_call.specs.declared.rules.Rule.TheVariants.{BadId, TimedOut}
+use Rattle.ipc_call.specs.declared.rules.Rule.TheVariants.{BadId, BadPid, ClientInUse, NoClient, TimedOut}
 use Rattle.ipc_model.specs.State.{State, caller, creds_at, is_running, process_at}
-use Rattle.ipc_model.specs.Plan.{IsPlain, Plan, decision, found, on_part, ◌⨾◌}
+use Rattle.ipc_model.specs.Plan.{IsPlain, Passes, Plan, decision, found, on_part, ◌⨾◌}
 use Rattle.ipc_model.specs.Plan as plans
 use Rattle.ipc_model.specs.Controls.{status_of}
 use Rattle.ipc_model.specs.Listings.{rows_to}
-use Rattle.ipc_model.specs.Processes.{ended, process_ended}
+use Rattle.ipc_model.specs.Processes.{ended, free_client, process_ended}
 use Rattle.ipc_model.specs.Decision.{Decision, Refused, Waits, Granted, outcome_of}
 use Rattle.ipc_model.specs.Decide.{OnQueues, OnSems, OnShared, OnState, PartPlan, decide_alive, is_late, is_reached, part_plan, plan_alive, unless_late, whole}
 use Rattle.ipc_model.specs.Cancelled.{cancelled}
@@ -117,6 +117,14 @@ module _ (s : State) (ws : List Waiting) where
   alone-alive client (IpcSet kind id uid gid mode qbytes) alone = absurd (true≢false alone)
   alone-alive client (IpcRmid kind id) alone = absurd (true≢false alone)
   alone-alive client (Interrupt pid) alone = absurd (true≢false alone)
+  alone-alive client (InterruptThread target) alone = absurd (true≢false alone)
+  alone-alive client (Kill pid) alone = absurd (true≢false alone)
+  alone-alive client Exec alone = absurd (true≢false alone)
+  alone-alive client (Assume creds) alone = refl
+  alone-alive client (Begin pid creds) alone = sym (on-found (with_list ws) (free_client s client) ClientInUse tt _)
+  alone-alive client (Fork child pid) alone = ap (λ p. Passes (nat_lt 0 pid) BadPid tt ⨾ Passes (nat_lt child (length s.threads)) NoClient tt ⨾ p) (sym (on-found (with_list ws) (free_client s child) ClientInUse tt _))
+  alone-alive client (Clone child) alone = ap (λ p. Passes (nat_lt child (length s.threads)) NoClient tt ⨾ p) (sym (on-found (with_list ws) (free_client s child) ClientInUse tt _))
+  alone-alive client (Name pid) alone = refl
   alone-alive client (IpcStat kinds.Queue id) alone = sym (on-found (with_list ws) (status_of s kinds.Queue id) BadId tt _)
   alone-alive client (IpcStat kinds.Sems id) alone = sym (on-found (with_list ws) (status_of s kinds.Sems id) BadId tt _)
   alone-alive client (IpcStat kinds.Segment id) alone = sym (on-found (with_list ws) (status_of s kinds.Segment id) BadId tt _)
@@ -145,6 +153,9 @@ pub alone-cancels : (call : Call) → is_on_waiting call ≡ false → (new : St
 alone-cancels (IpcSet kind id uid gid mode qbytes) alone new w = absurd (true≢false alone)
 alone-cancels (IpcRmid kind id) alone new w = absurd (true≢false alone)
 alone-cancels (Interrupt pid) alone new w = absurd (true≢false alone)
+alone-cancels (InterruptThread target) alone new w = absurd (true≢false alone)
+alone-cancels (Kill pid) alone new w = absurd (true≢false alone)
+alone-cancels Exec alone new w = absurd (true≢false alone)
 alone-cancels call alone new w = refl
 
 ended-append : (rule : Waiting → Option Rule) (vs ws : List Waiting) → ended_as rule (vs ++ ws) ≡ ended_as rule vs ++ ended_as rule ws

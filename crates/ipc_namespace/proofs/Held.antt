@@ -1,8 +1,8 @@
 -- What waiting calls have reserved of the sets, and that their clients haven't ended.
-use Rattle.std.proofs.Common.{◌≡◌, ℕ, ◌<◌, Bool, true, false, cond, get_or, set, List, [], ◌∷◌, ◌++◌, refl, sym, subst, Some, None}
-use Rattle.std.specs.Prelude.{◌==◌, filter, is_none, if◌then◌else◌}
+use Rattle.std.proofs.Common.{◌≡◌, ℕ, ◌<◌, Bool, true, false, cond, get_or, set, List, [], ◌∷◌, ◌++◌, map, refl, sym, ap, subst, ◌∙◌, Option, Some, None}
+use Rattle.std.specs.Prelude.{◌==◌, filter, is_none, is_some, if◌then◌else◌}
 use Rattle.std.specs.List.{find, list_any, AllByRecursion}
-use Rattle.std.proofs.lemmas.Bool.{eqb-false, or_parts}
+use Rattle.std.proofs.lemmas.Bool.{eqb-false, or_parts, true≢false}
 use Rattle.std.proofs.lemmas.List.{get_or-set_other}
 use Rattle.ipc_call.specs.declared.calls.Call.{Call}
 use Rattle.ipc_call.specs.declared.calls.Call.TheVariants.{SemOp}
@@ -11,8 +11,12 @@ use Rattle.ipc_call.specs.declared.calls.SemOper.{SemOper}
 use Rattle.ipc_call.specs.declared.replies.Waiting.{Waiting}
 use Rattle.ipc_call.specs.declared.rules.Rule.TheVariants.{Removed}
 use Rattle.ipc_model.specs.Cancelled.{waits_on}
-use Rattle.ipc_model.specs.State.{Thread, no_thread, runs}
-use Rattle.ipc_model.proofs.Apart.{none-runs}
+use Rattle.ipc_model.specs.State.{State, Thread, has_exited, no_thread, runs}
+use Rattle.ipc_model.specs.Processes.{ends, free_client, renamed}
+use Rattle.ipc_model.proofs.Living.{renamed-ended}
+use Rattle.ipc_model.proofs.Staying.{free-ended}
+use Rattle.ipc_model.proofs.Apart.{none-runs, renamed-process}
+use Rattle.ipc_namespace.proofs.Killing.{ends-other}
 use Rattle.sem_calls.specs.WithRows.{SetsWithRows, HasRow, row_at}
 use Rattle.ipc_namespace.specs.Namespace.{AreHeld, HasRowFor, kept_by}
 use Rattle.ipc_namespace.proofs.Parked.{all-filter, all-found, all-push}
@@ -113,3 +117,36 @@ pub free-others : (client : ℕ) (ws : List Waiting) → list_any (λ w. w.clien
 free-others client [] free = tt
 free-others client (w ∷ ws) free =
     let parts = or_parts (w.client == client) (list_any (λ v. v.client == client) ws) free in (eqb-false w.client client parts.0, free-others client ws parts.1)
+
+-- those that wait are of others than a client that has ended
+pub held-apart : (sets : SetsWithRows) (threads : List Thread) (client : ℕ) → (get_or threads client no_thread).has_ended ≡ true → (ws : List Waiting) → AreHeld sets threads ws → AllByRecursion (λ w. w.client ≡ client → ⊥) ws
+unfolding AreHeld
+held-apart sets threads client ended [] held = tt
+held-apart sets threads client ended (w ∷ ws) held =
+    (λ e. true≢false (sym ended ∙ sym (ap (λ (n : ℕ). (get_or threads n no_thread).has_ended) e) ∙ held.0.0), held-apart sets threads client ended ws held.1)
+
+pub some-ended : (s : State) (client : ℕ) (o : Option Thread) → free_client s client ≡ o → is_some o ≡ true → has_exited s client ≡ true
+some-ended s client None is some = absurd (true≢false (sym some))
+some-ended s client (Some t) is some = free-ended s client t is
+
+-- and each lives
+pub held-alive : (sets : SetsWithRows) (threads : List Thread) (ws : List Waiting) → AreHeld sets threads ws → AllByRecursion (λ w. (get_or threads w.client no_thread).has_ended ≡ false) ws
+unfolding AreHeld
+held-alive sets threads [] held = tt
+held-alive sets threads (w ∷ ws) held = (held.0.0, held-alive sets threads ws held.1)
+
+-- another pid changes nothing for those that wait
+pub held-renamed : (sets : SetsWithRows) (threads : List Thread) (process p : ℕ) (ws : List Waiting) → AreHeld sets threads ws → AreHeld sets (map (renamed process p) threads) ws
+unfolding AreHeld
+held-renamed sets threads process p [] held = tt
+held-renamed sets threads process p (w ∷ ws) held =
+    ((renamed-ended threads process p w.client ∙ held.0.0, subst (λ (k : ℕ). HasRowFor sets k w.call) (sym (renamed-process threads process p w.client)) held.0.1), held-renamed sets threads process p ws held.1)
+
+-- a process ends of which no call waits
+module _ (sets : SetsWithRows) (threads : List Thread) (process : ℕ) where
+  pub held-ended : (ws : List Waiting) → AllByRecursion (λ w. (get_or threads w.client no_thread).process ≡ process → ⊥) ws → AreHeld sets threads ws → AreHeld sets (map (ends process) threads) ws
+  unfolding AreHeld
+  held-ended [] apart held = tt
+  held-ended (w ∷ ws) apart held =
+      let same = ends-other threads process w.client apart.0 in
+      (subst (λ (t : Thread). (t.has_ended ≡ false) × HasRowFor sets t.process w.call) (sym same) held.0, held-ended ws apart.1 held.1)

@@ -2,6 +2,7 @@ pub mod Calling
 pub mod Endings
 pub mod Expiring
 pub mod Held
+pub mod Killing
 pub mod Leaving
 pub mod Moving
 pub mod Own
@@ -9,4 +10,5 @@ pub mod Parked
 pub mod Quiet
 pub mod Reserved
 pub mod Settling
-pub mod Threads
+pub mod Signalling
+pub mod Starting

@@ -3,10 +3,11 @@ use Rattle.std.proofs.Common.{◌≡◌, ℕ, ◌<◌, List, [], ◌∷◌, get_
 use Rattle.std.specs.List.{AllByRecursion}
 use Rattle.std.proofs.lemmas.List.{get_or_default}
 use Rattle.ipc_call.specs.declared.calls.Call.{Call}
+use Rattle.ipc_call.specs.declared.replies.Answer.{Answer}
 use Rattle.ipc_call.specs.declared.replies.Waiting.{Waiting}
 use Rattle.ipc_call.specs.declared.rules.Rule.{Rule}
 use Rattle.ipc_creds.specs.Credentials.{Credentials}
-use Rattle.ipc_model.specs.State.{State, creds_at, nobody}
+use Rattle.ipc_model.specs.State.{State, Thread, creds_at, no_thread, nobody}
 use Rattle.ipc_model.specs.Decision.{Decision, Granted, Refused, Waits, left_by, outcome_of}
 use Rattle.ipc_model.specs.Decide.{decide_alive as decide}
 use Rattle.ipc_model.specs.Cancelled.{cancelled}
@@ -61,6 +62,11 @@ pub creds-read : (v s : State) (client : ℕ) (c : Credentials) → v ≡ s → 
 creds-read v s client c is known read =
     read ∙ get_or_default v.clients client c nobody (subst (λ (t : State). client < length t.clients) (sym is) known) ∙ ap (λ (t : State). creds_at t client) is
 
+-- a client's thread as the code reads it
+pub thread-read : (v s : State) (client : ℕ) (t : Thread) → v ≡ s → client < length s.threads → t ≡ get_or v.threads client t → t ≡ get_or s.threads client no_thread
+thread-read v s client t is known read =
+    read ∙ get_or_default v.threads client t no_thread (subst (λ (x : State). client < length x.threads) (sym is) known) ∙ ap (λ (x : State). get_or x.threads client no_thread) is
+
 -- a call that is granted moves to what it leaves, but for the calls that it cancels
 pub granted-state : (s new : State) (client : ℕ) (call : Call) → without_answer (decide s client call) ≡ Some (Ok tt) → IfGranted (λ answer t. t ≡ new) (decide s client call)
     → (cancel new call).state ≡ (moved_by s client call).state
@@ -70,6 +76,24 @@ granted-state s new client call is = by (decide s client call) is
     by (Refused rule) is leaves = cc
     by Waits is leaves = cc
     by (Granted answer t) is leaves = ap (λ (t : State). (cancel t call).state) (sym leaves)
+
+pub granted-ended : (s new : State) (client : ℕ) (call : Call) → without_answer (decide s client call) ≡ Some (Ok tt) → IfGranted (λ answer t. t ≡ new) (decide s client call)
+    → (cancel new call).ended ≡ (moved_by s client call).ended
+granted-ended s new client call is = by (decide s client call) is
+  where
+    by : (d : Decision State) → without_answer d ≡ Some (Ok tt) → IfGranted (λ answer t. t ≡ new) d → (cancel new call).ended ≡ (cancelled_by (left_by s d) call d).ended
+    by (Refused rule) is leaves = cc
+    by Waits is leaves = cc
+    by (Granted answer t) is leaves = ap (λ (t : State). (cancel t call).ended) (sym leaves)
+
+-- and is answered so
+pub granted-outcome : (s : State) (client : ℕ) (call : Call) (answer : Answer) → without_answer (decide s client call) ≡ Some (Ok tt) → IfGranted (λ told t. told ≡ answer) (decide s client call) → outcome_of (decide s client call) ≡ Some (Ok answer)
+granted-outcome s client call answer is = by (decide s client call) is
+  where
+    by : (d : Decision State) → without_answer d ≡ Some (Ok tt) → IfGranted (λ told t. told ≡ answer) d → outcome_of d ≡ Some (Ok answer)
+    by (Refused rule) is told = cc
+    by Waits is told = cc
+    by (Granted other t) is told = ap (λ a. Some (Ok a)) told
 
 -- a call that is refused moves nothing
 module _ (s : State) (client : ℕ) (call : Call) (rule : Rule) (is : without_answer (decide s client call) ≡ Some (Err rule)) where

@@ -16,7 +16,8 @@ use Rattle.ipc_model.specs.Step.{Moved, end_waiting, ended_by, first_ready, is_r
 use Rattle.ipc_model.specs.Touched.{touches_place}
 use Rattle.ipc_model.proofs.Calls.{Keeps-decide, parked_alike}
 use Rattle.ipc_model.proofs.Growing.{Keeps}
-use Rattle.ipc_model.proofs.Turning.{event_quiet, living-others, turn_quiet}
+use Rattle.ipc_model.proofs.Living.{living-kept}
+use Rattle.ipc_model.proofs.Turning.{event_quiet, turn_quiet}
 use Rattle.ipc_parked.specs.declared.touched.Touched.{Touched}
 use Rattle.ipc_parked.specs.declared.touched.Touched.TheVariants.{Anything, Nothing, Object}
 use Rattle.ipc_parked.specs.Touched.{Covers, is_touched}
@@ -69,10 +70,13 @@ quiet-moved s client call touched covers none free granted = by (decide_call s c
         let so : decide s client call ≡ Granted answer new = early (is_late s call) (decide s client call) answer new is in
         let same : new.parked ≡ s.parked = (subst (λ (d : Decision State). Keeps s d) so (Keeps-decide s client call)).0 in
         let waits = found-none (is_ready s) s.parked none in
-        let quiet = covered s new client call touched covers s.parked waits (event_quiet s new client call answer so s.parked waits (living-others s new client call answer so s.parked waits (others-of client s.parked free))) in
-        let kept = filter (λ w. is_none (cancelled new call w)) new.parked in
-        quiet-alike (is_touched touched) new kept kept
-        (all-filter (λ w. is_touched touched w ≡ false → is_ready new w ≡ false) (λ w. is_none (cancelled new call w)) new.parked (subst (λ ws. AreQuietIn (is_touched touched) new ws) (sym same) quiet))
+        let stays : Waiting → Bool = λ w. is_none (cancelled new call w) in
+        let left = filter stays s.parked in
+        let left_waits = all-filter (λ w. is_ready s w ≡ false) stays s.parked waits in
+        let lives = living-kept s new client call answer so s.parked waits (others-of client s.parked free) in
+        let quiet = covered s new client call touched covers left left_waits (event_quiet s new client call answer so left left_waits lives) in
+        let kept = filter stays new.parked in
+        quiet-alike (is_touched touched) new kept kept (subst (λ ws. AreQuietIn (is_touched touched) new (filter stays ws)) (sym same) quiet)
 
 -- a waiting call ends that is the earliest that is ready
 module _ (s : State) (w : Waiting) (touched : Touched) (quiet : AreQuietBut (is_touched touched) s) where

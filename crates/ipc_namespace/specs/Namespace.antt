@@ -1,21 +1,23 @@
 -- What is true of the calls that wait, and what a granted call ends of them.
-use Rattle.std.specs.Prelude.{◌≡◌, ⊤, Ok, Err, Result, ℕ, ◌+◌, ◌<◌, ◌==◌, Bool, true, false, List, [], ◌∷◌, filter, flat_map, is_none, Option, Some, None, IfSome, IsSome, if◌then◌else◌, slice_index_or}
-use Rattle.std.specs.List.{AllByRecursion}
+use Rattle.std.specs.Prelude.{◌≡◌, ⊤, Ok, Err, Result, ℕ, ◌+◌, ◌<◌, ◌==◌, Bool, true, false, List, [], ◌∷◌, drop, filter, flat_map, map, suc, zero, is_none, Option, Some, None, IfSome, IsSome, if◌then◌else◌, slice_index_or}
+use Rattle.std.specs.List.{AllByRecursion, zip}
 use Rattle.ipc_call.specs.declared.replies.Waiting.{Waiting}
 use Rattle.ipc_call.specs.declared.calls.Call.{Call}
-use Rattle.ipc_call.specs.declared.calls.Call.TheVariants.{MsgSnd, MsgRcv, SemOp, SemGet, GetNcnt, GetZcnt, GetVal, GetPid, GetAll, SetVal, SetAll, ShmGet, ShmAt, ShmDt, ShmRead, ShmWrite, IpcSet, IpcRmid, Interrupt}
+use Rattle.ipc_call.specs.declared.calls.Call.TheVariants.{MsgSnd, MsgRcv, SemOp, SemGet, GetNcnt, GetZcnt, GetVal, GetPid, GetAll, SetVal, SetAll, ShmGet, ShmAt, ShmDt, ShmRead, ShmWrite, IpcSet, IpcRmid, Interrupt, InterruptThread, Kill, Exec}
 use Rattle.ipc_call.specs.declared.replies.Completion.{Completion}
 use Rattle.ipc_call.specs.declared.rules.Rule.{Rule}
-use Rattle.ipc_call.specs.declared.rules.Rule.TheVariants.{Removed, Interrupted}
+use Rattle.ipc_call.specs.declared.rules.Rule.TheVariants.{Ended, Removed, Interrupted}
 use Rattle.ipc_ids.specs.Table.{Table}
 use Rattle.ipc_objects.specs.declared.object.Object.{Object}
 use Rattle.msg_calls.specs.WithRoom.{QueueWithRoom, one_if, room}
 use Rattle.sem_calls.specs.WithRows.{SetsWithRows, HasRow}
 use Rattle.ipc_perm.specs.declared.access.Verdict.{Verdict}
 use Rattle.ipc_perm.specs.declared.access.Verdict.TheVariants.{Allowed, Denied}
-use Rattle.ipc_model.specs.State.{Sems, State, Thread, creds_at, no_thread, pid_at}
+use Rattle.ipc_model.specs.State.{Sems, State, Thread, creds_at, has_pid, no_thread, pid_at, process_at}
 use Rattle.ipc_model.specs.Semaphores.{set_at}
 use Rattle.sem_set.specs.Trials.{are_in}
+use Rattle.ipc_model.specs.Plan.{Check, Needs}
+use Rattle.ipc_perm.specs.Access.{SameUser}
 use Rattle.ipc_model.specs.Decide.{decide_alive, is_late, is_negative, is_zero, needs, unless_late}
 use Rattle.ipc_model.specs.Cancelled.{first_denial, waits_on}
 use Rattle.ipc_model.specs.Decision.{Decision, Outcome, left_by}
@@ -64,6 +66,9 @@ is_on_waiting (GetZcnt id num) = true
 is_on_waiting (IpcSet kind id uid gid mode qbytes) = true
 is_on_waiting (IpcRmid kind id) = true
 is_on_waiting (Interrupt pid) = true
+is_on_waiting (InterruptThread client) = true
+is_on_waiting (Kill pid) = true
+is_on_waiting Exec = true
 is_on_waiting call = false
 
 -- the operation waits for it at the semaphore of this number
@@ -122,6 +127,8 @@ cancelled_as s (cancellings.Denied kind id) w =
     if waits_on kind id w.call then first_denial (creds_at s w.client) (needs s w.client w.call) else None
 cancelled_as s (cancellings.Removed kind id) w = if waits_on kind id w.call then Some Removed else None
 cancelled_as s (cancellings.Interrupted pid) w = if pid == pid_at s w.client then Some Interrupted else None
+cancelled_as s (cancellings.ThreadInterrupted client) w = if client == w.client then Some Interrupted else None
+cancelled_as s (cancellings.Ended process) w = if process == process_at s w.client then Some Ended else None
 
 -- the call was granted
 abbrev pub is_grant : Option Outcome → Bool
@@ -147,3 +154,14 @@ IsReserved queues ws = (id : ℕ) → room queues id ≡ sends_on id ws
 -- no waiting call is ready but those that were touched
 abbrev pub AreQuietBut : (Waiting → Bool) → State → Type 0
 AreQuietBut touched s = AllByRecursion (λ w. touched w ≡ false → is_ready s w ≡ false) s.parked
+
+-- what is needed to signal a process of another pid, of its threads among the clients from this one on
+abbrev pub signals_from : State → ℕ → ℕ → List Check
+signals_from s pid n =
+    map (λ c. Needs (SameUser c.euid)) (map (λ t. t.0) (filter (λ t. has_pid pid t.1) (zip (drop n s.clients) (drop n s.threads))))
+
+-- a list of which so many, the first, are changed
+abbrev pub mapped : {A : Type 0} → (A → A) → ℕ → List A → List A
+mapped f zero xs = xs
+mapped f (suc n) [] = []
+mapped f (suc n) (x ∷ xs) = f x ∷ mapped f n xs

@@ -44,6 +44,10 @@ pub enum Cancelling {
     Removed(Kind, u32),
     /// Their client is a thread of the process of this pid, which is interrupted.
     Interrupted(u32),
+    /// They are of this client, whose thread is interrupted.
+    ThreadInterrupted(u32),
+    /// Their client is a thread of the process of this serial number, and ends.
+    Ended(u64),
 }
 
 impl Namespace {
@@ -84,9 +88,10 @@ impl Namespace {
                 id,
                 |client, call| self.cancelled(cancelling, client, call).is_some(),
             ),
-            Cancelling::Interrupted(_) => self.parked.earliest(|client, call| self
-                .cancelled(cancelling, client, call)
-                .is_some()),
+            Cancelling::Interrupted(_) | Cancelling::ThreadInterrupted(_) | Cancelling::Ended(_) =>
+                self.parked.earliest(|client, call| self
+                    .cancelled(cancelling, client, call)
+                    .is_some()),
         }
     }
 
@@ -100,6 +105,8 @@ impl Namespace {
             Cancelling::Denied(kind, id) if waits_on(kind, id, call) => self.denial(client, call),
             Cancelling::Removed(kind, id) if waits_on(kind, id, call) => Some(Rule::Removed),
             Cancelling::Interrupted(pid) if pid == self.pid_of(client) => Some(Rule::Interrupted),
+            Cancelling::ThreadInterrupted(target) if target == client => Some(Rule::Interrupted),
+            Cancelling::Ended(process) if process == self.process_of(client) => Some(Rule::Ended),
             _ => None,
         }
     }

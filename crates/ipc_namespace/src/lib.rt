@@ -2,6 +2,8 @@
 //! refused, granted or made to wait, and the waiting calls end that it lets go on or ends.
 #![tactic(auto)]
 
+mod becoming;
+mod beginning;
 mod callers;
 mod cancelling;
 mod control_calls;
@@ -13,5 +15,7 @@ mod process_calls;
 mod reserving;
 mod segment_calls;
 mod semaphore_calls;
+mod signals;
+mod threads;
 
 pub use namespace::Namespace;

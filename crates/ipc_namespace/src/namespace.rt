@@ -1,12 +1,13 @@
 // The state of a namespace, and how one event changes it.
 
-ghost use Rattle.std.specs.Prelude.{◌≡◌, ◌+◌, ◌<◌, ◌≤◌, true, false, [], ◌∷◌, ◌++◌, length, vec_len, vec_capacity, IsTrue, IfOk, IfSome, IfNone, IsSome, OnOk, OnErr, Err, is_some, option_map, Some, None};
+ghost use Rattle.std.specs.Prelude.{◌≡◌, ◌+◌, ◌<◌, ◌≤◌, ℕ, true, false, not, [], ◌∷◌, ◌++◌, length, vec_len, vec_capacity, IsTrue, IfOk, IfSome, IfNone, IsSome, OnOk, OnErr, Err, is_some, option_map, Some, None};
 ghost use Rattle.ipc_call.specs.Limits.{are_in_range};
-ghost use Rattle.ipc_model.specs.State.{first_threads as threads_from, opening, has_exited as exited_before, is_waiting as waits, waiting_of};
+ghost use Rattle.ipc_model.specs.State.{opening, has_exited as exited_before, is_waiting as waits, waiting_of};
 ghost use Rattle.ipc_model.specs.Decision.{left_by, outcome_of};
-ghost use Rattle.ipc_model.specs.Decide.{decide_alive as decision_alive, decide_call as decision_made, deadline_of, is_reached, waits_as, waits_at};
+ghost use Rattle.ipc_model.specs.Decide.{begins as call_begins, decide_alive as decision_alive, decide_call as decision_made, deadline_of, is_reached, may_call, waits_as, waits_at};
 ghost use Rattle.std.specs.List.{AllByRecursion, find};
 ghost use Rattle.ipc_parked.specs.Parked.{AreApart};
+ghost use Rattle.shm_seg.specs.Attachments.{attachment_at};
 ghost use Rattle.ipc_parked.specs.Touched.{Covers, is_touched};
 ghost use Rattle.ipc_parked.specs.declared.touched.Touched.{Touched as AnyTouched};
 ghost use Rattle.ipc_model.specs.Step.{Moved as MovedTo, after, expire, is_ready, first_ready as first_that_is_ready, end_waiting, enter as enters, moved_by, settled, step, without};
@@ -16,6 +17,7 @@ ghost use Rattle.ipc_model.specs.Decision.{without_answer};
 use crate::callers::caller_of;
 use crate::reserving::{release_in, reserve_in, reserve_row, sent_to};
 use crate::semaphore_calls::Awaited;
+use crate::threads::first_threads;
 use ipc_call::{
     Answer, Call, Completion, Get, Limits, Memory, Outcome, Receive, Rule, Sending, Settings,
     Thread,
@@ -25,7 +27,6 @@ use ipc_parked::{Arrival, Parked, Touched};
 use msg_calls::Queues;
 use sem_calls::Sets;
 use shm_calls::Segments;
-use std::alloc::Global;
 use std::marker::Model;
 
 /// The state of a namespace: its objects, its clients, its clock in seconds, and the calls that wait
@@ -35,6 +36,8 @@ pub struct Namespace {
     pub(super) limits: Limits,
     pub(super) clients: Vec<Creds>,
     pub(super) threads: Vec<Thread>,
+    /// The serial number of the process that comes next.
+    pub(super) next: u64,
     pub(super) clock: u64,
     pub(super) queues: Queues,
     pub(super) sets: Sets,
@@ -60,6 +63,7 @@ impl Model for Namespace {
       limits = n.limits;
       clients = n.clients.items;
       threads = n.threads.items;
+      next = n.next;
       clock = n.clock;
       queues = queues_of n.queues;
       sems = sems_of n.sets;
@@ -79,10 +83,12 @@ impl Namespace {
     {
         let alloc = *clients.allocator();
         let threads = first_threads(alloc, clients.as_slice())?;
+        let next = clients.len() as u64;
         Ok(Namespace {
             limits,
             clients,
             threads,
+            next,
             clock: 0,
             queues: Queues::new(alloc, limits.slots, limits.first_seq),
             sets: Sets::new(alloc, limits.slots, limits.first_seq),
@@ -136,6 +142,7 @@ impl Namespace {
         ended: &mut Vec<Completion>,
     ) -> Result<Option<Outcome>, Memory>
         requires known { client < length self.old.clients }
+        requires fresh { (number : ℕ) → attachment_at self.old.shared.attached self.old.next number ≡ None }
         requires free { waits self.old client ≡ false }
         requires quiet { AllByRecursion (λ w. is_ready self.old w ≡ false) self.old.parked }
         requires empty { ended.old.items ≡ [] }
@@ -168,6 +175,7 @@ impl Namespace {
         ended: &mut Vec<Completion>,
     ) -> Result<Option<Outcome>, Memory>
         requires known { client < length self.old.clients }
+        requires fresh { (number : ℕ) → attachment_at self.old.shared.attached self.old.next number ≡ None }
         requires free { waits self.old client ≡ false }
         requires quiet { first_that_is_ready self.old ≡ None }
         requires empty { ended.old.items ≡ [] }
@@ -196,6 +204,7 @@ impl Namespace {
         ended: &mut Vec<Completion>,
     ) -> Result<Option<Outcome>, Memory>
         requires known { client < length self.old.clients }
+        requires fresh { (number : ℕ) → attachment_at self.old.shared.attached self.old.next number ≡ None }
         requires free { waits self.old client ≡ false }
         requires empty { ended.old.items ≡ [] }
         requires space { length self.old.parked < vec_capacity ended.old }
@@ -208,7 +217,7 @@ impl Namespace {
         ensures err { OnErr result (self.new ≡ self.old) }
         ensures none { OnErr result (ended.new.items ≡ []) }
     {
-        if self.has_exited(client) {
+        if self.is_over(client, call) {
             self.expire(ended);
             return Ok(Some(Err(Rule::Ended)));
         }
@@ -221,7 +230,15 @@ impl Namespace {
         Ok(own)
     }
 
-    /// Serves a call that ends no waiting call and doesn't look at them, of a client that hasn't ended.
+    /// Whether the client's thread has ended, and the call isn't one by which it begins anew.
+    #[inline(always)]
+    fn is_over(&self, client: u32, call: &Call) -> bool
+        ensures { result ≡ not (may_call self.now client call.now) }
+    {
+        self.has_exited(client) && !begins(call)
+    }
+
+    /// Serves a call that ends no waiting call and doesn't look at them, of a client that may call.
     #[inline(always)]
     fn carry_out_alone(
         &mut self,
@@ -230,8 +247,9 @@ impl Namespace {
         call: &Call,
     ) -> Result<Option<Outcome>, Memory>
         requires known { client < length self.old.clients }
+        requires fresh { (number : ℕ) → attachment_at self.old.shared.attached self.old.next number ≡ None }
         requires free { waits self.old client ≡ false }
-        requires alive { exited_before self.old client ≡ false }
+        requires may { may_call self.old client call.now ≡ true }
         requires alone { is_on_waiting_by call.now ≡ false }
         ensures own { IfOk result (λ own. own ≡ outcome_of (decide_made self.old client call.now)) }
         ensures state { OnOk result (self.new ≡ left_made self.old client call.now) }
@@ -272,6 +290,7 @@ impl Namespace {
     #[inline(never)]
     fn serve_on_waiting(&mut self, client: u32, call: &Call, ended: &mut Vec<Completion>) -> Outcome
         requires known { client < length self.old.clients }
+        requires free { waits self.old client ≡ false }
         requires on_waiting { is_on_waiting_by call.now ≡ true }
         requires space { vec_len ended.old + length self.old.parked ≤ vec_capacity ended.old }
         ensures own { outcome_of (decision_alive self.old client call.now) ≡ Some result }
@@ -301,6 +320,11 @@ impl Namespace {
             }
             Call::IpcRmid { kind, id } => self.remove(client, *kind, *id, ended),
             Call::Interrupt { pid } => self.interrupt(client, *pid, ended),
+            Call::InterruptThread { client: target } => {
+                self.interrupt_thread(client, *target, ended)
+            }
+            Call::Kill { pid } => self.kill(client, *pid, ended),
+            Call::Exec => self.exec(client, ended),
             _ => unreachable!(),
         }
     }
@@ -310,8 +334,8 @@ impl Namespace {
     #[inline(always)]
     fn grant_or_refuse(&mut self, client: u32, call: &Call) -> Result<Option<Outcome>, Memory>
         requires known { client < length self.old.clients }
+        requires fresh { (number : ℕ) → attachment_at self.old.shared.attached self.old.next number ≡ None }
         requires free { waits self.old client ≡ false }
-        requires alive { exited_before self.old client ≡ false }
         requires alone { is_on_waiting_by call.now ≡ false }
         ensures own { IfOk result (λ own. own ≡ outcome_of (decision_alive self.old client call.now)) }
         ensures state { OnOk result (self.new ≡ left_by self.old (decision_alive self.old client call.now)) }
@@ -347,6 +371,7 @@ impl Namespace {
     /// an allocation fails, and then nothing has changed.
     fn answer(&mut self, client: u32, call: &Call) -> Result<Option<Outcome>, Memory>
         requires known { client < length self.old.clients }
+        requires fresh { (number : ℕ) → attachment_at self.old.shared.attached self.old.next number ≡ None }
         requires free { waits self.old client ≡ false }
         requires alone { is_on_waiting_by call.now ≡ false }
         requires at_once { waits_at call.now ≡ None }
@@ -378,6 +403,11 @@ impl Namespace {
             Call::SetCreds { euid, egid, groups } => {
                 self.set_creds(client, *euid, *egid, groups)
             }
+            Call::Assume { creds } => self.assume(client, creds),
+            Call::Begin { pid, creds } => self.begin(client, *pid, creds),
+            Call::Fork { child, pid } => self.fork(client, *child, *pid),
+            Call::Clone { child } => self.clone(client, *child),
+            Call::Name { pid } => Ok(self.name(client, *pid)),
             Call::Exit => Ok(self.exit(client)),
             _ => unreachable!(),
         }?;
@@ -601,7 +631,17 @@ fn is_on_waiting(call: &Call) -> bool
             | Call::IpcSet { .. }
             | Call::IpcRmid { .. }
             | Call::Interrupt { .. }
+            | Call::InterruptThread { .. }
+            | Call::Kill { .. }
+            | Call::Exec
     )
+}
+
+/// Whether it is a call by which a client begins whose thread has ended.
+fn begins(call: &Call) -> bool
+    ensures { result ≡ call_begins call.now }
+{
+    matches!(call, Call::Begin { .. })
 }
 
 /// As what a call waits.
@@ -632,20 +672,4 @@ fn is_granted(own: &Option<Outcome>) -> bool
     ensures { result ≡ is_grant own.now }
 {
     matches!(own, Some(Ok(_)))
-}
-
-/// Each client as the only thread of a process of its own. Memory (ENOMEM) comes where an allocation fails.
-fn first_threads(alloc: Global, clients: &[Creds]) -> Result<Vec<Thread>, Memory>
-    requires few { length clients.now ≤ 64 }
-    ensures { IfOk result (λ threads. threads.items ≡ threads_from 0 clients.now) }
-{
-    let mut threads = Vec::with_capacity(alloc, clients.len())?;
-    for client in 0..clients.len() {
-        threads.push(Thread {
-            process: client as u64,
-            pid: client as u32 + 1,
-            has_ended: false,
-        })?;
-    }
-    Ok(threads)
 }

@@ -3,7 +3,7 @@ use Rattle.std.proofs.Common.{◌≡◌, ℕ, zero, suc, ℤ, Bool, true, false,
 use Rattle.std.specs.Prelude.{filter, map, option_map, slice_get, unwrap_or}
 use Rattle.std.proofs.lemmas.Bool.{cases_Bool, false≢true}
 use Rattle.ipc_call.specs.declared.calls.Call.{Call}
-use Rattle.ipc_call.specs.declared.calls.Call.TheVariants.{MsgGet, MsgSnd, MsgRcv, SemGet, SemOp, SemTimedOp, SetVal, SetAll, IpcSet, IpcRmid, Exit}
+use Rattle.ipc_call.specs.declared.calls.Call.TheVariants.{MsgGet, MsgSnd, MsgRcv, SemGet, SemOp, SemTimedOp, SetVal, SetAll, IpcSet, IpcRmid, Exit, Kill}
 use Rattle.ipc_call.specs.declared.calls.Kind.{Kind}
 use Rattle.ipc_call.specs.declared.calls.SemOper.{SemOper}
 use Rattle.ipc_call.specs.declared.replies.Waiting.{Waiting}
@@ -67,16 +67,18 @@ pub touches-nothing : (call : Call)
     → ((kind : Kind) (id uid gid mode : ℕ) (qbytes : Option ℕ) → call ≡ IpcSet kind id uid gid mode qbytes → ⊥)
     → ((kind : Kind) (id : ℕ) → call ≡ IpcRmid kind id → ⊥)
     → (call ≡ Exit → ⊥)
+    → ((pid : ℕ) → call ≡ Kill pid → ⊥)
     → (s : State) (client : ℕ) (w : Waiting) → is_ready s w ≡ false → touches_place s client call w ≡ true → ⊥
-touches-nothing (MsgSnd id mtype text flags) sends receives operates timed sets sets_all puts removes exits s client w waits on = sends id mtype text flags refl
-touches-nothing (MsgRcv id size msgtyp flags) sends receives operates timed sets sets_all puts removes exits s client w waits on = receives id size msgtyp flags refl
-touches-nothing (SemOp id ops) sends receives operates timed sets sets_all puts removes exits s client w waits on = operates id ops refl
-touches-nothing (SemTimedOp id ops timeout) sends receives operates timed sets sets_all puts removes exits s client w waits on = timed id ops timeout refl
-touches-nothing (SetVal id num value) sends receives operates timed sets sets_all puts removes exits s client w waits on = sets id num value refl
-touches-nothing (SetAll id values) sends receives operates timed sets sets_all puts removes exits s client w waits on = sets_all id values refl
-touches-nothing (IpcSet kind id uid gid mode qbytes) sends receives operates timed sets sets_all puts removes exits s client w waits on = puts kind id uid gid mode qbytes refl
-touches-nothing (IpcRmid kind id) sends receives operates timed sets sets_all puts removes exits s client w waits on = removes kind id refl
-touches-nothing Exit sends receives operates timed sets sets_all puts removes exits s client w waits on = exits refl
-touches-nothing (MsgGet key flags) sends receives operates timed sets sets_all puts removes exits s client w waits on = false≢true (sym (msgget-touches s w waits client key flags) ∙ on)
-touches-nothing (SemGet key nsems flags) sends receives operates timed sets sets_all puts removes exits s client w waits on = false≢true (sym (semget-touches s w waits client key nsems flags) ∙ on)
-touches-nothing call sends receives operates timed sets sets_all puts removes exits s client w waits on = nowhere (waits_at w.call) on
+touches-nothing (MsgSnd id mtype text flags) sends receives operates timed sets sets_all puts removes exits kills s client w waits on = sends id mtype text flags refl
+touches-nothing (MsgRcv id size msgtyp flags) sends receives operates timed sets sets_all puts removes exits kills s client w waits on = receives id size msgtyp flags refl
+touches-nothing (SemOp id ops) sends receives operates timed sets sets_all puts removes exits kills s client w waits on = operates id ops refl
+touches-nothing (SemTimedOp id ops timeout) sends receives operates timed sets sets_all puts removes exits kills s client w waits on = timed id ops timeout refl
+touches-nothing (SetVal id num value) sends receives operates timed sets sets_all puts removes exits kills s client w waits on = sets id num value refl
+touches-nothing (SetAll id values) sends receives operates timed sets sets_all puts removes exits kills s client w waits on = sets_all id values refl
+touches-nothing (IpcSet kind id uid gid mode qbytes) sends receives operates timed sets sets_all puts removes exits kills s client w waits on = puts kind id uid gid mode qbytes refl
+touches-nothing (IpcRmid kind id) sends receives operates timed sets sets_all puts removes exits kills s client w waits on = removes kind id refl
+touches-nothing Exit sends receives operates timed sets sets_all puts removes exits kills s client w waits on = exits refl
+touches-nothing (Kill pid) sends receives operates timed sets sets_all puts removes exits kills s client w waits on = kills pid refl
+touches-nothing (MsgGet key flags) sends receives operates timed sets sets_all puts removes exits kills s client w waits on = false≢true (sym (msgget-touches s w waits client key flags) ∙ on)
+touches-nothing (SemGet key nsems flags) sends receives operates timed sets sets_all puts removes exits kills s client w waits on = false≢true (sym (semget-touches s w waits client key nsems flags) ∙ on)
+touches-nothing call sends receives operates timed sets sets_all puts removes exits kills s client w waits on = nowhere (waits_at w.call) on

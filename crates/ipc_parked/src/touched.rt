@@ -20,7 +20,8 @@ pub enum Touched {
 }
 
 impl Touched {
-    /// What the grant of the call touches. Of exit, which may undo something on many sets, it isn't found out on which.
+    /// What the grant of the call touches. Of exit and kill, which may undo something on
+    /// many sets, it isn't found out on which.
     pub fn by(call: &Call) -> Touched
         ensures { Covers call.now result }
     {
@@ -40,7 +41,7 @@ impl Touched {
                 kind: *kind,
                 id: *id,
             },
-            Call::Exit => Touched::Anything,
+            Call::Exit | Call::Kill { .. } => Touched::Anything,
             _ => Touched::Nothing,
         }
     }

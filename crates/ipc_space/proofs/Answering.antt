@@ -1,7 +1,7 @@
 -- Each call ends with an answer of its own, and only one that may wait is made to wait.
 use Rattle.std.proofs.Common.{◌≡◌, ℕ, zero, suc, Bool, true, false, List, [], ◌∷◌, ◌++◌, length, refl, sym, ap, ◌∙◌, subst, Option, Some, None, Ok, Err, ⊎_elim, All, ℤ}
-use Rattle.std.specs.Prelude.{if◌then◌else◌, ◌==◌, ◌&&◌, ◌||◌, not, filter, flat_map, is_none, is_some, option_map}
-use Rattle.std.specs.List.{list_any, AllByRecursion}
+use Rattle.std.specs.Prelude.{if◌then◌else◌, ◌==◌, ◌&&◌, ◌||◌, not, filter, flat_map, is_none, is_some, option_map, slice_get}
+use Rattle.std.specs.List.{find, list_any, AllByRecursion}
 use Rattle.std.specs.FinMap as finite
 use Rattle.std.proofs.lemmas.Bool.{cases_Bool, eq-eqb, or_parts, true≢false}
 use Rattle.std.proofs.lemmas.List.Elements.{All-nil, All-cons}
@@ -9,7 +9,7 @@ use Rattle.std.proofs.lemmas.Option.{none-some, same_Some}
 use Rattle.ipc_objects.specs.Objects.{with_contents}
 use Rattle.ipc_call.specs.declared.settings.Receive.{Receive}
 use Rattle.ipc_call.specs.declared.calls.Call.{Call}
-use Rattle.ipc_call.specs.declared.calls.Call.TheVariants.{MsgGet, MsgSnd, MsgRcv, SemGet, SemOp, SemTimedOp, GetVal, GetPid, GetNcnt, GetZcnt, GetAll, SetVal, SetAll, ShmGet, ShmAt, ShmDt, ShmRead, ShmWrite, Exit, IpcStat, IpcSet, IpcRmid, Listing, Interrupt, SetCreds}
+use Rattle.ipc_call.specs.declared.calls.Call.TheVariants.{MsgGet, MsgSnd, MsgRcv, SemGet, SemOp, SemTimedOp, GetVal, GetPid, GetNcnt, GetZcnt, GetAll, SetVal, SetAll, ShmGet, ShmAt, ShmDt, ShmRead, ShmWrite, Exit, IpcStat, IpcSet, IpcRmid, Listing, Interrupt, InterruptThread, Kill, SetCreds, Assume, Begin, Fork, Clone, Name, Exec}
 use Rattle.ipc_call.specs.declared.calls.Kind.{Kind}
 use Rattle.ipc_call.specs.declared.calls.Kind.TheVariants as kinds
 use Rattle.ipc_call.specs.declared.replies.Answer.{Answer}
@@ -18,23 +18,23 @@ use Rattle.ipc_call.specs.declared.replies.Completion.{Completion}
 use Rattle.ipc_call.specs.declared.replies.Status.{Status}
 use Rattle.ipc_call.specs.declared.replies.Waiting.{Waiting}
 use Rattle.ipc_call.specs.declared.rules.Rule.{Rule}
-use Rattle.ipc_call.specs.declared.rules.Rule.TheVariants.{BadId, NoProcess, NoSlot, NotAttached, TooManyAttached}
+use Rattle.ipc_call.specs.declared.rules.Rule.TheVariants.{BadId, ClientInUse, NoClient, NoProcess, NoSlot, NotAttached, TooManyAttached}
 use Rattle.ipc_call.specs.declared.perms.Perm.{Perm}
 use Rattle.ipc_ids.specs.Table.{Table, next_id}
 use Rattle.ipc_objects.specs.declared.object.Object.{Object}
 use Rattle.msg_queue.specs.declared.messages.Message.{Message}
 use Rattle.shm_seg.specs.Attachments.{attachment_at, free_number}
 use Rattle.sem_undo.specs.Entries.{adj_of}
-use Rattle.ipc_model.specs.State.{Caller, Queue, Queues, SemSet, Sems, Shared, State, caller, creds_at, pid_at, process_at}
+use Rattle.ipc_model.specs.State.{Caller, Queue, Queues, SemSet, Sems, Shared, State, Thread, caller, creds_at, has_pid, pid_at, process_at}
 use Rattle.ipc_model.specs.Decision.{Decision, Outcome, Refused, Waits, Granted, outcome_of, proceeds}
 use Rattle.ipc_model.specs.Plan.{Needs, Plan, on_part}
 use Rattle.ipc_model.specs.Plan as plans
-use Rattle.ipc_perm.specs.Access.{Resource, SetGroups}
+use Rattle.ipc_perm.specs.Access.{Resource, SameUser, SetGroups}
 use Rattle.ipc_model.specs.Gets.{Getting, get, get_found, get_queue, get_segment, get_set, getting_queue, getting_segment, getting_set, object_of_key, Get}
 use Rattle.ipc_model.specs.Messages.{chosen, queue_at, receive_message, send_message, take_chosen}
 use Rattle.ipc_model.specs.Semaphores.{get_all, get_pid, get_value, operate, operated, set_all, set_at, set_value, trial_checks}
 use Rattle.ipc_model.specs.Segments.{attach, behind, detach, read_bytes, segment_at, write_bytes}
-use Rattle.ipc_model.specs.Processes.{process}
+use Rattle.ipc_model.specs.Processes.{free_client, to_signal}
 use Rattle.ipc_model.specs.Controls.{is_within, perm_of, status_of, with_set}
 use Rattle.ipc_model.specs.Decide.{OnQueues, OnSems, OnShared, can_wait, decide, decide_call, is_late, get_waiting, is_negative, is_zero, part_plan, plan, whole}
 use Rattle.ipc_model.specs.Cancelled.{cancelled}
@@ -143,9 +143,18 @@ gives-plan s client (IpcSet kind id uid gid mode qbytes) =
     Ends-found (Gives call) (perm_of s kind id) BadId tt _ (λ perm is. Ends-order (Gives call) (if is_within s qbytes then [] else plans.Needs Resource ∷ []) (plans.Grant Done new) refl)
 gives-plan s client (IpcRmid kind id) = Ends-found (Gives (IpcRmid kind id)) (perm_of s kind id) BadId tt _ (λ perm is. refl)
 gives-plan s client (Listing kind) = refl
-gives-plan s client (Interrupt pid) = Ends-found (Gives (Interrupt pid)) (process s pid) NoProcess tt _ (λ target is. refl)
+gives-plan s client (Interrupt pid) = Ends-order (Gives (Interrupt pid)) (to_signal s (caller s client) pid) (plans.Grant Done s) refl
+gives-plan s client (InterruptThread target) = Ends-found (Gives (InterruptThread target)) (slice_get s.threads target) NoClient tt _ (λ (thread : Thread) is.
+    Ends-order (Gives (InterruptThread target)) (if thread.pid == pid_at s client then [] else plans.Needs (SameUser (creds_at s target).euid) ∷ []) (plans.Grant Done s) refl)
+gives-plan s client (Kill pid) = Ends-found (Gives (Kill pid)) (find (has_pid pid) s.threads) NoProcess tt _ (λ thread is. Ends-order (Gives (Kill pid)) (to_signal s (caller s client) pid) _ refl)
 gives-plan s client (SetCreds euid egid groups) =
     Ends-order (Gives (SetCreds euid egid groups)) (if is_some groups then plans.Needs SetGroups ∷ [] else []) _ refl
+gives-plan s client (Assume creds) = refl
+gives-plan s client (Begin pid creds) = Ends-found (Gives (Begin pid creds)) (free_client s client) ClientInUse tt _ (λ thread is. refl)
+gives-plan s client (Fork child pid) = Ends-found (Gives (Fork child pid)) (free_client s child) ClientInUse tt _ (λ thread is. refl)
+gives-plan s client (Clone child) = Ends-found (Gives (Clone child)) (free_client s child) ClientInUse tt _ (λ thread is. refl)
+gives-plan s client (Name pid) = refl
+gives-plan s client Exec = refl
 gives-plan s client Exit = refl
 
 gives-decide : (s : State) (client : ℕ) (call : Call) → IfGranted (Gives call) (decide s client call)

@@ -1,6 +1,6 @@
 -- After every event no waiting call is ready, each has the rights that it needs, and every marked segment has an attachment.
 use Rattle.std.proofs.Common.{◌≡◌, ℕ, Bool, true, false, List, [], ◌∷◌, length, refl, sym, ap, ◌∙◌, cond, Option, Some, None}
-use Rattle.std.specs.Prelude.{not, pos, int_le, nat_le, nat_lt, option_map}
+use Rattle.std.specs.Prelude.{pos, int_le, nat_le, nat_lt, option_map}
 use Rattle.std.specs.List.{AllByRecursion}
 use Rattle.std.proofs.lemmas.Bool.{true≢false}
 use Rattle.ipc_call.specs.declared.settings.Receive.{Receive}
@@ -12,7 +12,7 @@ use Rattle.ipc_call.specs.declared.rules.Rule.{Rule}
 use Rattle.ipc_call.specs.declared.rules.Rule.TheVariants.{BadType, Ended, NoOperations, TextTooLong, TooManyOperations}
 use Rattle.ipc_creds.specs.Credentials.{Credentials}
 use Rattle.ipc_perm.specs.Access.{Permission, denial, to_alter, to_read}
-use Rattle.ipc_model.specs.State.{Caller, Queue, Queues, SemSet, Sems, State, caller, creds_at, has_exited}
+use Rattle.ipc_model.specs.State.{Caller, Queue, Queues, SemSet, Sems, State, caller, creds_at}
 use Rattle.ipc_model.specs.Decision.{Decision, Refused, proceeds}
 use Rattle.ipc_model.specs.Plan.{decision, unless}
 use Rattle.ipc_model.specs.Messages.{queue_at, receive_found, receive_message, send_found, send_message, Send}
@@ -20,7 +20,7 @@ use Rattle.ipc_model.specs.Semaphores.{operate, operate_found, set_at, wanted_by
 use Rattle.ipc_objects.specs.declared.object.Object.{Object}
 use Rattle.ipc_model.proofs.Alike.{proceeds-on}
 use Rattle.ipc_model.proofs.Needs.{needs_for, operator-needs, receiver-needs, sender-needs, timed-needs}
-use Rattle.ipc_model.specs.Decide.{can_wait, decide, decide_alive, needs, part_plan}
+use Rattle.ipc_model.specs.Decide.{can_wait, decide, decide_alive, may_call, needs, part_plan}
 use Rattle.ipc_model.specs.Cancelled.{first_denial, or_later}
 use Rattle.ipc_history.specs.History.{History, run}
 use Rattle.ipc_model.specs.Step.{is_ready}
@@ -97,7 +97,7 @@ permitted-alive s client (SemTimedOp id ops timeout) can waits =
 permitted-alive s client call can waits = absurd (true≢false (sym can))
 
 permitted : (s : State) (client : ℕ) (call : Call) → can_wait call ≡ true → proceeds (decide s client call) ≡ false → first_denial (creds_at s client) (needs s client call) ≡ None
-permitted s client call can waits = permitted-alive s client call can (passes-waits (not (has_exited s client)) Ended (decide_alive s client call) waits)
+permitted s client call can waits = permitted-alive s client call can (passes-waits (may_call s client call) Ended (decide_alive s client call) waits)
 
 not_ready : (s : State) → IsQuiet s → AreNotReady s
 not_ready s quiet = found-none (is_ready s) s.parked quiet

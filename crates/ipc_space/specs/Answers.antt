@@ -3,7 +3,8 @@ use Rattle.std.specs.Prelude.{◌==◌, Bool, true, false, ◌&&◌, List, Ok, E
 use Rattle.std.specs.List.{list_any}
 use Rattle.ipc_call.specs.declared.calls.Call.{Call}
 use Rattle.ipc_call.specs.declared.calls.Call.TheVariants.{MsgGet, MsgSnd, MsgRcv, SemGet, SemOp, SemTimedOp, GetVal, GetPid, GetNcnt, GetZcnt, GetAll}
-use Rattle.ipc_call.specs.declared.calls.Call.TheVariants.{SetVal, SetAll, ShmGet, ShmAt, ShmDt, ShmRead, ShmWrite, IpcStat, IpcSet, IpcRmid, Listing, Interrupt, SetCreds, Exit}
+use Rattle.ipc_call.specs.declared.calls.Call.TheVariants.{SetVal, SetAll, ShmGet, ShmAt, ShmDt, ShmRead, ShmWrite, IpcStat, IpcSet, IpcRmid, Listing, Interrupt, InterruptThread, Kill}
+use Rattle.ipc_call.specs.declared.calls.Call.TheVariants.{SetCreds, Assume, Begin, Fork, Clone, Name, Exec, Exit}
 use Rattle.ipc_call.specs.declared.calls.Kind.{Kind}
 use Rattle.ipc_call.specs.declared.calls.Kind.TheVariants as kinds
 use Rattle.ipc_call.specs.declared.replies.Answer.{Answer}
@@ -46,7 +47,15 @@ can_give (IpcSet kind id uid gid mode qbytes) Done = true
 can_give (IpcRmid kind id) Done = true
 can_give (Listing kind) (Rows rows) = true
 can_give (Interrupt pid) Done = true
+can_give (InterruptThread client) Done = true
+can_give (Kill pid) Done = true
 can_give (SetCreds euid egid groups) Done = true
+can_give (Assume creds) Done = true
+can_give (Begin pid creds) Done = true
+can_give (Fork child pid) Done = true
+can_give (Clone child) Done = true
+can_give (Name pid) Done = true
+can_give Exec Done = true
 can_give Exit Done = true
 can_give call answer = false
 

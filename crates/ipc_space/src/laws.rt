@@ -19,7 +19,10 @@ ghost use Rattle.ipc_history.specs.Made.{made};
 ghost use Rattle.ipc_model.specs.Segments.{AreAttached};
 ghost use Rattle.ipc_history.specs.Waits.{AreNotReady, ArePermitted, WaitOnce};
 
-pub use ipc_laws::{settling_reads_deadlines, two_worlds, waiting_calls_are_in_time};
+pub use ipc_laws::{
+    new_processes_are_fresh, processes_are_tidy, settling_reads_deadlines, two_worlds,
+    waiting_calls_are_in_time, waiting_calls_are_of_threads,
+};
 
 /// No identifier is given to two objects of one kind: of the objects of a kind that the events of a history
 /// made, each has another identifier than all before it. A get that finds its key makes none. That an

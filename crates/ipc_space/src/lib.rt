@@ -14,9 +14,9 @@ mod space;
 pub use bitflags::Flags;
 pub use comparing::{Compared, compare};
 pub use ipc_call::{
-    Answer, Boxed, Call, Errno, IPC_CREAT, IPC_EXCL, IPC_NOWAIT, Items, JournalRow, Kind, Limits,
-    Listed, MSG_EXCEPT, MSG_NOERROR, Memory, Mode, Outcome, Perm, QueueStatus, Reply, Row, Rule,
-    SEM_UNDO, SHM_RDONLY, SegmentStatus, SemOper, SetStatus, Status, errno,
+    Answer, Boxed, Call, Errno, IPC_CREAT, IPC_EXCL, IPC_NOWAIT, Identity, Items, JournalRow, Kind,
+    Limits, Listed, MSG_EXCEPT, MSG_NOERROR, Memory, Mode, Outcome, Perm, QueueStatus, Reply, Row,
+    Rule, SEM_UNDO, SHM_RDONLY, SegmentStatus, SemOper, SetStatus, Status, errno,
 };
 pub use ipc_creds::{Caps, Creds, GROUPS_MAX};
 pub use ipc_namespace::Namespace;

@@ -1,11 +1,11 @@
 // What can be looked at without a call: it is no event, and asks for no right.
 
-ghost use Rattle.std.specs.Prelude.{◌≡◌, IfOk, option_copied, option_map, slice_get};
+ghost use Rattle.std.specs.Prelude.{◌≡◌, IfOk, None, Some, if◌then◌else◌, option_copied, option_map, slice_get};
 ghost use Rattle.ipc_call.specs.declared.replies.Waiting.{Waiting as WaitingCall};
 ghost use Rattle.ipc_history.specs.History.{run};
 ghost use Rattle.ipc_model.specs.Controls.{perm_of as perm_in, status_of as status_in};
 ghost use Rattle.ipc_model.specs.Semaphores.{values_at};
-ghost use Rattle.ipc_model.specs.State.{has_exited as exited_before, process_at, waiting_of as waiting_in};
+ghost use Rattle.ipc_model.specs.State.{has_exited as exited_before, pid_at, process_at, waiting_of as waiting_in};
 ghost use Rattle.ipc_namespace.specs.Looking.{object_with_key, stopped_at as stopping_at};
 ghost use Rattle.sem_undo.specs.Entries.{adj_of};
 ghost use Rattle.shm_seg.specs.Attachments.{attachment_at};
@@ -31,7 +31,18 @@ impl Space {
         self.ledger.namespace().creds_of(client)
     }
 
-    /// Whether the client has called exit.
+    /// The pid of the client's process. None where the client's thread has ended, or there is no such client.
+    pub fn pid_of(&self, client: u32) -> Option<u32>
+        ensures { result ≡ (if exited_before (run self.now) client then None else Some (pid_at (run self.now) client)) }
+    {
+        let namespace = self.ledger.namespace();
+        if namespace.has_exited(client) {
+            return None;
+        }
+        Some(namespace.pid_of(client))
+    }
+
+    /// Whether the client's thread has ended.
     pub fn has_exited(&self, client: u32) -> bool
         ensures { result ≡ exited_before (run self.now) client }
     {

@@ -1,8 +1,9 @@
 -- The words of calls: a table, each with how its arguments are read.
 use Rattle.std.specs.Prelude.{ℕ, List, [], ◌∷◌, ◌++◌, codes, bytes_eq, Option, None, if◌then◌else◌}
 use Rattle.ipc_call.specs.declared.calls.Call.{Call}
-use Rattle.ipc_call.specs.declared.calls.Call.TheVariants.{GetVal, GetPid, GetNcnt, GetZcnt}
+use Rattle.ipc_call.specs.declared.calls.Call.TheVariants.{GetVal, GetPid, GetNcnt, GetZcnt, Kill, Name}
 use Rattle.ipc_text.specs.Calls.{exit_of, interrupt_of, msgget_of, msgrcv_of, msgsnd_of, rmid_of, set_of, setcreds_of, stat_of}
+use Rattle.ipc_text.specs.Lives.{assume_of, begin_of, exec_of, of_pid}
 use Rattle.ipc_text.specs.Segments.{shmat_of, shmdt_of, shmget_of, shmread_of, shmwrite_of}
 use Rattle.ipc_text.specs.Sets.{getall_of, report_of, semget_of, semop_of, semtimedop_of, setall_of, setval_of}
 
@@ -19,6 +20,16 @@ controls = (codes "stat", stat_of) ∷ (codes "set", set_of) ∷ (codes "rmid", 
 
 abbrev pub process_calls : Table
 process_calls = (codes "interrupt", interrupt_of) ∷ (codes "setcreds", setcreds_of) ∷ (codes "exit", exit_of) ∷ []
+
+-- fork(2), clone(2) and interrupts of one thread name another client: they are read apart
+abbrev pub life_calls : Table
+life_calls =
+    (codes "kill", of_pid Kill)
+    ∷ (codes "name", of_pid Name)
+    ∷ (codes "exec", exec_of)
+    ∷ (codes "begin", begin_of)
+    ∷ (codes "assume", assume_of)
+    ∷ []
 
 -- shmget(2), shmop(2)
 abbrev pub shm_calls : Table
@@ -55,4 +66,4 @@ read_by (row ∷ rows) word words = if bytes_eq word row.0 then row.1 words else
 unfoldable pub call_of : List (List ℕ) → Option Call
 call_of [] = None
 call_of (word ∷ words) =
-    read_by (msg_calls ++ controls ++ process_calls ++ shm_calls ++ sem_calls ++ value_calls) word words
+    read_by (msg_calls ++ controls ++ process_calls ++ life_calls ++ shm_calls ++ sem_calls ++ value_calls) word words

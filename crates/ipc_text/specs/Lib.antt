@@ -2,6 +2,7 @@ pub mod CallWords
 pub mod Calls
 pub mod Commands
 pub mod Grammar
+pub mod Lives
 pub mod Parts
 pub mod Rows
 pub mod Segments

@@ -1,7 +1,7 @@
 // The calls that the words behind a client's name make.
 
 ghost use Rattle.std.specs.Prelude.{◌≡◌, ◌∷◌, ◌++◌, IfOk, option_map};
-ghost use Rattle.ipc_text.specs.CallWords.{call_of as call_words, controls, process_calls, read_by, shm_calls, sem_calls, value_calls};
+ghost use Rattle.ipc_text.specs.CallWords.{call_of as call_words, controls, life_calls, process_calls, read_by, shm_calls, sem_calls, value_calls};
 ghost use Rattle.ipc_text.specs.Calls.{exit_of as exit_words, interrupt_of as interrupt_words, kind_named as kind_word, msgget_of as msgget_words, object_of as object_words};
 ghost use Rattle.ipc_text.specs.Calls.{groups_option as groups_words, new_groups as new_groups_text, qbytes_of as qbytes_words, set_of as set_line, set_words as set_parts, setcreds_of as setcreds_line, setcreds_words as setcreds_parts};
 ghost use Rattle.ipc_text.specs.Calls.{msgrcv_of as msgrcv_line, msgrcv_words as msgrcv_parts, msgsnd_of as msgsnd_line, msgsnd_words as msgsnd_parts};
@@ -9,7 +9,7 @@ ghost use Rattle.ipc_words.specs.Words.{words_of};
 
 use crate::grammar::option_text;
 use crate::lists::{number_list, two_numbers};
-use crate::segments::segment_call_of;
+use crate::lives::life_call_of;
 use crate::texts::text_of;
 use ipc_call::{Call, Items, Kind};
 use ipc_words::{
@@ -53,7 +53,7 @@ pub(crate) fn call_named(
 #[inline(never)]
 fn control_of(alloc: Global, word: &[u8], words: &[u8]) -> Result<Option<Call>, AllocError>
     ensures { IfOk result (λ call. call
-        ≡ read_by (controls ++ process_calls ++ shm_calls ++ sem_calls ++ value_calls) word.now (words_of words.now)) }
+        ≡ read_by (controls ++ process_calls ++ life_calls ++ shm_calls ++ sem_calls ++ value_calls) word.now (words_of words.now)) }
 {
     if word == b"stat".as_slice() {
         Ok(object_of(words).map(|(kind, id)| Call::IpcStat { kind, id }))
@@ -68,7 +68,7 @@ fn control_of(alloc: Global, word: &[u8], words: &[u8]) -> Result<Option<Call>, 
 
 fn process_call_of(alloc: Global, word: &[u8], words: &[u8]) -> Result<Option<Call>, AllocError>
     ensures { IfOk result (λ call. call
-        ≡ read_by (process_calls ++ shm_calls ++ sem_calls ++ value_calls) word.now (words_of words.now)) }
+        ≡ read_by (process_calls ++ life_calls ++ shm_calls ++ sem_calls ++ value_calls) word.now (words_of words.now)) }
 {
     if word == b"interrupt".as_slice() {
         Ok(interrupt_of(words))
@@ -77,7 +77,7 @@ fn process_call_of(alloc: Global, word: &[u8], words: &[u8]) -> Result<Option<Ca
     } else if word == b"exit".as_slice() {
         Ok(exit_of(words))
     } else {
-        segment_call_of(alloc, word, words)
+        life_call_of(alloc, word, words)
     }
 }
 

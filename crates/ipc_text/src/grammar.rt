@@ -50,7 +50,12 @@ fn client_words(
     Ok(Some((name, creds)))
 }
 
-fn options_of(alloc: Global, uid: u32, gid: u32, words: &[u8]) -> Result<Option<Creds>, AllocError>
+pub(crate) fn options_of(
+    alloc: Global,
+    uid: u32,
+    gid: u32,
+    words: &[u8],
+) -> Result<Option<Creds>, AllocError>
     ensures { IfOk result (λ creds. creds ≡ options_words uid gid (words_of words.now)) }
 {
     let Some((groups, words)) = groups_of(alloc, words)? else {

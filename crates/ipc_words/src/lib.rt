@@ -11,6 +11,6 @@ mod words;
 
 pub use arguments::{first_two, four_words, one_word, three_words, two_words};
 pub use lines::{Line, Pending, last_line, split_feeds, split_line, whole_line};
-pub use names::Name;
+pub use names::{Name, is_name};
 pub use numbers::{number, number_16, number_32, numeral, signed_16, signed_32, signed_64};
 pub use words::{is_plain, split_field, split_word};

@@ -57,8 +57,9 @@ impl Name {
     }
 }
 
+/// Whether the word has the form of a client's name.
 #[tactic(auto, unfolding(crate::specs::Names::is_name))]
-fn is_name(word: &[u8]) -> bool
+pub fn is_name(word: &[u8]) -> bool
     ensures { result ≡ names_client word.now }
 {
     let Some((first, rest)) = word.split_first() else {

@@ -1,9 +1,14 @@
 -- What a line says at its place in a script.
-use Rattle.std.specs.Prelude.{◌≡◌, ◌<◌, ℕ, Bool, true, false, ◌==◌, List, [], ◌∷◌, length, codes, bytes_eq, nat_le, Option, Some, None, Result, Ok, Err, if◌then◌else◌, is_some}
+use Rattle.std.specs.Prelude.{◌≡◌, ◌<◌, ℕ, Bool, true, false, ◌==◌, List, [], ◌∷◌, length, codes, bytes_eq, nat_le, Option, Some, None, Result, Ok, Err, if◌then◌else◌, is_some, option_map}
 use Rattle.ipc_creds.specs.Credentials.{Credentials}
 use Rattle.ipcsh.specs.declared.readings.Reading.{Reading}
 use Rattle.ipcsh.specs.declared.readings.Reading.TheVariants as readings
+use Rattle.ipc_call.specs.declared.calls.Call.{Call}
 use Rattle.ipc_commands.specs.declared.parts.Part.{Part}
+use Rattle.ipc_commands.specs.declared.parts.Part.TheVariants.{Plain}
+use Rattle.ipc_text.specs.Lives.{call_by, naming_of}
+use Rattle.ipc_text.specs.declared.lives.Naming.{Naming}
+use Rattle.ipc_words.specs.Names.{is_name}
 use Rattle.ipc_text.specs.declared.reasons.Reason.{Reason}
 use Rattle.ipc_text.specs.declared.reasons.Reason.TheVariants as reasons
 use Rattle.ipc_call.specs.declared.limits.Limit.{Limit}
@@ -44,9 +49,22 @@ abbrev pub command_by : Session → ℕ → Result (List Part) Reason → Readin
 command_by s client (Err reason) = readings.Bad reason
 command_by s client (Ok parts) = if waits s client then readings.Bad reasons.Busy else readings.Command client parts
 
+abbrev pub call_or : Option Call → Result (List Part) Reason
+call_or None = Err reasons.UnknownClient
+call_or (Some call) = Ok (Plain call ∷ [])
+
+-- words that name another client make a call where they name one
+abbrev pub named_or : Session → Option (List ℕ × Naming) → List (List ℕ) → Result (List Part) Reason
+named_or s None words = command_of words
+named_or s (Some named) words =
+    if is_name named.0 then call_or (option_map (call_by named.1) (client_named s named.0)) else command_of words
+
+abbrev pub command_with : Session → List (List ℕ) → Result (List Part) Reason
+command_with s words = named_or s (naming_of words) words
+
 abbrev pub command_line : Session → Option ℕ → List (List ℕ) → Reading
 command_line s None words = readings.Bad reasons.UnknownClient
-command_line s (Some client) words = command_by s client (command_of words)
+command_line s (Some client) words = command_by s client (command_with s words)
 
 -- the first word is a directive or a client's name
 abbrev pub words_line : Session → List ℕ → List (List ℕ) → Reading

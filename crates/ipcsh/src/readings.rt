@@ -14,6 +14,7 @@ ghost use Rattle.ipcsh.specs.Readings.{
   limit_line,
   clock_line,
   command_line,
+  command_with,
   IsSound,
 };
 ghost use Rattle.ipcsh.specs.Session.{client_named as client_with};
@@ -23,7 +24,8 @@ use crate::session::{CLIENTS_MAX, Session};
 use ipc_call::{Limit, Memory};
 use ipc_creds::Creds;
 use ipc_text::{
-    Command, Line, Name, Reason, client_of, clock_of, command_of, is_plain, limit_of, split_word,
+    Command, Line, Name, Reason, client_of, clock_of, command_of, is_name, is_plain, limit_of,
+    naming_of, split_word,
 };
 use std::alloc::Global;
 
@@ -139,7 +141,7 @@ impl Session {
         let Some(client) = self.client_named(word) else {
             return Ok(Reading::Bad(Reason::UnknownClient));
         };
-        let command = match command_of(alloc, words)? {
+        let command = match self.command_in(alloc, words)? {
             Ok(command) => command,
             Err(reason) => return Ok(Reading::Bad(reason)),
         };
@@ -147,6 +149,21 @@ impl Session {
             return Ok(Reading::Bad(Reason::Busy));
         }
         Ok(Reading::Command(client, command))
+    }
+
+    /// The calls that the words behind a client's name make, where another client may be named.
+    fn command_in(&self, alloc: Global, words: &[u8]) -> Result<Result<Command, Reason>, Memory>
+        ensures { IfOk result (λ command. command ≡ command_with self.now (words_of words.now)) }
+    {
+        if let Some((word, naming)) = naming_of(words) {
+            if is_name(word) {
+                return Ok(match self.client_named(word) {
+                    Some(client) => Ok(Command::of(naming.call(client))),
+                    None => Err(Reason::UnknownClient),
+                });
+            }
+        }
+        Ok(command_of(alloc, words)?)
     }
 }
 

@@ -1,4 +1,4 @@
-// Sixty-four clients, each with a hundred random calls of every kind, none of which waits.
+// Sixty-four clients, each with a hundred random calls of every kind, those on processes and threads among them, none of which waits.
 
 use crate::jobs::{counted, end_of, job};
 use ipc_call::{Call, Limits};
@@ -7,7 +7,7 @@ use ipc_space::{Replayed, Space, replay};
 use std::alloc::{AllocError, Global};
 use std::process::Abort;
 use std::test::Fail;
-use test_support::any_calls::{Choice, any_call};
+use test_support::any_calls::{Choice, any_call, any_process_call};
 use test_support::clients::users;
 use test_support::journal::{calls_of, refusals_of};
 use test_support::numbers::Numbers;
@@ -16,7 +16,8 @@ const CLIENTS: u32 = 64;
 
 const CALLS: u32 = 100;
 
-/// The call of a client at a place: one of the hundred is an exit, which comes at another place for each client.
+/// The call of a client at a place: one of the hundred is an exit, which comes at another place for each client, and one of
+/// ten is on processes and threads.
 fn call_of(
     alloc: Global,
     numbers: &mut Numbers,
@@ -25,6 +26,10 @@ fn call_of(
 ) -> Result<Call, AllocError> {
     if place.wrapping_add(client) % CALLS == CALLS - 1 {
         return Ok(Call::Exit);
+    }
+    if numbers.once_in(10) {
+        let begins = numbers.once_in(2);
+        return any_process_call(alloc, numbers, begins);
     }
     any_call(alloc, numbers, &[], Choice::AtOnce)
 }

@@ -1,5 +1,6 @@
-//! Ten thousand random calls of eight clients: the replay of their journal gives it again. Then each row of a shorter
-//! journal is changed in turn, in several ways, and the replay tells where the rows first are no journal's.
+//! Ten thousand random calls of eight clients, those on processes and threads among them: the replay of their journal
+//! gives it again. Then each row of a shorter journal is changed in turn, in several ways, and the replay tells where the
+//! rows first are no journal's.
 #![tactic(auto)]
 
 mod changes;
@@ -12,7 +13,7 @@ use opening::{Ends, failed, opened};
 use parting::{by_calls, by_replay};
 use std::alloc::Global;
 use std::io;
-use test_support::any_calls::{Choice, any_call};
+use test_support::any_calls::{Choice, any_call, any_process_call};
 use test_support::numbers::Numbers;
 
 /// How many calls are made.
@@ -33,15 +34,16 @@ fn any_client(numbers: &mut Numbers, space: &Space) -> u32 {
     7
 }
 
-/// A client's next call. The first three may end.
+/// A client's next call.
 fn call_of(
     alloc: Global,
     numbers: &mut Numbers,
     space: &Space,
     client: u32,
 ) -> Result<Call, Memory> {
-    if client < 3 && numbers.once_in(1000) {
-        return Ok(Call::Exit);
+    let has_ended = space.has_exited(client);
+    if numbers.once_in(if has_ended { 3 } else { 40 }) {
+        return any_process_call(alloc, numbers, has_ended);
     }
     let choice = if client == 7 {
         Choice::Control

@@ -1,11 +1,12 @@
 -- The shapes of a lane.
-use Rattle.std.specs.Prelude.{ℕ, ◌+◌, ◌-◌, List, [], ◌++◌, codes, decimal, flat_map, string_bytes, nat_lt, Option, Some, None, if◌then◌else◌}
+use Rattle.std.specs.Prelude.{ℕ, ◌+◌, ◌-◌, List, [], ◌++◌, codes, decimal, flat_map, string_bytes, nat_lt, Option, Some, None, if◌then◌else◌, ◌==◌}
 use Rattle.run_picture.specs.declared.lanes.Arrow.{Arrow}
 use Rattle.run_picture.specs.declared.run.Mark.{Mark}
 use Rattle.run_picture.specs.declared.run.Mark.TheVariants.{Granted, Refused, Waits}
 use Rattle.run_picture.specs.declared.run.Call.{Call}
 use Rattle.run_picture.specs.declared.run.End.{End}
 use Rattle.run_picture.specs.declared.run.Lane.{Lane}
+use Rattle.run_picture.specs.declared.run.Life.{Life}
 use Rattle.run_picture.specs.declared.run.Wait.{Wait}
 use Rattle.run_picture.specs.Layout.{across, down, width}
 use Rattle.run_picture.specs.Words.{escaped, name_text, title_text}
@@ -101,13 +102,44 @@ ended_text lane (Some e) = end_text lane e
 abbrev pub wait_end_text : ℕ → Wait → List ℕ
 wait_end_text lane w = ended_text lane w.end
 
-unfoldable pub line_text : ℕ → ℕ → List ℕ
-line_text y right = codes "<path class='lane' d='M0 " ++ (decimal y ++ (codes " H" ++ (decimal right ++ codes "'/>\n")))
+-- a line that ends within the run has a stroke there
+unfoldable pub stroke_of : Option ℕ → List ℕ
+stroke_of None = []
+stroke_of (Some place) = codes " m0 -6 v12"
 
--- the line of a lane, and its name
+-- it goes to the event that ended it, or else to the end of the run
+abbrev pub right_of : ℕ → Option ℕ → ℕ
+right_of events None = width events
+right_of events (Some place) = across place
+
+unfoldable pub line_text : ℕ → ℕ → ℕ → List ℕ → List ℕ
+line_text left y right stroke =
+    codes "<path class='lane' d='M"
+    ++ (decimal left
+    ++ (codes " " ++ (decimal y ++ (codes " H" ++ (decimal right ++ (stroke ++ codes "'/>\n"))))))
+
+unfoldable pub process_at : ℕ → ℕ → ℕ → List ℕ
+process_at left y pid =
+    codes "<text class='process' x='"
+    ++ (decimal left
+    ++ (codes "' y='" ++ (decimal y ++ (codes "' dx='4' dy='-14'>process " ++ (decimal pid ++ codes "</text>\n")))))
+
+-- above a line that begins within the run stands the number of its process
+abbrev pub process_text : ℕ → Life → List ℕ
+process_text y l = if l.place == 0 then [] else process_at (across l.place) y l.pid
+
+abbrev pub life_text : ℕ → ℕ → Life → List ℕ
+life_text events y l =
+    line_text (across l.place) y (right_of events l.end) (stroke_of l.end) ++ process_text y l
+
+-- a line for each life
+abbrev pub lives_text : ℕ → ℕ → List Life → List ℕ
+lives_text events y lives = flat_map (life_text events y) lives
+
+-- the lines of a lane, and its name
 abbrev pub lane_head : ℕ → Lane → List ℕ
 lane_head events l =
-    line_text (down l.number) (width events) ++ name_text (down l.number) (string_bytes l.name)
+    lives_text events (down l.number) l.lives.items ++ name_text (down l.number) (string_bytes l.name)
 
 -- a bar for each wait
 abbrev pub bars_text : ℕ → ℕ → List Wait → List ℕ

@@ -18,22 +18,28 @@ ghost use Rattle.run_picture.specs.Lanes.{
   label_at,
   lane_head as head_text,
   lane_text,
+  life_text,
   line_text,
+  lives_text,
   mark_text,
   name_of_mark,
   number_text,
   place_text,
+  process_at,
+  process_text as process_of,
+  right_of,
   start_text,
+  stroke_of,
   use_text,
   wait_end_text,
 };
 
 use crate::layout::{across, down, width};
-use crate::run::{Call, End, Lane, Mark, Wait};
+use crate::run::{Call, End, Lane, Life, Mark, Wait};
 use crate::words::{Told, print_name, push_escaped, push_title};
 use std::fmt::Write;
 
-/// Appends a lane of a run of so many events: its name and line, a bar for each wait, a mark for each call, and a mark with an
+/// Appends a lane of a run of so many events: its name, a line for each life, a bar for each wait, a mark for each call, and a mark with an
 /// arrow for each wait that ended.
 pub(crate) fn print_lane(out: &mut String, events: u32, lane: &Lane) -> Told
     ensures { OnOk result (string_bytes out.new ≡ string_bytes out.old ++ lane_text events lane.now) }
@@ -48,15 +54,76 @@ fn print_head(out: &mut String, events: u32, lane: &Lane) -> Told
     ensures { OnOk result (string_bytes out.new ≡ string_bytes out.old ++ head_text events lane.now) }
 {
     let y = down(lane.number);
-    print_line(out, y, width(events))?;
+    print_lives(out, events, y, lane.lives.as_slice())?;
     print_name(out, y, lane.name.as_str())
 }
 
-#[tactic(auto, unfolding(crate::specs::Lanes::line_text))]
-fn print_line(out: &mut String, y: u64, right: u64) -> Told
-    ensures { OnOk result (string_bytes out.new ≡ string_bytes out.old ++ line_text y right) }
+fn print_lives(out: &mut String, events: u32, y: u64, lives: &[Life]) -> Told
+    ensures { OnOk result (string_bytes out.new ≡ string_bytes out.old ++ lives_text events y lives.now) }
 {
-    write!(out, "<path class='lane' d='M0 {y} H{right}'/>\n")
+    for life in lives {
+        print_life(out, events, y, *life)?;
+    }
+    Ok(())
+}
+
+/// Appends the line of a life at a height, and the number of its process where it began within the run.
+fn print_life(out: &mut String, events: u32, y: u64, life: Life) -> Told
+    ensures { OnOk result (string_bytes out.new ≡ string_bytes out.old ++ life_text events y life) }
+{
+    let (left, right) = (across(life.place), line_end(events, life.end));
+    print_line(out, left, y, right, stroke_at(life.end))?;
+    print_process(out, y, life)
+}
+
+#[tactic(auto, unfolding(crate::specs::Lanes::line_text))]
+fn print_line(out: &mut String, left: u64, y: u64, right: u64, stroke: &str) -> Told
+    ensures { OnOk result (string_bytes out.new ≡ string_bytes out.old ++ line_text left y right stroke.now) }
+{
+    write!(
+        out,
+        "<path class='lane' d='M{left} {y} H{right}{stroke}'/>\n"
+    )
+}
+
+/// Where the line of a life ends.
+fn line_end(events: u32, end: Option<u32>) -> u64
+    ensures { result ≡ right_of events end }
+{
+    match end {
+        Some(place) => across(place),
+        None => width(events),
+    }
+}
+
+/// The stroke at the end of a life within the run.
+#[tactic(auto, unfolding(crate::specs::Lanes::stroke_of))]
+fn stroke_at(end: Option<u32>) -> &'static str
+    ensures { result.now ≡ stroke_of end }
+{
+    match end {
+        Some(_) => " m0 -6 v12",
+        None => "",
+    }
+}
+
+fn print_process(out: &mut String, y: u64, life: Life) -> Told
+    ensures { OnOk result (string_bytes out.new ≡ string_bytes out.old ++ process_of y life) }
+{
+    if life.place == 0 {
+        return Ok(());
+    }
+    print_process_at(out, across(life.place), y, life.pid)
+}
+
+#[tactic(auto, unfolding(crate::specs::Lanes::process_at))]
+fn print_process_at(out: &mut String, left: u64, y: u64, pid: u32) -> Told
+    ensures { OnOk result (string_bytes out.new ≡ string_bytes out.old ++ process_at left y pid) }
+{
+    write!(
+        out,
+        "<text class='process' x='{left}' y='{y}' dx='4' dy='-14'>process {pid}</text>\n"
+    )
 }
 
 fn print_bars(out: &mut String, events: u32, lane: u32, waits: &[Wait]) -> Told

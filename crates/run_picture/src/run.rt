@@ -50,13 +50,26 @@ pub struct Wait {
     pub end: Option<End>,
 }
 
-/// A client with its calls and its waits, each in the order of their events.
+/// A time for which a client stands for a thread of a process with the same number.
+#[derive(Clone, Copy, Debug, PartialEq, Eq)]
+pub struct Life {
+    /// The place of the event by which it began, 0 for the start of the run.
+    pub place: u32,
+    /// The number of the process.
+    pub pid: u32,
+    /// The place of the event by which it ended; `None` where it goes on at the end of the run.
+    pub end: Option<u32>,
+}
+
+/// A client with its lives, its calls and its waits, each in the order of their events.
 #[derive(Debug, Drop)]
 pub struct Lane {
     /// Its number from above, counted from 0.
     pub number: u32,
     /// The name of the client.
     pub name: String,
+    /// Its lives.
+    pub lives: Vec<Life>,
     /// Its calls.
     pub calls: Vec<Call>,
     /// Its waits.

@@ -7,8 +7,9 @@ text { font-family: sans-serif; font-size: 12px; fill: #1f2328; }
 .part { text-anchor: end; font-size: 11px; }
 .label { font-size: 11px; }
 .place { text-anchor: middle; font-size: 11px; }
+.process { font-size: 11px; }
 .axis { text-anchor: end; font-size: 11px; }
-.part, .place, .axis, .key { fill: #59636e; }
+.part, .place, .process, .axis, .key { fill: #59636e; }
 .page { fill: #ffffff; }
 .column { stroke: #eef1f4; }
 .lane { stroke: #c9d1d9; fill: none; }
@@ -24,7 +25,7 @@ text { font-family: sans-serif; font-size: 12px; fill: #1f2328; }
 .steps { fill: #0969b8; fill-opacity: 0.18; stroke: #0969b8; stroke-width: 1.6; }
 @media (prefers-color-scheme: dark) {
 text { fill: #e6edf3; }
-.part, .place, .axis, .key { fill: #a3adb8; }
+.part, .place, .process, .axis, .key { fill: #a3adb8; }
 .page { fill: #0d1117; }
 .column { stroke: #1b222b; }
 .lane { stroke: #3d444d; }

@@ -6,7 +6,7 @@ use ipc_call::{Memory, Reply, Rule};
 use ipc_space::{Effects, Space};
 use ipc_text::{Command, Line, Reason, print_reply, print_waits};
 use ipcsh::{Fault, Listener, run_text};
-use run_picture::{Call, End, Lane, Mark, Run, Wait, enter_call};
+use run_picture::{Call, End, Lane, Life, Mark, Run, Wait, enter_call};
 use std::alloc::Global;
 
 /// What is collected may fail where an allocation does.
@@ -80,7 +80,13 @@ impl Watcher {
     fn add_lane(&mut self, text: &[u8]) -> Collected {
         let name = String::from_str(self.alloc, name_in(text))?;
         let number = u32::try_from(self.lanes.len()).unwrap_or(u32::MAX);
-        self.lanes.push(Lane::new(self.alloc, number, name))?;
+        let mut lane = Lane::new(self.alloc, number, name);
+        lane.begin_life(Life {
+            place: 0,
+            pid: number.saturating_add(1),
+            end: None,
+        })?;
+        self.lanes.push(lane)?;
         Ok(())
     }
 
@@ -104,6 +110,10 @@ impl Watcher {
             self.end_wait(place, client, *other, reply)?;
         }
         self.events = place;
+        for lane in &mut self.lanes {
+            let pid = space.pid_of(lane.number);
+            follow(lane, place, pid)?;
+        }
         self.changes.look(space, place)
     }
 
@@ -175,6 +185,35 @@ impl Watcher {
             lane.end_wait(end);
         }
         Ok(())
+    }
+}
+
+/// Enters in a lane what the event at this place did to the process of its client, which now has this number; `None` where its
+/// thread has ended.
+fn follow(lane: &mut Lane, place: u32, pid: Option<u32>) -> Collected {
+    let before = living(lane);
+    if before == pid {
+        return Ok(());
+    }
+    if before.is_some() {
+        lane.end_life(place);
+    }
+    match pid {
+        Some(pid) => lane.begin_life(Life {
+            place,
+            pid,
+            end: None,
+        }),
+        None => Ok(()),
+    }
+}
+
+/// The number of the process of a lane's client before an event.
+fn living(lane: &Lane) -> Option<u32> {
+    let life = lane.lives.last()?;
+    match life.end {
+        None => Some(life.pid),
+        Some(_) => None,
     }
 }
 

@@ -1,3 +1,4 @@
 pub mod Detaching
+pub mod Forking
 pub mod Leaving
 pub mod Renewing

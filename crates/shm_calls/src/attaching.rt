@@ -1,12 +1,12 @@
 //! shmat and shmdt (shmop(2)), and what an exit detaches.
 
-ghost use Rattle.std.specs.Prelude.{◌≡◌, ◌<◌, Some, None, IfOk, OnOk, OnErr, IfSome, IsSome};
+ghost use Rattle.std.specs.Prelude.{◌≡◌, ◌<◌, ℕ, Some, None, IfOk, OnOk, OnErr, IfSome, IsSome};
 ghost use Rattle.ipc_model.specs.Decision.{left_by, outcome_of};
-ghost use Rattle.ipc_model.specs.Segments.{after_detaches, attachment_to, detached, detached_by, left_segment};
+ghost use Rattle.ipc_model.specs.Segments.{after_detaches, after_fork, attachment_to, detached, detached_by, left_segment, noted};
 ghost use Rattle.ipc_model.specs.Segments.{segment_at, wanted_to_attach, with_attached};
 ghost use Rattle.ipc_objects.specs.Objects.{with_contents};
-ghost use Rattle.shm_calls.specs.Calls.{attaching, detaching};
-ghost use Rattle.shm_seg.specs.Attachments.{attachment_at};
+ghost use Rattle.shm_calls.specs.Calls.{attaching, detaching, noted_at, noted_from};
+ghost use Rattle.shm_seg.specs.Attachments.{attachment_at, shmseg};
 
 use crate::segments::Segments;
 use ipc_call::{Answer, Memory, Outcome, Rule, is_read_only};
@@ -48,11 +48,7 @@ impl Segments {
             is_read_only: is_read_only(flags),
         };
         self.attached.attach(who.process(), number, attachment)?;
-        let Some(segment) = self.segments.contents_mut(id) else {
-            unreachable!()
-        };
-        segment.last = who.pid();
-        segment.attach_time = who.now();
+        self.note_attach(who, id);
         Ok(())
     }
 
@@ -77,6 +73,49 @@ impl Segments {
         while let Some(number) = self.attached.first(who.process()) {
             self.detach(who, number);
         }
+    }
+
+    /// Gives a new process, which has nothing attached, what the caller's has attached, under the same numbers and with the
+    /// same rights (fork(2); shmop(2)). Memory comes where a growth was refused, and then nothing has changed.
+    pub fn fork(&mut self, who: &Caller, child: u64) -> Result<(), Memory>
+        requires none { (number : ℕ) → attachment_at self.old.attached child number ≡ None }
+        ensures ok { OnOk result (self.new ≡ after_fork self.old who.entry.now child) }
+        ensures err { OnErr result (self.new ≡ self.old) }
+    {
+        self.attached.copy_all(who.process(), child)?;
+        self.note_copies(who);
+        Ok(())
+    }
+
+    /// Sets who attached each segment last that the caller's process has attached, and when.
+    fn note_copies(&mut self, who: &Caller)
+        ensures { self.new ≡ record self.old { segments = noted_from shmseg 0 who.entry.now (λ n. attachment_at self.old.attached who.entry.now.process n) self.old.segments } }
+    {
+        let mut next = self.attached.first(who.process());
+        while let Some(number) = next {
+            self.note_number(who, number);
+            next = self.attached.next(who.process(), number);
+        }
+    }
+
+    /// Sets who attached last what the caller's process has attached under a number, and when.
+    fn note_number(&mut self, who: &Caller, number: u32)
+        ensures { self.new ≡ record self.old { segments = noted_at self.old.segments who.entry.now (attachment_at self.old.attached who.entry.now.process number) } }
+    {
+        if let Some(attachment) = self.attached.get(who.process(), number) {
+            self.note_attach(who, attachment.segment);
+        }
+    }
+
+    /// Sets who attached the segment of an identifier last, where there is one, and when.
+    fn note_attach(&mut self, who: &Caller, id: u32)
+        ensures { self.new ≡ record self.old { segments = noted self.old.segments who.entry.now id } }
+    {
+        let Some(segment) = self.segments.contents_mut(id) else {
+            return;
+        };
+        segment.last = who.pid();
+        segment.attach_time = who.now();
     }
 
     /// Detaches what the caller has attached under a number, where there is anything.

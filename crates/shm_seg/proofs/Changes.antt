@@ -3,7 +3,7 @@ use Rattle.std.proofs.Common.{◌≡◌, ◌∙◌, ℕ, ◌+◌, ◌<◌, ap, a
 use Rattle.std.specs.Prelude.{◌==◌, not, Option, Some, None, is_none, is_some}
 use Rattle.client_map.specs.declared.map.Key.{Key}
 use Rattle.client_map.specs.Keys.{key}
-use Rattle.client_map.proofs.Orders.{get_gone, get_gone_apart, gone_none, key_same, key_total, put_gone}
+use Rattle.client_map.proofs.Orders.{get_gone, get_gone_apart, get_put, get_put_apart, gone_none, key_same, key_total, put_gone}
 use Rattle.shm_seg.specs.Attachments.{Attached, Attachment, attach_count, attachment_at, first_number, free_number, with_attachment, without_attachment}
 use Rattle.shm_seg.proofs.Counts.{count_inserted, count_positive, count_removed}
 use Rattle.shm_seg.proofs.Least.{Finds, IsLeast, finds}
@@ -18,6 +18,14 @@ module _ (m : Attached) (client number : ℕ) (a : Attachment) (free : attachmen
 
   pub attached_count_other : (segment : ℕ) → (a.segment ≡ segment → ⊥) → attach_count (with_attachment m client number a) segment ≡ attach_count m segment
   attached_count_other segment ne = attached_count segment ∙ none_more (attach_count m segment) a.segment segment ne
+
+module _ (m : Attached) (client number : ℕ) (a : Attachment) where
+  pub attached_here : attachment_at (with_attachment m client number a) client number ≡ Some a
+  attached_here = get_put key_total key_same m (key client number) a
+
+  pub attached_apart : (c n : ℕ) → (c ≡ client → n ≡ number → ⊥) → attachment_at (with_attachment m client number a) c n ≡ attachment_at m c n
+  attached_apart c n apart =
+      get_put_apart key_total key_same m (key client number) a (key c n) (λ e. apart (ap (λ (k : Key). k.client) e) (ap (λ (k : Key). k.number) e))
 
 module _ (m : Attached) (client number : ℕ) where
   pub detached_here : attachment_at (without_attachment m client number) client number ≡ None

@@ -1,4 +1,5 @@
 pub mod Changes
+pub mod Copies
 pub mod Counts
 pub mod Kept
 pub mod Least

@@ -1,5 +1,5 @@
 -- The attachments of clients to segments, each by its client and a number (shmop(2)).
-use Rattle.std.specs.Prelude.{ℕ, zero, suc, ◌+◌, ◌==◌, Bool, Option, Some, None, is_none, is_some}
+use Rattle.std.specs.Prelude.{◌≡◌, ℕ, zero, suc, ◌+◌, ◌==◌, ◌&&◌, nat_lt, Bool, Option, Some, None, is_none, is_some}
 use Rattle.std.specs.Prelude.{if◌then◌else◌}
 use Rattle.std.specs.List.{count_by}
 use Rattle.std.specs.declared.cmp.Ordering.{Ordering}
@@ -53,3 +53,12 @@ first_number attached client = least_from (λ number. is_some (attachment_at att
 -- how many attachments are to a segment
 abbrev pub attach_count : Attached → ℕ → ℕ
 attach_count attached segment = count_by (λ a. a.segment == segment) (finite.values attached)
+
+-- under the numbers of a process below one stands this, and all else is as it was
+abbrev pub IsPut : ℕ → ℕ → (ℕ → Option Attachment) → Attached → Attached → Type 0
+IsPut to below f old new =
+    (c n : ℕ) → attachment_at new c n ≡ (if c == to && nat_lt n below then f n else attachment_at old c n)
+
+-- a process has what another one has, under the same numbers
+abbrev pub IsCopied : ℕ → ℕ → Attached → Attached → Type 0
+IsCopied from to old new = IsPut to shmseg (λ n. attachment_at old from n) old new

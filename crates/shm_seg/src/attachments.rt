@@ -2,7 +2,7 @@
 
 ghost use Rattle.std.specs.Prelude.{◌≡◌, ◌==◌, ◌<◌, ◌+◌, ◌^◌, ℕ, None, IfNone, IfSome, IsSome, OnErr, OnOk};
 ghost use Rattle.std.specs.Prelude.{if◌then◌else◌};
-ghost use Rattle.shm_seg.specs.Attachments.{attach_count, attachment_at, first_number};
+ghost use Rattle.shm_seg.specs.Attachments.{attach_count, attachment_at, first_number, IsCopied, IsPut};
 ghost use Rattle.shm_seg.specs.Attachments.{free_number as least_free, none_attached};
 ghost use Rattle.shm_seg.specs.Attachments.{with_attachment, without_attachment};
 ghost use Rattle.shm_seg.specs.Inside.{counted_at};
@@ -110,6 +110,59 @@ impl Attachments {
                 Some(attachment)
             }
         }
+    }
+
+    /// Gives another process, which has nothing attached, what a process has attached, under the same numbers (fork(2)). The
+    /// error comes only where an allocation fails, and then nothing has changed.
+    pub fn copy_all(&mut self, from: u64, to: u64) -> Result<(), Memory>
+        requires none { (number : ℕ) → attachment_at self.old to number ≡ None }
+        ensures ok { OnOk result (IsCopied from to self.old self.new) }
+        ensures err { OnErr result (self.new ≡ self.old) }
+    {
+        let mut next = self.first(from);
+        while let Some(number) = next {
+            if let Err(memory) = self.copy(from, to, number) {
+                self.let_go(to);
+                return Err(memory);
+            }
+            next = self.next(from, number);
+        }
+        Ok(())
+    }
+
+    /// Gives another process, which has nothing attached under a number, what a process has attached there.
+    fn copy(&mut self, from: u64, to: u64, number: u32) -> Result<(), Memory>
+        requires number { number < 4096 }
+        requires none { attachment_at self.old to number ≡ None }
+        ensures ok { OnOk result (IfSome (attachment_at self.old from number) (λ a. self.new ≡ with_attachment self.old to number a)) }
+        ensures none { IfNone (attachment_at self.old from number) (self.new ≡ self.old) }
+        ensures err { OnErr result (self.new ≡ self.old) }
+    {
+        match self.get(from, number) {
+            None => Ok(()),
+            Some(attachment) => self.attach(to, number, attachment),
+        }
+    }
+
+    /// Detaches all that a process has attached.
+    fn let_go(&mut self, client: u64)
+        ensures { IsPut client 4096 (λ _. None) self.old self.new }
+    {
+        for number in 0..SHMSEG {
+            self.detach(client, number);
+        }
+    }
+
+    /// The least number above this one under which a client has something attached; None where there is none. The time is
+    /// logarithmic in the attachments.
+    pub fn next(&self, client: u64, number: u32) -> Option<u32>
+        ensures none { IfNone result ((n : ℕ) → number < n → attachment_at self.now client n ≡ None) }
+        ensures there { IfSome result (λ next. IsSome (attachment_at self.now client next)) }
+        ensures above { IfSome result (λ next. number < next) }
+        ensures few { IfSome result (λ next. next < 4096) }
+        ensures least { IfSome result (λ next. (n : ℕ) → number < n → n < next → attachment_at self.now client n ≡ None) }
+    {
+        narrow(self.attached.next(client, number as u64))
     }
 
     /// The least number under which a client has something attached; None where it has no attachment. The time is

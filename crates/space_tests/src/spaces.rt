@@ -31,14 +31,23 @@ fn get(client: u32, now: u64, key: u32, flags: u32, wanted: Outcome) -> Worked {
     }
 }
 
-fn remove(client: u32, id: u32, wanted: Outcome) -> Worked {
-    let kind = Kind::Queue;
+/// A call at the start of the clock.
+fn at_once(client: u32, call: Call, wanted: Outcome) -> Worked {
     Worked {
         client,
         now: 0,
-        call: Call::IpcRmid { kind, id },
+        call,
         wanted,
     }
+}
+
+fn remove(client: u32, id: u32, wanted: Outcome) -> Worked {
+    let kind = Kind::Queue;
+    at_once(client, Call::IpcRmid { kind, id }, wanted)
+}
+
+fn fork(child: u32, pid: u32, wanted: Outcome) -> Worked {
+    at_once(ALICE, Call::Fork { child, pid }, wanted)
 }
 
 /// Alice is 100:10, and dave is 300:30 with the supplementary group 10.
@@ -176,6 +185,25 @@ fn the_clock_never_goes_back(rt: HostRuntime) -> Result<(), Fail> {
         get(ALICE, 50, 5, 0o3600, Ok(Answer::Id(0))),
         get(DAVE, 20, 6, 0, Err(Rule::NoKey)),
         get(DAVE, 60, 6, 0, Err(Rule::NoKey)),
+    ];
+    make_each(&rt, Limits::default(), &calls)
+}
+
+#[test]
+fn a_client_that_there_is_not_is_not_taken(rt: HostRuntime) -> Result<(), Fail> {
+    let calls = [
+        fork(2, 0, Err(Rule::BadPid)),
+        fork(2, 2, Err(Rule::NoClient)),
+        fork(u32::MAX, 9, Err(Rule::NoClient)),
+        at_once(ALICE, Call::Clone { child: 2 }, Err(Rule::NoClient)),
+        at_once(
+            ALICE,
+            Call::InterruptThread { client: 2 },
+            Err(Rule::NoClient),
+        ),
+        fork(DAVE, 9, Err(Rule::ClientInUse)),
+        at_once(DAVE, Call::Exit, Ok(Answer::Done)),
+        fork(DAVE, 9, Ok(Answer::Done)),
     ];
     make_each(&rt, Limits::default(), &calls)
 }

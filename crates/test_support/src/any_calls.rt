@@ -1,9 +1,9 @@
-//! Random calls of every kind but exit.
+//! Random calls: of every kind but those on processes and threads, and these.
 
 use crate::numbers::Numbers;
 use ipc_call::{
-    Call, IPC_CREAT, IPC_NOWAIT, Items, Kind, MSG_EXCEPT, MSG_NOERROR, Memory, Row, SEM_UNDO,
-    SHM_RDONLY, SemOper,
+    Call, IPC_CREAT, IPC_NOWAIT, Identity, Items, Kind, MSG_EXCEPT, MSG_NOERROR, Memory, Row,
+    SEM_UNDO, SHM_RDONLY, SemOper,
 };
 use std::alloc::Global;
 
@@ -265,4 +265,48 @@ fn control(numbers: &mut Numbers, kind: Kind, id: u32) -> Call {
             pid: numbers.below(9),
         },
     }
+}
+
+/// A call on processes and threads, of eight clients and twenty numbers. One whose thread has ended mostly begins anew.
+pub fn any_process_call(
+    alloc: Global,
+    numbers: &mut Numbers,
+    has_ended: bool,
+) -> Result<Call, Memory> {
+    let (client, pid) = (numbers.below(8), numbers.below(20));
+    if has_ended && !numbers.once_in(4) {
+        let creds = any_identity(alloc, numbers)?;
+        return Ok(Call::Begin { pid, creds });
+    }
+    Ok(match numbers.below(14) {
+        0..3 => Call::Fork { child: client, pid },
+        3..6 => Call::Clone { child: client },
+        6 => Call::Exec,
+        7 => Call::Kill { pid },
+        8 => Call::InterruptThread { client },
+        9 => Call::Name { pid },
+        10 => Call::Assume {
+            creds: any_identity(alloc, numbers)?,
+        },
+        11 => Call::Begin {
+            pid,
+            creds: any_identity(alloc, numbers)?,
+        },
+        _ => Call::Exit,
+    })
+}
+
+/// Credentials: few users and groups, at times all capabilities, at times too many groups.
+fn any_identity(alloc: Global, numbers: &mut Numbers) -> Result<Identity, Memory> {
+    let (user, group) = (numbers.below(4) * 100, numbers.below(4) * 10);
+    Ok(Identity {
+        euid: user,
+        egid: group,
+        groups: any_groups(alloc, numbers)?,
+        caps: if numbers.once_in(4) { 31 } else { 0 },
+        ruid: user,
+        suid: numbers.below(4) * 100,
+        rgid: group,
+        sgid: group,
+    })
 }

@@ -3,7 +3,7 @@ use Rattle.ipc_parked.specs.Parked.{waiting}
 use Rattle.ipc_namespace.specs.Namespace.{sends_on}
 use Rattle.ipc_namespace.proofs.Held.{none_held}
 use Rattle.ipc_namespace.proofs.Parked.{none_parked}
-use Rattle.ipc_namespace.proofs.Threads.{as-long}
+use Rattle.ipc_namespace.proofs.Starting.{as-long}
 use Rattle.ipc_namespace.proofs.namespace.Namespace.new.Goals as goal
 
 pub invariant_of-result : goal.invariant_of-result

@@ -1,4 +1,5 @@
-use Rattle.std.proofs.Common.{◌≡◌, length, false, sym, ap, ◌∙◌, subst, None, Ok, Err}
+use Rattle.shm_seg.specs.Attachments.{attachment_at}
+use Rattle.std.proofs.Common.{◌≡◌, ℕ, length, false, sym, ap, ◌∙◌, subst, None, Ok, Err}
 use Rattle.std.specs.Prelude.{is_err, IfOk, Result}
 use Rattle.std.proofs.lemmas.Bool.{true≢false}
 use Rattle.ipc_model.proofs.Keeping.{Follows-enter}
@@ -29,3 +30,7 @@ returns-else-is_err-clause-clients c =
     let new = c.enter-served.new.self in
     well c.enter-served.result _ (length new.clients ≡ length c.args.self.now.clients) (sym c.is_err.ensures.value ∙ c.if-is_err.false) c.enter-served.ensures.ok (λ served is.
     sym (ap (λ (t : Stepped). length t.state.clients) is) ∙ (Follows-enter _ c.args.client c.args.call.now).clients ∙ ap (λ (t : State). length t.clients) c.self.view_is)
+
+pub enter-served-requires-clause-fresh : goal.enter-served-requires-clause-fresh
+enter-served-requires-clause-fresh c =
+    subst (λ (t : State). (number : ℕ) → attachment_at t.shared.attached t.next number ≡ None) (sym c.self.view_is) c.requires.fresh

@@ -1,9 +1,12 @@
-use Rattle.std.proofs.Common.{◌≡◌, ℕ, ◌+◌, ◌<◌, [], ◌∷◌, ◌++◌, map, length, sym, ap, ◌∙◌, subst, arith}
+use Rattle.std.proofs.Common.{◌≡◌, ℕ, ◌+◌, ◌<◌, None, [], ◌∷◌, ◌++◌, map, length, sym, ap, ◌∙◌, subst, arith}
 use Rattle.ipc_call.specs.declared.replies.JournalRow.TheVariants.{Called}
 use Rattle.ipc_model.specs.State.{State, is_waiting}
 use Rattle.ipc_model.specs.Step.{Event, Stepped, step}
 use Rattle.ipc_history.specs.History.{History, IsLegalAt, answered_row, next_step, rows_by, run, replies_to_ended, reply_to_own, with_event, IsLegal}
 use Rattle.ipc_history.specs.Waits.{AreNotReady}
+use Rattle.ipc_history.proofs.Runs.{tidy-run}
+use Rattle.ipc_model.proofs.Beginning.{next-attached}
+use Rattle.shm_seg.specs.Attachments.{attachment_at}
 use Rattle.ipc_call.specs.declared.limits.Limits.{Limits}
 use Rattle.ipc_space.specs.Spaces.{CanOpen, IsOfHistory, Parts, history_in, other_replies}
 use Rattle.ipc_space.proofs.Histories.{IsOfHistory-push, clients-reached, length-events_in, rows_by-entered}
@@ -66,6 +69,12 @@ overflow_add-place c =
 
 pub serve-served-requires-clause-quiet : goal.serve-served-requires-clause-quiet
 serve-served-requires-clause-quiet c = subst AreNotReady (sym c.self.invariant.0.state) (run_not_ready (history_in c.self.inside.namespace.limits c.self.inside.opening.items c.self.inside.journal.rows))
+
+-- nothing is filed under the process that comes next
+pub serve-served-requires-clause-fresh : goal.serve-served-requires-clause-fresh
+serve-served-requires-clause-fresh c =
+    subst (λ (s : State). (number : ℕ) → attachment_at s.shared.attached s.next number ≡ None) (sym c.self.invariant.0.state)
+    (let h = history_in c.self.inside.namespace.limits c.self.inside.opening.items c.self.inside.journal.rows in next-attached (run h) (tidy-run h))
 
 pub invariant_of-self-2 : goal.invariant_of-self-2
 invariant_of-self-2 c = (
