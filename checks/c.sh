@@ -14,7 +14,10 @@ c_checks() {
     attempt 'build c' library_is_built || return 0
     attempt 'include/*.h, as C++' is_cpp
     attempt 'the header names the rules in their order' names_the_rules
-    for file in examples/c/*.c checks/c/bad.c checks/c/errors.c checks/c/sysv.c checks/c/waits.c; do
+    attempt 'the header has the operations in their order' has_the_operations include/ipcsh.h
+    attempt 'the header has the fields of what goes to the library' has_the_fields include/ipcsh.h
+    attempt 'checks/c/layout.c' is_laid_out
+    for file in examples/c/*.c checks/c/bad.c checks/c/errors.c checks/c/processes.c checks/c/sysv.c checks/c/waits.c; do
         attempt "$file" prints_with_the_library "${file%.c}"
     done
     attempt 'docs/C.md, numbers below 0' tells_each_number
@@ -34,6 +37,8 @@ c_checks() {
 rust_checks() {
     ! command -v rustfmt >/dev/null || attempt 'rust/, its layout' with_cargo fmt --check
     attempt 'rust/ names the rules in their order' names_the_rules_in_rust
+    attempt 'rust/ has the operations in their order' has_the_operations rust/src/raw.rs
+    attempt 'rust/ has the fields of what goes to the library' has_the_fields rust/src/*.rs
     attempt 'rust/, its tests' with_cargo test --offline --quiet
     for file in rust/examples/*.rs; do
         attempt "$file" prints_in_rust "$file"
@@ -67,20 +72,18 @@ stays_flat_in_rust() {
     with_cargo build --offline --quiet --release --example flat && stays_flat out/rust/release/examples/flat
 }
 
-# stays_flat PROGRAM: ten million calls with texts leave no more in memory than ten thousand, also where the journal is read every thousand calls;
-# and what is read of a journal, one part behind another, is replayed as the same.
+# stays_flat PROGRAM: ten million calls, with texts and in C by processes that end and begin between them, leave no more in memory than ten
+# thousand, also where the journal is read every thousand calls; and what is read of a journal, one part behind another, is replayed as the same.
 stays_flat() {
     for file in '' /dev/null; do
         why="memory grows, with journal '$file':"
         timeout 300 "$1" 10000000 $file >"$scratch/out" 2>"$scratch/shown" || return 1
     done
-    has_program ipcsh_journal || return 1
     why='it fails'
     timeout 300 "$1" 1000000 "$scratch/journal" >"$scratch/out" 2>"$scratch/shown" || return 1
     why='its journal has not just its calls'
     [ "$(grep -c '^at ' "$scratch/journal")" = 1000002 ] || return 1
-    why='its journal is not replayed as the same:'
-    "$(program_to_run ipcsh_journal)" --replay "$scratch/journal" >"$scratch/shown" 2>&1
+    is_replayed
 }
 
 library_is_built() {
@@ -116,13 +119,21 @@ prints() {
     done
 }
 
-# random_calls_replay SEED [WORDS]: where words are given, they run the program.
+# random_calls_replay SEED [WORDS]: ./ipcsh answers the calls alike in their order, and the journal is replayed as the same. Where words are
+# given, they run the program.
 random_calls_replay() {
     with_library checks/c/random || return 1
     why='it failed'
-    timeout 120 ${2-} "$scratch/with_library" "$1" "$scratch/script" "$scratch/rows" 2>"$scratch/shown" || return 1
+    timeout 120 ${2-} "$scratch/with_library" "$1" "$scratch/script" "$scratch/rows" "$scratch/journal" 2>"$scratch/shown" || return 1
     "$(the_program)" <"$scratch/script" >"$scratch/wanted" 2>"$scratch/shown" || return 1
-    same 'what the calls are answered' "$scratch/wanted" "$scratch/rows"
+    same 'what the calls are answered' "$scratch/wanted" "$scratch/rows" && is_replayed
+}
+
+# is_replayed: the journal that a program left.
+is_replayed() {
+    has_program ipcsh_journal || return 1
+    why='its journal is not replayed as the same:'
+    "$(program_to_run ipcsh_journal)" --replay "$scratch/journal" >"$scratch/shown" 2>&1
 }
 
 is_cpp() {
@@ -172,4 +183,32 @@ are_the_rules() {
     sed -n 's/.*Rule::\([A-Za-z]*\) => (Errno::[A-Z0-9]*, "\([a-z-]*\)").*/\1 \2/p' crates/ipc_call/src/rules.rt >"$scratch/named"
     awk 'NR == FNR { name[$1] = $2; next } { print name[$2] }' "$scratch/named" "$scratch/codes" >"$scratch/wanted"
     same 'the names' "$scratch/wanted" "$scratch/printed"
+}
+
+# operations_in FILE: the names of the operations, in lower case and without the word before them.
+operations_in() {
+    sed -n '/^enum ipcsh_op {/,/^};/p; /enum Operation {/,/^}/p' "$1" | grep -v '^[a-z}]' | tr -d ' _' | tr ',' '\n' | tr A-Z a-z |
+        sed -n 's/^ipcsh//; s/^ipc//; /^[a-z]\{1,\}$/p'
+}
+
+# has_the_operations FILE: in the order of their codes in the proved source.
+has_the_operations() {
+    sed -n '/^const OPERATIONS/,/^];/s/^ *Operation::\([A-Za-z]*\),$/\1/p' crates/ipc_abi/src/operations.rt | tr A-Z a-z |
+        sed 's/^ipc//' >"$scratch/wanted"
+    operations_in "$1" >"$scratch/printed"
+    same 'the operations' "$scratch/wanted" "$scratch/printed"
+}
+
+# has_the_fields FILE..: its structs have fields of the types that the proved source has, in their order.
+has_the_fields() {
+    awk -f checks/c/fields.awk crates/ipc_abi/src/*.rt | LC_ALL=C sort >"$scratch/wanted"
+    awk -f checks/c/fields.awk "$@" | LC_ALL=C sort >"$scratch/printed"
+    why='not six structs cross to C'
+    [ "$(wc -l <"$scratch/wanted")" = 6 ] || return 1
+    same 'the types of the fields' "$scratch/wanted" "$scratch/printed"
+}
+
+is_laid_out() {
+    why='cc refuses it:'
+    "${CC-cc}" -std=c11 -Wall -Wextra -Werror -I include -fsyntax-only checks/c/layout.c 2>"$scratch/shown"
 }

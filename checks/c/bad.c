@@ -59,7 +59,7 @@ static void calling(ipcsh *alice, ipcsh *bob)
     tell("call to bytes at NULL", ipcsh_call(alice, &request, NULL, &reply, &room));
     tell("advance without a call", ipcsh_advance(alice, &reply, NULL));
     printf("the reply is %s\n", reply.place == 77 ? "as it was" : "changed");
-    request.op = 25;
+    request.op = IPCSH_EXEC + 1;
     tell("an operation that there isn't", ipcsh_post(alice, &request, NULL));
     request.op = 4000000000u;
     tell("another one", ipcsh_post(alice, &request, NULL));
@@ -79,7 +79,7 @@ static void calling(ipcsh *alice, ipcsh *bob)
     printf("    %s\n", ipcsh_rule_name(reply.rule));
     tell("a queue of another", ipcsh_msgsnd(bob, 0, queue, 1, "hello", 5, 0, &reply));
     printf("    %s\n", ipcsh_rule_name(reply.rule));
-    printf("a rule that there isn't: '%s'\n", ipcsh_rule_name(38));
+    printf("a rule that there isn't: '%s'\n", ipcsh_rule_name(42));
 }
 
 /* A reply stays until there is room for it, and a second call until the first is done with. */

@@ -1,5 +1,5 @@
-/* Memory stays flat: calls with texts, as many as the first word says, by two clients in one thread. The program ends with at most 1 MiB more
- * memory than after the first ten thousand of them. With a second word the service keeps its journal, which is read every thousand calls, and
+/* Memory stays flat: calls with texts, as many as the first word says, by two clients in one thread, whose processes end and begin anew between
+ * them. The program ends with at most 1 MiB more memory than after the first ten thousand calls. With a second word the service keeps its journal, which is read every thousand calls, and
  * written to the file of this name. */
 #include "ipcsh.h"
 
@@ -7,7 +7,7 @@
 #include <stdlib.h>
 #include <unistd.h>
 
-enum { FIRST = 10000, A_PART = 1000, MORE = 1 << 20 };
+enum { FIRST = 10000, A_PART = 1000, A_ROUND = 8, MORE = 1 << 20 };
 
 static void must(int code, const char *what)
 {
@@ -40,6 +40,16 @@ static void four_calls(ipcsh *alice, ipcsh *bob, unsigned long n)
     must(ipcsh_semop(bob, n, 0, &give, 1, &reply), "semop");
 }
 
+/* Two calls: the client's process ends, and another begins, by turns with one of two numbers. */
+static void begin_anew(ipcsh *client, unsigned long n, uint32_t pid)
+{
+    const uint32_t groups[2] = {20, 30};
+    const struct ipcsh_identity creds = {.uid = 100, .gid = 10, .ruid = 100, .rgid = 10, .suid = 100, .sgid = 10, .groups = groups, .ngroups = 2};
+    struct ipcsh_reply reply;
+    must(ipcsh_exit(client, n, &reply), "exit");
+    must(ipcsh_begin(client, n, pid + n / A_ROUND % 2, &creds, &reply), "begin");
+}
+
 static void write_journal(ipcsh *reader, FILE *file)
 {
     static char text[65536];
@@ -59,8 +69,10 @@ static long grown(ipcsh *const handles[2], unsigned long calls, FILE *file)
     long first = 0;
     must(ipcsh_msgget(handles[0], 0, 1, IPCSH_CREAT | 0600, &reply, &id), "msgget");
     must(ipcsh_semget(handles[0], 0, 1, 1, IPCSH_CREAT | 0600, &reply, &id), "semget");
-    for (unsigned long n = 4; n <= calls; n += 4) {
+    for (unsigned long n = A_ROUND; n <= calls; n += A_ROUND) {
         four_calls(handles[0], handles[1], n);
+        begin_anew(handles[0], n, 10);
+        begin_anew(handles[1], n, 20);
         if (file && n % A_PART == 0)
             write_journal(handles[0], file);
         if (n == FIRST)

@@ -1,6 +1,7 @@
 /*
- * 2,000 random calls by 8 clients, each in a thread of its own, none of which waits. Each has a place of its own among the events; in the order of
- * these the calls are written as a script to the first file, and what each was answered to the second, as ./ipcsh prints it.
+ * 2,000 random calls by 8 clients, each in a thread of its own, none of which waits. A client that has ended begins again, or another forks or clones
+ * into it. Each call has a place of its own among the events; in the order of these the calls are written as a script to the first file, and what
+ * each was answered to the second, as ./ipcsh prints it. The journal of the service goes to the third.
  */
 #define _GNU_SOURCE
 #include "ipcsh.h"
@@ -27,6 +28,7 @@ struct client {
     pthread_t thread;
     ipcsh *handle;
     int number;
+    _Atomic int has_ended; /* as far as it knows */
     uint64_t state;
     struct called calls[EACH];
 };
@@ -66,7 +68,8 @@ static uint32_t any(struct client *it, uint32_t below)
 static const char kind_letters[] = "qsm";
 static const char *const op_names[] = {"msgget", "msgsnd", "msgrcv", "semget", "semop",    "semtimedop", "getval", "getpid", "getncnt",
                                        "getzcnt", "getall", "setval", "setall", "shmget", "shmat",      "shmdt",  "shmread", "shmwrite",
-                                       "stat",    "set",    "rmid",   "ipcs",   "interrupt", "setcreds", "exit"};
+                                       "stat",    "set",    "rmid",   "ipcs",   "interrupt", "setcreds", "exit",
+                                       "interrupt", "kill", "assume", "begin", "fork", "clone", "name", "exec"};
 
 struct lists_of {
     unsigned char bytes[BYTES];
@@ -80,10 +83,22 @@ static uint32_t any_flags(struct client *it)
     return (any(it, 4) ? (uint32_t)IPCSH_CREAT : 0) | (any(it, 8) ? 0u : (uint32_t)IPCSH_EXCL) | (any(it, 4) ? 0666 : any(it, 512));
 }
 
-/* A removal is rarer than the others, and an exit is rare, since all that follows is refused then. */
+/* One on processes and threads: mostly one that makes a thread, as others end them. */
+static enum ipcsh_op any_life(struct client *it)
+{
+    static const enum ipcsh_op ops[] = {IPCSH_FORK, IPCSH_FORK, IPCSH_FORK, IPCSH_CLONE, IPCSH_CLONE, IPCSH_CLONE, IPCSH_BEGIN,
+                                        IPCSH_EXEC, IPCSH_KILL, IPCSH_EXIT, IPCSH_EXIT, IPCSH_NAME, IPCSH_ASSUME, IPCSH_INTERRUPT_THREAD};
+    return ops[any(it, sizeof ops / sizeof *ops)];
+}
+
+/* A removal is rarer than the others. A client that has ended begins after a few calls, which are refused. */
 static enum ipcsh_op any_op(struct client *it)
 {
-    uint32_t op = any(it, any(it, 200) ? 24 : 25);
+    if (it->has_ended && !any(it, 6))
+        return IPCSH_BEGIN;
+    if (!any(it, 8))
+        return any_life(it);
+    uint32_t op = any(it, IPCSH_EXIT);
     return (enum ipcsh_op)(op == IPCSH_RMID && any(it, 4) ? any(it, IPCSH_RMID) : op);
 }
 
@@ -103,6 +118,66 @@ static void any_bytes(struct client *it, struct lists_of *own, struct ipcsh_list
     lists->text_len = any(it, BYTES + 1);
     for (size_t i = 0; i < lists->text_len; i++)
         own->bytes[i] = (unsigned char)any(it, 256);
+}
+
+static void any_groups(struct client *it, struct lists_of *own, struct ipcsh_lists *lists, struct text *line)
+{
+    lists->groups = own->groups;
+    lists->groups_len = 1 + any(it, 2);
+    for (size_t i = 0; i < lists->groups_len; i++)
+        put(line, "%s%u", i ? "," : " groups=", own->groups[i] = 10 + any(it, 3));
+}
+
+/* Credentials as a script has them: the real ones are the effective ones. */
+static void any_identity(struct client *it, struct ipcsh_request *r, struct lists_of *own, struct ipcsh_lists *lists, struct text *line)
+{
+    r->uid = r->ruid = r->suid = 100 + any(it, 3);
+    r->gid = r->rgid = r->sgid = 10 + any(it, 2);
+    r->caps = any(it, 4) ? 0 : 31;
+    put(line, " %u %u", r->uid, r->gid);
+    if (any(it, 2))
+        any_groups(it, own, lists, line);
+    if (r->caps)
+        put(line, " caps=IPC_OWNER,SYS_ADMIN,SYS_RESOURCE,SETUID,SETGID");
+    if (any(it, 2))
+        return;
+    r->suid = 100 + any(it, 3);
+    r->sgid = 10 + any(it, 2);
+    put(line, " saved=%u:%u", r->suid, r->sgid);
+}
+
+/* Mostly one that has ended. */
+static uint32_t any_client(struct client *it)
+{
+    uint32_t client = any(it, CLIENTS);
+    for (int i = 0; i < 6 && !clients[client].has_ended; i++)
+        client = any(it, CLIENTS);
+    return client;
+}
+
+/* The same of a call on processes and threads as of others below. A script names a client, where a request has its number. */
+static void any_process_call(struct client *it, struct ipcsh_request *r, struct lists_of *own, struct ipcsh_lists *lists, struct text *line)
+{
+    const uint32_t client = r->op == IPCSH_INTERRUPT_THREAD ? any(it, CLIENTS) : any_client(it);
+    r->id = any(it, 20);
+    switch (r->op) {
+    case IPCSH_INTERRUPT_THREAD:
+        r->id = client;
+        put(line, " c%u", client);
+        break;
+    case IPCSH_FORK:
+        r->num = client;
+        put(line, " c%u %u", client, r->id);
+        break;
+    case IPCSH_CLONE:
+        r->num = client;
+        put(line, " c%u", client);
+        break;
+    case IPCSH_BEGIN: put(line, " %u", r->id); /* fall through */
+    case IPCSH_ASSUME: any_identity(it, r, own, lists, line); break;
+    case IPCSH_INTERRUPT: case IPCSH_KILL: case IPCSH_NAME: put(line, " %u", r->id); break;
+    default: break;
+    }
 }
 
 /* A call, its lists, and what follows its name in a script. */
@@ -190,18 +265,15 @@ static void any_call(struct client *it, struct ipcsh_request *r, struct lists_of
             put(line, " %llu", (unsigned long long)r->size);
         break;
     case IPCSH_LISTING: put(line, " -%c", kind_letters[r->kind]); break;
-    case IPCSH_INTERRUPT: put(line, " %u", r->id); break;
     case IPCSH_SETCREDS:
         r->uid = 100 + any(it, 3);
         r->gid = 10 + any(it, 2);
         r->more = any(it, 2);
         put(line, " %u %u", r->uid, r->gid);
-        lists->groups = own->groups;
-        lists->groups_len = r->more ? 1 + any(it, 2) : 0;
-        for (size_t i = 0; i < lists->groups_len; i++)
-            put(line, "%s%u", i ? "," : " groups=", own->groups[i] = 10 + any(it, 3));
+        if (r->more)
+            any_groups(it, own, lists, line);
         break;
-    default: break;
+    default: any_process_call(it, r, own, lists, line);
     }
 }
 
@@ -296,6 +368,7 @@ static void call(struct client *it, struct called *called)
         put_reply(it, &called->row, &reply, &room);
     if (reply.place <= before)
         put(&called->row, " after %llu", (unsigned long long)before);
+    it->has_ended = reply.error ? !strcmp(ipcsh_rule_name(reply.rule), "ended") : request.op == IPCSH_EXIT;
     called->place = reply.place;
     while (before < reply.place && !atomic_compare_exchange_weak(&latest, &before, reply.place)) {
     }
@@ -315,36 +388,65 @@ static int by_place(const void *a, const void *b)
     return x->place < y->place ? -1 : x->place > y->place;
 }
 
-int main(int argc, char **argv)
+/* All of the journal, by the first client, which calls no more. */
+static int write_journal(const char *path)
+{
+    static char text[65536];
+    size_t len;
+    FILE *file = fopen(path, "w");
+    if (!file)
+        return 2;
+    do {
+        if (ipcsh_read_journal(clients[0].handle, text, sizeof text, &len) || fwrite(text, 1, len, file) != len)
+            return 2;
+    } while (len);
+    return fclose(file);
+}
+
+static int open_and_run(struct ipcsh_client *creds, uint64_t seed)
 {
     const struct ipcsh_limits limits = {8, BYTES - 4, 4 * BYTES, SEMS, 2, BYTES, 0, 0};
-    struct ipcsh_client creds[CLIENTS];
     ipcsh *handles[CLIENTS];
-    if (argc != 4)
-        return 2;
-    FILE *script = fopen(argv[2], "w"), *rows = fopen(argv[3], "w");
-    if (!script || !rows)
-        return 2;
     for (int i = 0; i < CLIENTS; i++)
-        creds[i] = (struct ipcsh_client){.uid = 100 + (uint32_t)i % 3, .gid = 10, .caps = i == 0 ? 31 : i == 1 ? IPCSH_IPC_OWNER : 0, .ngroups = i == 2, .groups = {11}};
-    if (ipcsh_open(&limits, creds, CLIENTS, handles))
+        creds[i] = (struct ipcsh_client){.uid = 100 + (uint32_t)i % 3, .gid = 10, .caps = i == 0 ? 31 : i == 1 ? IPCSH_IPC_OWNER : 0,
+                                         .ngroups = i == 2, .groups = {11}};
+    if (ipcsh_open_with_journal(&limits, creds, CLIENTS, handles))
         return 2;
     for (int i = 0; i < CLIENTS; i++) {
         clients[i].handle = handles[i];
         clients[i].number = i;
-        clients[i].state = strtoull(argv[1], NULL, 10) * 100 + (uint64_t)i + 1;
+        clients[i].state = seed * 100 + (uint64_t)i + 1;
         if (pthread_create(&clients[i].thread, NULL, run, &clients[i]))
             return 2;
     }
-    for (int i = 0; i < CLIENTS; i++) {
+    for (int i = 0; i < CLIENTS; i++)
         pthread_join(clients[i].thread, NULL);
+    return 0;
+}
+
+static void write_clients(FILE *script, const struct ipcsh_client *creds)
+{
+    for (int i = 0; i < CLIENTS; i++)
+        fprintf(script, "client c%d %u %u%s%s\n", i, creds[i].uid, creds[i].gid, i == 2 ? " groups=11" : "",
+                i == 0 ? " caps=IPC_OWNER,SYS_ADMIN,SYS_RESOURCE,SETUID,SETGID" : i == 1 ? " caps=IPC_OWNER" : "");
+    fprintf(script, "limit slots 8\nlimit msgmax %d\nlimit msgmnb %d\nlimit semmsl %d\nlimit semopm 2\nlimit shmmax %d\n",
+            BYTES - 4, 4 * BYTES, SEMS, BYTES);
+}
+
+int main(int argc, char **argv)
+{
+    struct ipcsh_client creds[CLIENTS];
+    if (argc != 5 || open_and_run(creds, strtoull(argv[1], NULL, 10)) || write_journal(argv[4]))
+        return 2;
+    FILE *script = fopen(argv[2], "w"), *rows = fopen(argv[3], "w");
+    if (!script || !rows)
+        return 2;
+    for (int i = 0; i < CLIENTS; i++) {
         ipcsh_close(clients[i].handle);
         for (int k = 0; k < EACH; k++)
             all[i * EACH + k] = &clients[i].calls[k];
-        fprintf(script, "client c%d %u %u%s%s\n", i, creds[i].uid, creds[i].gid, i == 2 ? " groups=11" : "",
-                i == 0 ? " caps=IPC_OWNER,SYS_ADMIN,SYS_RESOURCE,SETUID,SETGID" : i == 1 ? " caps=IPC_OWNER" : "");
     }
-    fprintf(script, "limit slots 8\nlimit msgmax %d\nlimit msgmnb %d\nlimit semmsl %d\nlimit semopm 2\nlimit shmmax %d\n", BYTES - 4, 4 * BYTES, SEMS, BYTES);
+    write_clients(script, creds);
     qsort(all, CALLS, sizeof *all, by_place);
     for (int i = 0; i < CALLS; i++) {
         fprintf(script, "%s\n", all[i]->line.at);
