@@ -5,8 +5,10 @@
     kernel.py random CLIENT PROGRAM SEED COUNT        compares random scripts with what the program prints, and shortens one that differs
 
 CLIENT is the built lib/kernel_client.c. A client of a script is a process with its credentials, in an IPC namespace of its own for each
-script. The kernel has no names of rules, so error rows are compared without; times aren't compared, and what one event ended is, in any
-order. Where the kernel chooses identifiers it is told which to give (sysctl, msg_next_id and its kin).
+script; by fork and clone it is a process or a thread that another one begins. The kernel has no names of rules, so error rows are compared
+without; times aren't compared, and what one event ended is, in any order. Where the kernel chooses identifiers it is told which to give
+(sysctl, msg_next_id and its kin). It has no clients that are taken again, nor numbers of processes that one may choose: whether a client and
+a number are free is asked here. It can't give a process another number, nor a thread credentials that it may not take.
 """
 
 import ctypes
@@ -16,8 +18,10 @@ import pathlib
 import random
 import re
 import select
+import signal
 import subprocess
 import sys
+import tempfile
 import time
 
 import hostile
@@ -81,6 +85,8 @@ def calls_of(line, words):
     if name == "setcreds":
         groups = rest[2][len("groups=") :] if len(rest) > 2 else "="
         return [Call(name, number(rest[0]), number(rest[1]), groups)]
+    if name in ("fork", "clone", "begin", "assume") or name == "interrupt" and rest[0][0].isalpha():
+        return [Call(name, *rest)]
     if name == "msgsnd":
         ident, mtype, text, flags = rest
         return [Call(name, number(ident), number(flags), number(mtype), hexed(text))]
@@ -108,41 +114,88 @@ def command(name, *words):
     return removal
 
 
-class Client:
-    """A process with a client's credentials."""
+def process_of(program, user, group, options):
+    """A process with these credentials."""
+    saved = options.get("saved", f"{user}:{group}").split(":")
+    mask = sum({CAPABILITIES[it] for it in options.get("caps", "").split(",") if it}) & HAVE
+    words = [user, group, *map(number, saved), ",".join(str(number(it)) for it in options.get("groups", "").split(",") if it) or "-", f"{mask:x}"]
+    return subprocess.Popen([program, *map(str, words)], stdin=subprocess.PIPE, stdout=subprocess.PIPE, stderr=subprocess.PIPE, bufsize=0)
 
-    def __init__(self, program, name, user, group, options):
-        self.name, self.call, self.has_ended, self.text = name, None, False, b""
-        saved = options.get("saved", f"{user}:{group}").split(":")
-        mask = sum({CAPABILITIES[it] for it in options.get("caps", "").split(",") if it})
-        self.lacks, mask = bool(mask & ~HAVE), mask & HAVE
-        words = [user, group, *map(number, saved), ",".join(str(number(it)) for it in options.get("groups", "").split(",") if it) or "-", f"{mask:x}"]
-        self.process = subprocess.Popen([program, *map(str, words)], stdin=subprocess.PIPE, stdout=subprocess.PIPE, stderr=subprocess.PIPE, bufsize=0)
+
+class Client:
+    """A client's thread, which is told its calls and answers them. `number` is that of its process in the script."""
+
+    def __init__(self, name, number, sink, source):
+        self.name, self.number, self.call, self.has_ended, self.text = name, number, None, False, b""
+        self.sink, self.source, self.process, self.ids = sink, source, None, (0, 0)
         self.poll = select.poll()
-        self.poll.register(self.process.stdout, select.POLLIN)
-        if self.answer() != ["ready"]:
-            raise Stuck(f"client {name} can't have its credentials here: {self.process.stderr.read().decode()}")
+        self.poll.register(source, select.POLLIN)
+
+    @classmethod
+    def alone(cls, program, name, number, *words):
+        """The only thread of a process of its own."""
+        process = process_of(program, *words)
+        made = cls(name, number, process.stdin.fileno(), process.stdout.fileno())
+        made.process, made.ids = process, (process.pid, process.pid)
+        if made.answer() != ["ready"]:
+            raise Stuck(f"client {name} can't have its credentials here: {process.stderr.read().decode()}")
+        return made
+
+    @classmethod
+    def begun(cls, by, request, name, number, folder):
+        """A process or a thread that a client begins."""
+        path = f"{tempfile.mkdtemp(dir=folder)}/pipe"
+        os.chmod(os.path.dirname(path), 0o777)
+        for end in ("in", "out"):
+            os.mkfifo(f"{path}.{end}")
+            os.chmod(f"{path}.{end}", 0o666)
+        made = cls(name, number, os.open(f"{path}.in", os.O_RDWR), os.open(f"{path}.out", os.O_RDONLY | os.O_NONBLOCK))
+        by.ask(request, path)
+        if by.answer()[1:] != ["0"]:
+            raise Stuck(f"client {by.name} can't {request}")
+        made.ids = tuple(int(it) for it in made.answer()[1:])
+        return made
 
     def ask(self, *words):
-        self.process.stdin.write((" ".join(map(str, words)) + "\n").encode())
+        os.write(self.sink, (" ".join(map(str, words)) + "\n").encode())
 
     def has_answered(self, milliseconds):
         return b"\n" in self.text or bool(self.poll.poll(milliseconds))
 
     def answer(self):
         while b"\n" not in self.text:
-            more = os.read(self.process.stdout.fileno(), 1 << 16)
+            if not self.poll.poll(1000 * LONGEST):
+                raise Stuck(f"client {self.name} doesn't answer")
+            more = os.read(self.source, 1 << 16)
             if not more:
                 return []
             self.text += more
         line, self.text = self.text.split(b"\n", 1)
         return line.decode().split()
 
+    def looked_up(self, name):
+        """A file of /proc of the thread."""
+        return pathlib.Path(f"/proc/{self.ids[0]}/task/{self.ids[1]}/{name}").read_text()
+
+    def is_gone(self):
+        try:
+            return self.looked_up("stat").rpartition(")")[2].split()[0] in "ZX"
+        except OSError:
+            return True
+
+    def gone(self):
+        """Waits until the thread has ended, with what the kernel does then."""
+        began = time.monotonic()
+        while not self.is_gone():
+            if time.monotonic() - began > LONGEST:
+                raise Stuck(f"client {self.name} doesn't end")
+            time.sleep(0.001)
+        self.has_ended = True
+
     def asleep(self):
         """None while it runs, or how often it has slept, while it waits in a call."""
         try:
-            call = pathlib.Path(f"/proc/{self.process.pid}/syscall").read_text().split()
-            status = pathlib.Path(f"/proc/{self.process.pid}/status").read_text()
+            call, status = self.looked_up("syscall").split(), self.looked_up("status")
         except OSError:
             return None
         if not call or call[0] not in WAITING or not re.search(r"^State:\s+S", status, re.M):
@@ -162,8 +215,15 @@ class Client:
         return False
 
     def end(self):
-        self.process.kill()
-        self.process.communicate()
+        try:
+            os.kill(self.ids[0], signal.SIGKILL)
+        except ProcessLookupError:
+            pass
+        if self.process:
+            self.process.communicate()
+        else:
+            os.close(self.sink)
+            os.close(self.source)
 
 
 class Slots:
@@ -207,9 +267,11 @@ class Kernel:
         sysctl("shmmax", limits["shmmax"])
         sysctl("shmmni", limits["slots"])
         self.slots = {kind: Slots(limits) for kind in FILES}
-        self.clients = {name: Client(program, name, *words) for name, words in clients.items()}
-        self.root = Client(program, "root", 0, 0, {"caps": "IPC_OWNER,SYS_ADMIN"})
-        self.numbers = {it.process.pid: at for at, it in enumerate(self.clients.values(), 1)}
+        self.program, self.folder = program, tempfile.TemporaryDirectory()
+        os.chmod(self.folder.name, 0o711)
+        self.clients = {name: Client.alone(program, name, at, *words) for at, (name, words) in enumerate(clients.items(), 1)}
+        self.root = Client.alone(program, "root", 0, 0, 0, {"caps": "IPC_OWNER,SYS_ADMIN"})
+        self.numbers, self.former = {it.ids[0]: it.number for it in self.clients.values()}, []
         self.place, self.clock, self.began = 0, 0, time.monotonic()
         # When each moment of the script comes, in seconds from the start.
         self.step, self.times = step, {it: at * step for at, it in enumerate(sorted({0, *moments}))} if moments else {}
@@ -230,7 +292,7 @@ class Kernel:
         rows = [f"{self.place}.0 {name} {own or 'waits'}", *sorted(f"{self.place}.+ {it}" for it in self.settled(client))]
         if own is None:
             client.call = call
-        if call.name in ("rmid", "shmdt", "exit"):
+        if call.name in ("rmid", "shmdt", "exit", "exec", "kill"):
             for kind, slots in self.slots.items():
                 lines = pathlib.Path(f"/proc/sysvipc/{FILES[kind]}").read_text().splitlines()[1:]
                 slots.keep({int(it.split()[1]) for it in lines})
@@ -239,18 +301,71 @@ class Kernel:
 
     def own_row(self, client, call):
         """What the caller is answered, None where it waits."""
-        if client.has_ended:
+        if client.has_ended and call.name != "begin":
             return "error 3 ESRCH"
-        if call.name == "exit":
-            client.ask("exit")
-            client.process.wait()
-            client.has_ended = True
-            return "ok"
+        if call.name in PROCESS_CALLS:
+            return PROCESS_CALLS[call.name](self, client, *call.words)
         words = self.words_of(client, call)
         if isinstance(words, str):
             return words
         client.ask(*words)
         return None if client.waits() else self.row(call, client.answer())
+
+    def threads(self, number):
+        """The threads of the process of a number."""
+        return [it for it in self.clients.values() if not it.has_ended and it.number == number]
+
+    def taken(self, child, number=None):
+        """Why a client can't be taken, or a number, and None where both can."""
+        if number == 0:
+            return "error 22 EINVAL"
+        if not self.clients[child].has_ended:
+            return "error 11 EAGAIN"
+        return "error 17 EEXIST" if self.threads(number) else None
+
+    def put(self, made):
+        self.former.append(self.clients[made.name])
+        self.clients[made.name], self.numbers[made.ids[0]] = made, made.number
+        return "ok"
+
+    def begin(self, client, pid, user, group, *options):
+        if not client.has_ended:
+            return "error 11 EAGAIN"
+        words = number(user), number(group), dict(it.split("=", 1) for it in options)
+        return self.taken(client.name, number(pid)) or self.put(Client.alone(self.program, client.name, number(pid), *words))
+
+    def fork(self, client, child, pid):
+        return self.taken(child, number(pid)) or self.put(Client.begun(client, "fork", child, number(pid), self.folder.name))
+
+    def clone(self, client, child):
+        return self.taken(child) or self.put(Client.begun(client, "clone", child, client.number, self.folder.name))
+
+    def exec(self, client):
+        client.ask("exec")
+        if client.answer() != ["0", "0"]:
+            raise Stuck(f"client {client.name} can't exec")
+        for it in self.threads(client.number):
+            if it is not client:
+                it.gone()
+        client.ids = client.ids[0], client.ids[0]
+        return "ok"
+
+    def exit(self, client):
+        client.ask("exit")
+        client.gone()
+        return "ok"
+
+    def kill(self, client, pid):
+        threads = self.threads(pid)
+        row = signalled(client, "kill", threads)
+        if row == "ok":
+            for it in threads:
+                it.gone()
+        return row
+
+    def interrupt(self, client, target):
+        threads = self.threads(target) if isinstance(target, int) else [it for it in [self.clients[target]] if not it.has_ended]
+        return signalled(client, "interrupt", threads)
 
     def status(self, kind, ident):
         """The words of IPC_STAT behind the permissions, none where there is no such object."""
@@ -282,9 +397,8 @@ class Kernel:
             if len(words) == 6 and words[0] != "q":
                 return "error 22 EINVAL"
             words = words if len(words) == 6 else [*words, *(self.status("q", words[1])[2:3] if words[0] == "q" else [])]
-        elif name == "interrupt":
-            # A process number that no process has, where there is no such client.
-            words = [list(self.numbers)[words[0] - 1] if 1 <= words[0] <= len(self.numbers) else 4194303]
+        elif name in ("name", "assume"):
+            raise Stuck(f"the kernel has no {name}")
         return [name, *words]
 
     def setall(self, client, ident, values):
@@ -300,6 +414,9 @@ class Kernel:
         """What the calls that waited were answered, when all that still wait sleep."""
         rows, seen, began = [], None, time.monotonic()
         while True:
+            for client in [it for it in self.clients.values() if it.call and it.has_ended]:
+                rows.append(f"{client.name} error 3 ESRCH")
+                client.call = None
             waiting = [it for it in self.clients.values() if it.call]
             for client in [it for it in waiting if it.has_answered(0)]:
                 rows.append(f"{client.name} {self.row(client.call, client.answer())}")
@@ -353,8 +470,21 @@ class Kernel:
         return "\n".join([f"list {len(rows)}", *shown])
 
     def end(self):
-        for client in [*self.clients.values(), self.root]:
+        for client in [*self.clients.values(), *self.former, self.root]:
             client.end()
+        self.folder.cleanup()
+
+
+def signalled(client, request, threads):
+    """The row of a signal to threads of a process. A client that kills itself tells no answer."""
+    if not threads:
+        return "error 3 ESRCH"
+    client.ask(request, threads[0].ids[0], *(it.ids[1] for it in threads))
+    answer = ["0"] if request == "kill" and client in threads else client.answer()
+    return "ok" if answer[0] == "0" else f"error {answer[1]} {ERRORS[int(answer[1])]}"
+
+
+PROCESS_CALLS = {it.__name__: it for it in (Kernel.begin, Kernel.fork, Kernel.clone, Kernel.exec, Kernel.exit, Kernel.kill, Kernel.interrupt)}
 
 
 def deadline(now, timeout):
@@ -573,6 +703,13 @@ def any_interrupt(dice, _):
     return f"interrupt {dice.choice('12345')}"
 
 
+def any_process_call(dice, _):
+    """Calls on processes and threads. A client that has ended comes again by each of three."""
+    child, number = dice.choice(NAMES), dice.choice("123456789")
+    begins = [f"fork {child} {number}"] * 3 + [f"clone {child}"] * 3 + [f"begin {number} 200 20 groups=10", f"begin {number} 100 10"]
+    return dice.choice([*begins, "exit", "exit", "exit", "exec", f"kill {number}"])
+
+
 def any_setcreds(dice, _):
     return f"setcreds {dice.choice(['100', '200', '300'])} {dice.choice(['10', '20', '30'])}"
 
@@ -583,9 +720,9 @@ def any_command(dice, _):
 
 def any_script(dice):
     """A script of five clients, whose calls meet at few objects. It has none of what PROFILE says that Linux does otherwise, so no
-    interrupts beside changed users."""
+    interrupts and kills beside changed users."""
     ways = [any_queue_call] * 4 + [any_set_call] * 5 + [any_segment_call] * 3 + [any_control] * 3
-    ways += [any_command, dice.choice([any_interrupt, any_setcreds])]
+    ways += [any_command, *dice.choice([[any_interrupt], [any_setcreds], [any_interrupt] + [any_process_call] * 5])]
     lines = [HEAD.rstrip()] + [f"{dice.choice(NAMES)} {any_get(dice)}" for _ in range(4)]
     for _ in range(40):
         call = any_get(dice) if dice.random() < 0.12 else dice.choice(ways)(dice, dice.choice("0001"))

@@ -4,12 +4,16 @@
        kernel_client USER GROUP SAVED_USER SAVED_GROUP GROUPS CAPABILITIES
 
    GROUPS are numbers with commas between them, or -; CAPABILITIES is a mask in hexadecimal, as /proc/PID/status has it. In a line numbers
-   are decimal and texts hexadecimal. */
+   are decimal and texts hexadecimal. A process or a thread that a client begins is told its calls by two named pipes, PATH.in and PATH.out,
+   which answer first with the numbers of the process and of the thread. Each thread has credentials of its own: so they are changed by
+   system calls, and not by the library's functions, which change those of all threads. */
 #define _GNU_SOURCE
 #include <errno.h>
+#include <fcntl.h>
 #include <grp.h>
 #include <linux/capability.h>
 #include <linux/securebits.h>
+#include <pthread.h>
 #include <signal.h>
 #include <stdio.h>
 #include <stdlib.h>
@@ -22,7 +26,7 @@
 #include <time.h>
 #include <unistd.h>
 
-enum { TEXT_MOST = 1 << 17, OPS_MOST = 1 << 12, VALUES_MOST = 1 << 16, ATTACHED_MOST = 1 << 13, GROUPS_MOST = 64 };
+enum { TEXT_MOST = 1 << 17, OPS_MOST = 1 << 12, VALUES_MOST = 1 << 16, ATTACHED_MOST = 1 << 13, GROUPS_MOST = 64, PATH_MOST = 256, THREADS_MOST = 64 };
 
 /* semctl(2) wants its caller to declare this. */
 union semun {
@@ -37,22 +41,30 @@ struct attachment {
     unsigned long size;
 };
 
-static struct {
+/* What the threads share is what the process has attached. */
+static struct attachment attached[ATTACHED_MOST];
+/* This program, whose name a client may have no right to look up. */
+static int program;
+
+static _Thread_local FILE *in, *out;
+static _Thread_local char *rest;
+static _Thread_local struct {
     long mtype;
     unsigned char text[TEXT_MOST];
 } message;
-static struct attachment attached[ATTACHED_MOST];
-static unsigned short values[VALUES_MOST];
+static _Thread_local unsigned short values[VALUES_MOST];
+
+static char *next_word(void) { return strtok_r(NULL, " ", &rest); }
 
 static unsigned long number(void)
 {
-    const char *word = strtok(NULL, " ");
+    const char *word = next_word();
     return word ? strtoul(word, NULL, 10) : 0;
 }
 
 static long signed_number(void)
 {
-    const char *word = strtok(NULL, " ");
+    const char *word = next_word();
     return word ? strtol(word, NULL, 10) : 0;
 }
 
@@ -61,7 +73,7 @@ static int digit(char it) { return it <= '9' ? it - '0' : it - 'a' + 10; }
 /* The bytes of a text, and how many there are. */
 static size_t text_to(unsigned char *bytes)
 {
-    const char *word = strtok(NULL, " ");
+    const char *word = next_word();
     size_t size = 0;
     for (; word && word[0] && word[1] && size < TEXT_MOST; word += 2)
         bytes[size++] = (unsigned char)(digit(word[0]) * 16 + digit(word[1]));
@@ -70,15 +82,15 @@ static size_t text_to(unsigned char *bytes)
 
 static void tell_text(const unsigned char *bytes, size_t size)
 {
-    printf(" x:");
+    fprintf(out, " x:");
     for (size_t at = 0; at < size; at++)
-        printf("%02x", bytes[at]);
+        fprintf(out, "%02x", bytes[at]);
 }
 
 /* Tells what a system call returned, and whether it was granted. */
 static int tell(long result)
 {
-    printf("%ld %d", result, result < 0 ? errno : 0);
+    fprintf(out, "%ld %d", result, result < 0 ? errno : 0);
     return result >= 0;
 }
 
@@ -90,7 +102,7 @@ static void refuse(int error)
 
 static void tell_perm(const struct ipc_perm *it)
 {
-    printf(" %u %u %u %u %u %o", (unsigned)it->__key, it->uid, it->gid, it->cuid, it->cgid, it->mode);
+    fprintf(out, " %u %u %u %u %u %o", (unsigned)it->__key, it->uid, it->gid, it->cuid, it->cgid, it->mode);
 }
 
 /* Queues */
@@ -114,14 +126,14 @@ static void make_msgrcv(void)
     unsigned long size = number();
     long msgtyp = signed_number(), got = syscall(SYS_msgrcv, id, &message, size, msgtyp, (int)number());
     if (tell(got)) {
-        printf(" %ld", message.mtype);
+        fprintf(out, " %ld", message.mtype);
         tell_text(message.text, (size_t)got);
     }
 }
 
 /* Semaphore sets */
 
-static struct sembuf operations[OPS_MOST];
+static _Thread_local struct sembuf operations[OPS_MOST];
 
 /* The operations at the end of a line, and how many there are. */
 static size_t read_operations(void)
@@ -183,7 +195,7 @@ static void make_getall(void)
     union semun argument = {.array = values};
     if (tell(syscall(SYS_semctl, id, 0, GETALL, argument)))
         for (unsigned long at = 0; at < count; at++)
-            printf(" %u", values[at]);
+            fprintf(out, " %u", values[at]);
 }
 
 static void make_setall(void)
@@ -288,7 +300,7 @@ static long control(char kind, int id, int command, void *buffer)
 
 static char kind_word(void)
 {
-    const char *word = strtok(NULL, " ");
+    const char *word = next_word();
     return word ? word[0] : 'm';
 }
 
@@ -303,12 +315,12 @@ static void make_stat(void)
         return;
     tell_perm(kind == 'q' ? &q.msg_perm : kind == 's' ? &s.sem_perm : &m.shm_perm);
     if (kind == 'q')
-        printf(" %lu %lu %lu %d %d %ld %ld %ld", q.__msg_cbytes, q.msg_qnum, q.msg_qbytes, q.msg_lspid, q.msg_lrpid, q.msg_stime, q.msg_rtime,
+        fprintf(out, " %lu %lu %lu %d %d %ld %ld %ld", q.__msg_cbytes, q.msg_qnum, q.msg_qbytes, q.msg_lspid, q.msg_lrpid, q.msg_stime, q.msg_rtime,
                q.msg_ctime);
     else if (kind == 's')
-        printf(" %lu %ld %ld", s.sem_nsems, s.sem_otime, s.sem_ctime);
+        fprintf(out, " %lu %ld %ld", s.sem_nsems, s.sem_otime, s.sem_ctime);
     else
-        printf(" %lu %lu %d %d %ld %ld %ld", m.shm_segsz, m.shm_nattch, m.shm_cpid, m.shm_lpid, m.shm_atime, m.shm_dtime, m.shm_ctime);
+        fprintf(out, " %lu %lu %d %d %ld %ld %ld", m.shm_segsz, m.shm_nattch, m.shm_cpid, m.shm_lpid, m.shm_atime, m.shm_dtime, m.shm_ctime);
 }
 
 static void make_set(void)
@@ -358,13 +370,13 @@ static void make_list(void)
         if (id < 0)
             continue;
         struct ipc_perm *perm = kind == 'q' ? &it.q.msg_perm : kind == 's' ? &it.s.sem_perm : &it.m.shm_perm;
-        printf(" %u:%ld:%u:%o", (unsigned)perm->__key, id, perm->uid, perm->mode);
+        fprintf(out, " %u:%ld:%u:%o", (unsigned)perm->__key, id, perm->uid, perm->mode);
         if (kind == 'q')
-            printf(":%lu:%lu", it.q.__msg_cbytes, it.q.msg_qnum);
+            fprintf(out, ":%lu:%lu", it.q.__msg_cbytes, it.q.msg_qnum);
         else if (kind == 's')
-            printf(":%lu", it.s.sem_nsems);
+            fprintf(out, ":%lu", it.s.sem_nsems);
         else
-            printf(":%lu:%lu", it.m.shm_segsz, it.m.shm_nattch);
+            fprintf(out, ":%lu:%lu", it.m.shm_segsz, it.m.shm_nattch);
     }
 }
 
@@ -378,28 +390,123 @@ static size_t groups_of(char *word, gid_t *groups)
     return count;
 }
 
-static void make_interrupt(void) { tell(syscall(SYS_kill, (pid_t)signed_number(), SIGUSR1)); }
+/* Sends a signal to each of these threads of a process, where each may be sent it, and else to none. */
+static void signal_threads(int signal)
+{
+    pid_t process = (pid_t)signed_number(), threads[THREADS_MOST];
+    size_t count = 0;
+    for (char *word; count < THREADS_MOST && (word = next_word());)
+        threads[count++] = (pid_t)strtol(word, NULL, 10);
+    for (size_t at = 0; at < count; at++)
+        if (syscall(SYS_tgkill, process, threads[at], 0)) {
+            tell(-1);
+            return;
+        }
+    for (size_t at = 0; at < count; at++)
+        syscall(SYS_tgkill, process, threads[at], signal);
+    tell(0);
+}
+
+static void make_interrupt(void) { signal_threads(SIGUSR1); }
+static void make_kill(void) { signal_threads(SIGKILL); }
 
 /* Users, groups and supplementary groups change together, or, where one is refused, none. GROUPS is = where these stay. */
 static void make_setcreds(void)
 {
     uid_t user = (uid_t)number(), old_user = geteuid();
     gid_t group = (gid_t)number(), old_group = getegid(), groups[GROUPS_MOST];
-    char *word = strtok(NULL, " ");
-    long result = setresuid((uid_t)-1, user, (uid_t)-1);
+    char *word = next_word();
+    long result = syscall(SYS_setresuid, -1, user, -1);
     if (result == 0) {
-        result = setresgid((gid_t)-1, group, (gid_t)-1);
+        result = syscall(SYS_setresgid, -1, group, -1);
         if (result == 0 && strcmp(word, "="))
-            result = setgroups(groups_of(word, groups), groups);
+            result = syscall(SYS_setgroups, groups_of(word, groups), groups);
     }
     int error = errno;
-    if (result != 0 && (setresgid((gid_t)-1, old_group, (gid_t)-1) || setresuid((uid_t)-1, old_user, (uid_t)-1)))
+    if (result != 0 && (syscall(SYS_setresgid, -1, old_group, -1) || syscall(SYS_setresuid, -1, old_user, -1)))
         _exit(7);
     errno = error;
     tell(result);
 }
 
-static void make_exit(void) { _exit(0); }
+static void serve(void);
+
+/* The pipes by which a thread is told its calls. A process has them as standard input and output, and nothing else of the one before it. */
+static void take_pipes(const char *path, int is_process)
+{
+    char name[PATH_MOST + 8];
+    snprintf(name, sizeof name, "%s.in", path);
+    in = is_process ? freopen(name, "r", stdin) : fopen(name, "re");
+    snprintf(name, sizeof name, "%s.out", path);
+    out = is_process ? freopen(name, "w", stdout) : fopen(name, "we");
+    if (!in || !out)
+        _exit(6);
+    fprintf(out, "ready %ld %ld\n", (long)getpid(), (long)syscall(SYS_gettid));
+    fflush(out);
+}
+
+static void find_program(void) { program = open("/proc/self/exe", O_PATH | O_CLOEXEC); }
+
+static void make_fork(void)
+{
+    char path[PATH_MOST];
+    snprintf(path, sizeof path, "%s", next_word());
+    long child = fork();
+    if (child == 0) {
+        /* Neither the pipes of other threads nor the end of the parent are the child's. */
+        close_range(2, ~0U, 0);
+        find_program();
+        prctl(PR_SET_PDEATHSIG, 0);
+        take_pipes(path, 1);
+        serve();
+        _exit(0);
+    }
+    tell(child);
+}
+
+static void *begin_thread(void *path)
+{
+    take_pipes(path, 0);
+    free(path);
+    serve();
+    syscall(SYS_exit, 0);
+    return NULL;
+}
+
+static void make_clone(void)
+{
+    pthread_t thread;
+    errno = pthread_create(&thread, NULL, begin_thread, strdup(next_word()));
+    tell(errno ? -1 : 0);
+}
+
+/* Capabilities stay over an exec where they are inheritable and ambient. */
+static void keep_capabilities(void)
+{
+    struct __user_cap_header_struct head = {_LINUX_CAPABILITY_VERSION_3, 0};
+    struct __user_cap_data_struct sets[2];
+    if (syscall(SYS_capget, &head, sets))
+        _exit(7);
+    for (int at = 0; at < 2; at++)
+        sets[at].inheritable = sets[at].permitted;
+    if (syscall(SYS_capset, &head, sets))
+        _exit(7);
+    for (int cap = 0; cap <= CAP_LAST_CAP; cap++)
+        if (sets[cap / 32].permitted >> cap % 32 & 1 && prctl(PR_CAP_AMBIENT, PR_CAP_AMBIENT_RAISE, cap, 0, 0))
+            _exit(7);
+}
+
+/* The program that takes this one's place answers. */
+static void make_exec(void)
+{
+    keep_capabilities();
+    if (dup2(fileno(in), 0) == 0 && dup2(fileno(out), 1) == 1)
+        syscall(SYS_execveat, program, "", (char *[]){"kernel_client", "again", NULL}, environ, AT_EMPTY_PATH);
+    tell(-1);
+}
+
+/* The thread alone ends, and with the last one the process. */
+static void make_exit(void) { syscall(SYS_exit, 0); }
 
 #define CALL(name) {#name, make_##name}
 static const struct {
@@ -409,6 +516,7 @@ static const struct {
     CALL(msgget),  CALL(msgsnd),  CALL(msgrcv),   CALL(semget), CALL(semop),  CALL(semtimedop), CALL(getval), CALL(getpid),    CALL(getncnt),
     CALL(getzcnt), CALL(setval),  CALL(getall),   CALL(setall), CALL(shmget), CALL(shmat),      CALL(shmdt),  CALL(shmread),   CALL(shmwrite),
     CALL(stat),    CALL(set),     CALL(rmid),     CALL(list),   CALL(exit),   CALL(setcreds),   CALL(interrupt),
+    CALL(kill),    CALL(fork),    CALL(clone),    CALL(exec),
 };
 
 static void make(const char *name)
@@ -434,30 +542,42 @@ static void become(char **words)
     sets[0].effective = sets[0].permitted = (unsigned)mask;
     sets[1].effective = sets[1].permitted = (unsigned)(mask >> 32);
     if (setgroups(groups_of(words[5], groups), groups) || setresgid(group, group, saved_group) ||
-        prctl(PR_SET_SECUREBITS, SECBIT_KEEP_CAPS | SECBIT_NO_SETUID_FIXUP) || setresuid(user, user, saved_user) ||
+        prctl(PR_SET_SECUREBITS, SECBIT_NOROOT | SECBIT_KEEP_CAPS | SECBIT_NO_SETUID_FIXUP) || setresuid(user, user, saved_user) ||
         syscall(SYS_capset, &head, sets) || prctl(PR_SET_PDEATHSIG, SIGKILL)) {
         perror("kernel_client");
         exit(3);
     }
 }
 
-int main(int count, char **words)
+static void serve(void)
 {
     char *line = NULL;
     size_t room = 0;
-    /* The calls that wait are interrupted all the same (signal(7)). */
-    struct sigaction action = {.sa_handler = do_nothing, .sa_flags = SA_RESTART};
-    if (count != 7)
+    while (getline(&line, &room, in) > 0) {
+        line[strcspn(line, "\n")] = '\0';
+        make(strtok_r(line, " ", &rest));
+        fputc('\n', out);
+        fflush(out);
+    }
+}
+
+int main(int count, char **words)
+{
+    /* The calls that wait are interrupted all the same (signal(7)). Who ends is nobody's to ask for. */
+    struct sigaction action = {.sa_handler = do_nothing, .sa_flags = SA_RESTART}, none = {.sa_handler = SIG_IGN};
+    int has_begun_again = count == 2;
+    if (count != 7 && !has_begun_again)
         return 2;
     sigaction(SIGUSR1, &action, NULL);
-    become(words);
-    puts("ready");
+    sigaction(SIGCHLD, &none, NULL);
+    find_program();
+    in = stdin, out = stdout;
+    if (has_begun_again)
+        prctl(PR_CAP_AMBIENT, PR_CAP_AMBIENT_CLEAR_ALL, 0, 0, 0);
+    else
+        become(words);
+    puts(has_begun_again ? "0 0" : "ready");
     fflush(stdout);
-    while (getline(&line, &room, stdin) > 0) {
-        line[strcspn(line, "\n")] = '\0';
-        make(strtok(line, " "));
-        putchar('\n');
-        fflush(stdout);
-    }
+    serve();
     return 0;
 }
