@@ -1,6 +1,7 @@
 # ./ipcsh_trace: each trace of examples/traces has its stored script and verdict, an answer that is altered in it is told,
-# and what is no trace, or none that can be taken whole, has its clear reason. A damaged line is a call that isn't taken, and the other lines
-# keep their verdict: those of checks/damaged, and random ones (lib/damaged_traces.py). A long trace is judged in time (lib/long_trace.py).
+# and what is no trace, or none that can be taken whole, has its clear reason. Process numbers are compared where they can be known, and each thread
+# is born as the trace tells. A damaged line is a call that isn't taken, and the other lines keep their verdict: those of checks/damaged, and random
+# ones (lib/damaged_traces.py). A long trace is judged in time (lib/long_trace.py).
 
 check_traces() { with_program trace_checks; }
 
@@ -17,6 +18,8 @@ trace_checks() {
     done
     attempt '8,003 calls of four threads' is_told_in_time
     bad_traces
+    process_numbers
+    births
     broken_streams
     random_damage
 }
@@ -156,9 +159,116 @@ bad_traces() {
     attempt 'values that strace hides' says 0 "not taken: strace doesn't write the values of SETALL" -- "$(written \
         'semget(0x5, 1, IPC_CREAT|0600) = 0
 semctl(0, 0, SETALL, 0x7ffd7e3c6a40) = 0')"
+    attempt 'shmdt of what an untaken shmat has attached' says 0 'line 2 .*: not taken: attached by a call that isn.t taken, line 1$' -- "$(written \
+        'shmat(7, NULL, 0) = 0x7f189c460000
+shmdt(0x7f189c460000) = 0')"
     open_calls
     attempt '65 processes' says 0 '^line 65 \[pid 65\] .*: not taken: a script has at most 64 clients, and all are taken$' "$(many_processes)"
-    attempt '65 processes are counted' says 0 '^65 calls: 64 as defined, 0 otherwise, 1 not taken; 1 process left out, since a script has at most 64 clients$' "$(many_processes)"
+    attempt '65 processes are counted' says 0 \
+        '^65 calls: 64 as defined, 0 otherwise, 1 not taken; 1 thread left out, since a script has at most 64 clients$' "$(many_processes)"
+}
+
+# process_numbers: those of a trace are compared, and no claim is made where they can't be known.
+process_numbers() {
+    while read -r numbers change; do
+        name=${numbers%=*}
+        wanted=${numbers#*=}
+        attempt "another $name than $wanted" says 1 " but the definitions give $name $wanted\$" "$(changed_daemon "$change")"
+    done <<'CHANGES'
+lpid=7530 s/shm_lpid=7530/shm_lpid=7528/
+cpid=7528 s/shm_cpid=7528/shm_cpid=7541/
+lspid=7528 s/msg_lspid=7528/msg_lspid=7530/
+lrpid=7530 s/msg_lrpid=7530/msg_lrpid=7528/
+pid=7541 /GETPID/s/= 7541$/= 7537/
+CHANGES
+    for number in 9999 7542; do
+        attempt "number $number of no process" says 0 "= $number: as defined (value 7541); pid $number isn't compared\$" \
+            "$(changed_daemon "/GETPID/s/= 7541$/= $number/")"
+    done
+    attempt 'a number without clone' says 0 '^line 3 .*: as defined (value 101); pid 100 isn.t compared$' -- "$(written \
+        '100 semget(0x5, 1, IPC_CREAT|0600) = 0
+101 semop(0, [{0, 1, 0}], 1) = 0
+100 semctl(0, 0, GETPID, NULL) = 100')"
+    attempt 'a number after SETALL' says 0 '^line 5 .*: as defined (value 0); pid 100 isn.t compared$' -- "$(traced_by_100 \
+        'semget(0x5, 1, IPC_CREAT|0600) = 0
+semctl(0, 0, IPC_STAT, {sem_perm={uid=0}, sem_nsems=1}) = 0
+semctl(0, 0, SETALL, 0x7ffd7e3c6a40) = 0
+semctl(0, 0, GETPID, NULL) = 100')"
+    attempt 'a number of another pid namespace' says 0 '^line 4 .*: as defined (queue); lspid 101 isn.t compared$' -- "$(traced_by_100 \
+        'clone(child_stack=NULL, flags=CLONE_NEWPID|SIGCHLD) = 101
+msgget(0x5, IPC_CREAT|0600) = 0
+101 msgctl(0, IPC_STAT, {msg_perm={uid=0}, msg_lspid=101}) = 0')"
+}
+
+changed_daemon() {
+    sed "$1" examples/traces/daemon.strace >"$scratch/bad.strace"
+    printf '%s\n' "$scratch/bad.strace"
+}
+
+# births: who is born how, and who takes the client of one that has ended.
+births() {
+    attempt '100 processes, one after the other' says 0 '^201 calls: 201 as defined, 0 otherwise, 0 not taken$' "$(processes_in_turn)"
+    attempt 'a process beyond the 64th' says 0 "^line 132 .*: not taken: the object isn't known since line 130, which isn't taken\$" "$(forks_alive)"
+    attempt 'a vfork counts no attachment' says 0 '^4 calls: 4 as defined' -- "$(traced_by_100 \
+        'shmget(0x5, 10, IPC_CREAT|0600) = 0
+shmat(0, NULL, 0) = 0x7f189c460000
+vfork() = 101
+101 msgget(0x5, IPC_CREAT|0600) = 0
+shmctl(0, IPC_STAT, {shm_perm={uid=0}, shm_nattch=1}) = 0')"
+    attempt 'a thread that makes execve' says 0 '^line 6 .*: as defined, it waits until its thread ends$' -- "$(thread_execs)"
+    attempt 'which ends the others' says 0 '^6 calls: 6 as defined' -- "$(thread_execs)"
+    attempt 'a clone in whose line its child is told' says 0 '^client p102 is thread 102 of process 100: ' -- "$(traced_by_100 \
+        'semget(0x5, 1, IPC_CREAT|0600) = 0
+clone3({flags=CLONE_VM|CLONE_THREADstrace: Process 102 attached
+}, 88) = 102
+[pid 102] semop(0, [{0, 1, 0}], 1) = 0
+[pid 100] semctl(0, 0, GETPID, NULL) = 100')"
+    attempt 'credentials are told' says 0 '^line 4 .*: as defined, group-bits$' -- "$(traced_by_100 \
+        'msgget(0x5, IPC_CREAT|0600) = 0
+setresuid(1, 2, 3) = 0
+msgsnd(0, {mtype=1, mtext="a"}, 1, 0) = -1 EACCES (Permission denied)')"
+}
+
+# traced_by_100 TEXT: the file that has the execve of process 100, and these lines, which are its own where no number stands in front.
+traced_by_100() {
+    {
+        echo '100 execve("./a", ["./a"], 0x7ffd00dbe1e0 /* 37 vars */) = 0'
+        printf '%s\n' "$1" | sed '/^[a-z]/s/^/100 /'
+    } >"$scratch/bad.strace"
+    printf '%s\n' "$scratch/bad.strace"
+}
+
+thread_execs() {
+    traced_by_100 'semget(0x5, 1, IPC_CREAT|0600) = 0
+shmget(0x5, 10, IPC_CREAT|0600) = 0
+shmat(0, NULL, 0) = 0x7f189c460000
+clone3({flags=CLONE_VM|CLONE_THREAD}, 88) = 102
+semop(0, [{0, -1, 0}], 1 <unfinished ...>
+102 execve("./b", ["./b"], 0x7ffd00dbe1e0 /* 37 vars */ <unfinished ...>
+100 <... semop resumed>) = ?
+100 +++ superseded by execve in pid 102 +++
+100 <... execve resumed>) = 0
+100 shmctl(0, IPC_STAT, {shm_perm={uid=0}, shm_lpid=100, shm_nattch=0}) = 0
+100 semctl(0, 0, GETNCNT, NULL) = 0
+100 +++ exited with 0 +++'
+}
+
+processes_in_turn() {
+    traced_by_100 "$(awk 'BEGIN {
+        print "semget(0x5, 1, IPC_CREAT|0600) = 0"
+        for (pid = 101; pid <= 200; pid++) {
+            printf "clone(child_stack=NULL, flags=SIGCHLD) = %d\n%d semop(0, [{0, 1, SEM_UNDO}], 1) = 0\n", pid, pid
+            printf "%d +++ exited with 0 +++\nsemctl(0, 0, GETPID, NULL) = %d\n", pid, pid
+        }
+    }')"
+}
+
+forks_alive() {
+    traced_by_100 "$(awk 'BEGIN {
+        print "shmget(0x5, 10, IPC_CREAT|0600) = 0\nshmat(0, NULL, 0) = 0x7f189c460000"
+        for (pid = 101; pid <= 164; pid++) printf "clone(child_stack=NULL, flags=SIGCHLD) = %d\n%d msgget(0x5, IPC_CREAT|0600) = 0\n", pid, pid
+        print "shmctl(0, IPC_STAT, {shm_perm={uid=0}, shm_nattch=65}) = 0"
+    }')"
 }
 
 # open_calls: calls whose end isn't in the trace.

@@ -18,6 +18,8 @@ KIND_OF = {"msg": "q", "sem": "s", "shm": "m"}
 ABSENT = re.compile(r"(IPC|MSG|SEM|SHM)_(INFO|STAT|STAT_ANY)$|SHM_(UN)?LOCK$")
 OF_CONTENTS = {"semop", "semtimedop", "GETVAL", "GETNCNT", "GETZCNT", "msgsnd", "msgrcv"}
 FIELDS = {"q": ("qnum", "qbytes"), "s": ("nsems",), "m": ("segsz", "nattch")}
+# The process numbers of a structure.
+NUMBERS = {"q": ("lspid", "lrpid"), "s": (), "m": ("cpid", "lpid")}
 POINTERS = {"EFAULT": "a bad pointer; the definitions have none", "ENOSYS": "the kernel lacks the call", "ENOMEM": "an allocation failed"}
 
 
@@ -101,8 +103,12 @@ class Objects:
         elif record.may_be_done and record.name != "shmdt" and not ABSENT.match(command_of(record)) and not command_of(record).startswith("GET"):
             ident = ident_of(record)
             hidden = command_of(record) in ("SETALL", "semop", "semtimedop", "msgsnd", "msgrcv")
-            if (kind, ident) in self.own:
-                self.unsure.setdefault((kind, ident), ("contents" if hidden else "all", str(record.place)))
+            self.lose(kind, ident, record, "contents" if hidden else "all")
+
+    def lose(self, kind, ident, record, what="all"):
+        """What an object holds, or all of it, isn't known from a record on."""
+        if (kind, ident) in self.own:
+            self.unsure.setdefault((kind, ident), (what, str(record.place)))
 
 
 def octal(found):
@@ -254,6 +260,8 @@ def words_of(step, objects, numbers):
     if record.name == "shmdt":
         if step.attachment is None and record.answer == 0:
             raise NotTaken("attached before the trace, or by a process whose fork isn't in it")
+        if step.attachment not in numbers and record.answer == 0:
+            raise NotTaken(f"attached by a call that isn't taken, {step.attachment.record.place}")
         return ["shmdt", str(numbers.get(step.attachment, NOWHERE))]
     makers = {"msgsnd": msgsnd, "msgrcv": msgrcv, "semop": semop, "semtimedop": semop, "shmat": shmat}
     return makers.get(record.name, control)(record, objects)
@@ -292,25 +300,48 @@ def status(record, row):
     return None
 
 
-def difference(record, row, objects):
+def other_numbers(record, row):
+    """The process numbers that the kernel told otherwise: for each its name, that of the definitions and that of the kernel."""
+    if command_of(record) == "GETPID":
+        return [("pid", int(row[1]), record.answer)] if int(row[1]) != record.answer else []
+    if command_of(record) != "IPC_STAT" or is_address(record.words[-1]):
+        return []
+    fields, given = value(record.words[-1]), dict(zip(row[1::2], row[2::2]))
+    names = [(it, f"{record.name[:3]}_{it}") for it in NUMBERS[kind_of(record)]]
+    found = [(it, int(given[it]), number(fields[name])) for it, name in names if name in fields]
+    return [it for it in found if it[1] != it[2]]
+
+
+def wrong_numbers(step, row, objects, plan):
+    """Those of them that nothing else explains, as the definitions have them. A call that isn't taken may have left its number."""
+    others = other_numbers(step.record, row)
+    if not others or (kind_of(step.record), ident_of(step.record)) in objects.unsure:
+        return []
+    return [f"{name} {own}" for name, own, found in others if plan.tells_apart(step.thread, name, own, found)]
+
+
+def difference(step, row, objects, plan):
     """How what the kernel answered differs from a granted call's row, None where it doesn't."""
+    record = step.record
     if record.name in kernel.KINDS:
         return objects.made(record, kind_of(record), int(row[1]))
     if record.name == "msgrcv":
         return received(record, row)
     if command_of(record) in ("GETVAL", "GETNCNT", "GETZCNT") and int(row[1]) != record.answer:
         return f"the definitions give {row[1]}"
-    return status(record, row) if command_of(record) == "IPC_STAT" else None
+    told = status(record, row) if command_of(record) == "IPC_STAT" else None
+    return told or next((f"the definitions give {it}" for it in wrong_numbers(step, row, objects, plan)), None)
 
 
-def remark(record):
+def remark(record, row):
     """What of a granted call isn't compared, or was filled in."""
+    other = [f"; {name} {found} isn't compared" for name, _, found in other_numbers(record, row.split())]
     if record.name in ("msgsnd", "msgrcv"):
         text, length = message_of(record.words[1])[1], record.answer if record.name == "msgrcv" else number(record.words[2])
         if text is None or length <= len(text.bytes):
             return ""
         return "; strace cut the text" + (", which is filled" if record.name == "msgsnd" else "")
-    return {"GETPID": "; the number isn't compared", "GETALL": "; strace doesn't write the values"}.get(command_of(record), "")
+    return "; strace doesn't write the values" if command_of(record) == "GETALL" else "".join(other)
 
 
 def shortened(row):
@@ -320,15 +351,15 @@ def shortened(row):
     return row[0] if row[0] in ("queue", "set", "segment", "values") else " ".join(row)
 
 
-def judged(record, row, objects):
+def judged(step, row, objects, plan):
     """Whether the kernel answered what the definitions give, and the text that says so."""
-    row = row.split()
+    record, row = step.record, row.split()
     if row[0] == "error":
         wanted = "EINTR" if was_interrupted(record) else record.error
         return (True, row[3]) if wanted == row[2] else (False, f"the definitions give {row[2]} by rule {row[3]}")
     if record.answer is None:
         return False, f"the definitions answer {shortened(row)}"
-    told = difference(record, row, objects)
+    told = difference(step, row, objects, plan)
     if told:
         return False, told
     if command_of(record) == "IPC_RMID":

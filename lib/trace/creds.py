@@ -47,10 +47,14 @@ class Creds:
         elif before[1] != 0 and users[1] == 0:
             self.caps = self.permitted
 
-    def after_exec(self, all_caps):
-        """What execve leaves: user 0 has all capabilities, another one none."""
+    def save(self):
+        """As execve does, makes the effective user and group the saved ones."""
         self.users = self.users[:2] + (self.user,)
         self.groups_of_ids = self.groups_of_ids[:2] + (self.group,)
+
+    def after_exec(self, all_caps):
+        """What execve leaves: user 0 has all capabilities, another one none."""
+        self.save()
         self.permitted = all_caps if 0 in self.users[:2] else frozenset()
         self.caps = all_caps if self.user == 0 else frozenset()
 

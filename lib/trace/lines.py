@@ -1,4 +1,4 @@
-"""The lines of a trace: calls, ends and births of processes, in the order in which they came, and lines that are none of these."""
+"""The lines of a trace: calls, ends and births of threads, in the order in which they came, and lines that are none of these."""
 
 import bisect
 import errno
@@ -13,17 +13,21 @@ STAMP = rf"(?:(?P<day>[0-9]{{2}}:[0-9]{{2}}:[0-9]{{2}}(?:\.[0-9]+)?)|(?P<seconds
 HEAD = re.compile(rf"\s*(?:\[pid\s+(?P<pid>[0-9]{{1,9}})\]\s+|(?P<pid_of_file>[0-9]{{1,9}})\s+)?(?:{STAMP})?(?P<rest>.*)", re.S)
 DURATION = rf"(?: <({SECONDS}|[0-9]{{1,9}})>)?"
 WHOLE = re.compile(rf"(\w+)\((.*)\)\s+=\s+(.*?){DURATION}$", re.S)
-OPEN = re.compile(r"(\w+)\((.*?) ?<unfinished \.\.\.>$", re.S)
+OPEN = re.compile(r"(\w+)\((.*?) ?<(?:unfinished|pid changed to [0-9]{1,9}) \.\.\.>$", re.S)
 CUT_SHORT = re.compile(r"(\w+)\((.*?) ?<unfinished \.\.\.>\)\s+=\s+\?$", re.S)
 CUT = re.compile(r"(\w+)\((.*)", re.S)
 RESUMED = re.compile(rf"<\.\.\. (\w+) resumed>(.*)\)\s+=\s+(.*?){DURATION}$", re.S)
-END = re.compile(r"\+\+\+ (?:exited with|killed by|superseded by execve).*\+\+\+$")
+END = re.compile(r"\+\+\+ (?:exited with|killed by).*\+\+\+$")
+# Another thread of the process makes execve, and goes on under this number.
+SUPERSEDED = re.compile(r"\+\+\+ superseded by execve in pid ([0-9]{1,9}) \+\+\+$")
 ATTACHED = re.compile(r"strace: Process ([0-9]{1,9}) attached$")
 # What a call answered, of which the name of an error is one that there is.
 NUMBER = re.compile(r"(0x[0-9a-f]{1,16}|0|[1-9][0-9]{0,18})(?![^\s(<])")
 ERROR = re.compile(r"(?:-1|\?) (E[A-Z0-9_]+)(?!\S)")
 ERRORS = {*errno.errorcode.values(), "ERESTARTSYS", "ERESTARTNOINTR", "ERESTARTNOHAND", "ERESTART_RESTARTBLOCK"}
 DAY = 86400
+# Records of threads that end.
+ENDS = ("end", "superseded")
 
 
 class BadFile(Exception):
@@ -41,14 +45,15 @@ class Place:
 
 
 class Record:
-    """What a line tells: a call, an end, a birth, or a line that isn't taken. `at` and `until` are positions among all lines: between these
-    two the kernel did what it tells."""
+    """What a line tells: a call, its end where that has a line of its own, an end or a birth of a thread, or a line that isn't taken. `at` and
+    `until` are positions among all lines: between these two the kernel did what it tells."""
 
     def __init__(self, kind, place, pid, stamp):
         self.kind, self.place, self.pid, self.stamp = kind, place, pid, stamp
         self.at = self.until = 0
         self.name, self.words, self.text, self.reason, self.open_text = "", [], "", "", None
         self.result, self.duration, self.resumed_at, self.end_stamp = None, None, None, stamp
+        self.call = self.heir = None
 
     def ended(self, result, duration):
         """The call's result, as strace writes it: `0`, `-1 EACCES (..)`, `? ERESTARTNOHAND (..)` or `?`."""
@@ -86,9 +91,9 @@ class Line:
 
     def __init__(self, place, pid, stamp, rest):
         self.place, self.stamp, self.rest = place, stamp, rest
-        found = ATTACHED.match(rest)
+        found, superseded = ATTACHED.match(rest), SUPERSEDED.match(rest)
         self.is_birth, self.is_end = found is not None, END.match(rest) is not None
-        self.pid = int(found[1]) if found else pid
+        self.pid, self.heir = int(found[1]) if found else pid, int(superseded[1]) if superseded else None
 
 
 class Clock:
@@ -132,8 +137,9 @@ def name_processes(lines):
     for line in lines:
         if line.pid is None:
             line.pid = alive[0] if len(alive) == 1 else first
-        if line.is_end and line.pid in alive:
-            alive.remove(line.pid)
+        ended = line.heir if line.heir else line.pid if line.is_end else None
+        if ended in alive:
+            alive.remove(ended)
         elif not line.is_end and line.pid not in alive and not line.rest.startswith("strace: "):
             alive.append(line.pid)
         if line.is_birth and line.pid not in alive:
@@ -144,7 +150,7 @@ class Reader:
     """The lines of one file, joined to records."""
 
     def __init__(self):
-        self.records, self.open = [], {}
+        self.records, self.open, self.superseded = [], {}, set()
 
     def read(self, line):
         rest = line.rest
@@ -154,10 +160,22 @@ class Reader:
             if line.is_end:
                 self.open.pop(line.pid, None)
             self.records.append(Record("birth" if line.is_birth else "end", line.place, line.pid, line.stamp))
+        elif line.heir:
+            self.supersede(line)
         elif RESUMED.match(rest):
             self.resume(line.place, line.pid, line.stamp, RESUMED.match(rest))
         else:
             self.begin(line.place, line.pid, line.stamp, rest)
+
+    def supersede(self, line):
+        """The execve of another thread: it doesn't return there, and what resumes it has the process's number."""
+        record = Record("superseded", line.place, line.pid, line.stamp)
+        record.name, record.heir = "execve", line.heir
+        self.records.append(record)
+        self.superseded.add(line.pid)
+        self.open.pop(line.pid, None)
+        if line.heir in self.open:
+            self.open.pop(line.heir).ended("?", None)
 
     def begin(self, place, pid, stamp, rest):
         """A line on which a call begins, or that is none of strace."""
@@ -180,6 +198,8 @@ class Reader:
 
     def resume(self, place, pid, stamp, found):
         record = self.open.pop(pid, None)
+        if record is None and found[1] == "execve" and pid in self.superseded:
+            return
         if record is None or record.name != found[1]:
             other = Record("other", place, pid, stamp)
             other.reason = f"{found[1]} resumed, whose beginning isn't there"
@@ -191,6 +211,7 @@ class Reader:
         record.ended(found[3], found[4])
         record.end_stamp, record.open_text = stamp, None
         record.resumed_at = Record("resumed", place, pid, stamp)
+        record.resumed_at.call = record
         self.records.append(record.resumed_at)
 
 
@@ -247,7 +268,7 @@ def numbered(records):
         if record.resumed_at and record.result != "?":
             record.until = record.resumed_at.at
         elif record.kind == "call" and record.result in (None, "?"):
-            record.until = next((it.at for it in records[record.at + 1 :] if it.pid == record.pid and it.kind == "end"), len(records))
+            record.until = next((it.at for it in records[record.at + 1 :] if it.pid == record.pid and it.kind in ENDS), len(records))
     return records
 
 

@@ -12,7 +12,7 @@ from c_words import BITS
 from creds import Creds
 from sessions import Stopped
 
-CALLS = "trace=%ipc,%creds,execve,?clone,?clone3,?fork,?vfork"
+CALLS = "trace=%ipc,%creds,execve,?clone,?clone3,?fork,?vfork,?unshare,?setns"
 # Of structures all is written, but of execve, whose environment is nobody's concern.
 STRACE = ["strace", "-f", "-ttt", "-s", "8192", "-e", "abbrev=execve", "-e", CALLS]
 # What the language takes of each limit.

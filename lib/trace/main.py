@@ -145,7 +145,7 @@ def text_of(record):
 
 def verdict_lines(plan, run):
     """A line for each call, in the order of the trace, and for what isn't taken."""
-    clients = [f"client {it.name} is {runs.process_text(it)}: {it.opening}, {it.source}" for it in plan.clients.all]
+    clients = [f"client {runs.thread_text(it, thread)}" for it in plan.clients.all for thread in it.threads]
     found = [(step.record, *run.verdicts[step]) for step in plan.steps if step in run.verdicts]
     told = [(record.at, f"{text_of(record)}{joined(is_so, text)}") for record, is_so, text in found]
     told += [(record.at, f"{text_of(record)}: {text}") for record, text in plan.notes + run.notes]
@@ -179,7 +179,7 @@ def last_line(plan, run):
     more += [f"{other} other line{'s' * (other != 1)} not taken"] if other else []
     if plan.clients.left_out:
         count = len(plan.clients.left_out)
-        more.append(f"{count} process{'es' * (count != 1)} left out, since a script has at most 64 clients")
+        more.append(f"{count} thread{'s' * (count != 1)} left out, since a script has at most 64 clients")
     if plan.skipped:
         names = ", ".join(sorted(plan.skipped)[:3]) + (", .." if len(plan.skipped) > 3 else "")
         more.append(f"{sum(plan.skipped.values())} calls of other kinds skipped ({names})")

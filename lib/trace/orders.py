@@ -111,7 +111,7 @@ def meet(one, other):
 
 def places(order, step):
     """Where a step may be done among those that it meets: the nearest few places, the last few, and then the others."""
-    others = sorted({it.position for it in order.between(step.since, step.until) if it is not step and meet(step, it)})
+    others = sorted({it.position for it in order.between(step.since, step.until) if it is not step and it.is_seen and meet(step, it)})
     behind, first = [it + 0.1 for it in others], [it - 0.1 for it in others[:1] if it - 0.1 > step.since]
     few = behind[:FEW] + behind[FEW:][: -FEW - 1 : -1] + first
     return tuple([it for it in some if it != step.position] for some in (few, behind[FEW:-FEW]))

@@ -2,9 +2,9 @@
 
 from copy import copy
 
-from calls import Objects, judged, octal, remark, timeout_of, words_of
-from plan import has_timeout, was_interrupted
-from processes import SYSTEM
+from calls import Objects, ident_of, judged, remark, timeout_of, words_of
+from plan import CALLS, has_timeout, was_interrupted
+from processes import SYSTEM, SYSTEM_NUMBER, identity
 from sessions import Session
 from values import DAMAGED, reason
 
@@ -35,7 +35,7 @@ class Run:
         self.objects, self.numbers, self.answers, self.waiting, self.verdicts = Objects(), {}, {}, {}, {}
         self.objects.msgmax, self.objects.semopm = (limits.get(it, DEFAULTS[it]) for it in ("msgmax", "semopm"))
         self.script, self.rows, self.notes, self.now, self.stops_at = [], [], [], 0, stops_at
-        self.deadlines, self.ended_by_exit = {}, set()
+        self.deadlines, self.ended_by_exit, self.unborn = {}, set(), {}
         self.began = next((it.stamp for it in plan.records if it.stamp is not None), 0)
 
     def carry_out(self):
@@ -53,7 +53,7 @@ class Run:
     def place(self):
         """What has come of the run so far, to go back to."""
         grown = [len(it) for it in (self.answers, self.verdicts, self.script, self.rows, self.notes)]
-        own = {name: copy(getattr(self, name)) for name in ("numbers", "waiting", "deadlines", "ended_by_exit", "now")}
+        own = {name: copy(getattr(self, name)) for name in ("numbers", "waiting", "deadlines", "ended_by_exit", "unborn", "now")}
         return self.session.place(), grown, own, self.objects.copy()
 
     def back(self, place):
@@ -73,26 +73,36 @@ class Run:
         for name, value in self.limits.items():
             if DEFAULTS.get(name) != value:
                 self.head_line(f"limit {name} {value}")
-        for client in self.plan.clients.all:
-            self.head_line(client.line(), f"{client.name} is {process_text(client)}: {client.opening}, {client.source}")
-        if self.plan.clients.keeps_one:
-            self.send(f"client {SYSTEM} 0 0 caps=SYS_ADMIN", f"{SYSTEM} interrupts calls, and lets the time pass")
+        clients, first = self.plan.clients, self.plan.threads[0]
+        for client in clients.all:
+            for thread in client.threads:
+                self.script.append(comment(thread_text(client, thread)))
+            self.head_line(f"client {client.name} {identity(first.opening) if first in client.threads else '0 0'}")
+        if clients.with_system:
+            self.send(f"client {SYSTEM} 0 0 caps=SYS_ADMIN", f"{SYSTEM} interrupts calls, kills processes that wait, and lets the time pass")
+        numbers = [f"{SYSTEM} name {SYSTEM_NUMBER}"] if clients.with_system else []
+        if first.client and (first.pid or len(clients.all) > 1):
+            numbers.append(f"{first.client.name} name {first.process.number}")
+        ends = [f"{client.name} exit" for client in clients.all if first not in client.threads]
+        for lines, why in ((ends, "threads that begin later"), (numbers, "numbers of processes as in the trace")):
+            for line in lines:
+                self.send(line, why if line is lines[0] else None)
 
-    def head_line(self, line, comment=None):
-        answer = self.send(line, comment)
+    def head_line(self, line):
+        answer = self.send(line)
         if answer:
             raise BadLine(f"'{line}' isn't taken by the language: {answer}")
 
-    def send(self, line, comment=None, step=None):
+    def send(self, line, why=None, step=None):
         """Writes a line, and keeps what it answered: to the step itself, and to those whose wait it ended. A line that the language doesn't
         take isn't left in the script."""
-        if comment:
-            self.script.append(f"# {comment}"[:160].rstrip())
+        if why:
+            self.script.append(comment(why))
         self.script.append(line)
         own = None
         for row in self.session.ask(line):
             if row.startswith("line "):
-                del self.script[-2 if comment else -1 :]
+                del self.script[-2 if why else -1 :]
                 return row
             self.rows.append(row)
             if row.startswith("  "):
@@ -116,18 +126,21 @@ class Run:
             self.send(f"clock {now}")
 
     def begin(self, step):
-        if step.kind == "untaken":
+        if step.kind in ("call", "creds") and step.thread in self.unborn:
+            self.not_taken(step, self.unborn[step.thread])
+        elif step.kind == "untaken":
             self.not_taken(step, step.why)
-            return
-        kinds = {"call": self.call, "creds": self.call, "cut": self.cut, "exit": self.exit, "inherit": self.inherit, "exec": self.exec}
-        kinds[step.kind](step)
+        elif step.thread not in self.unborn:
+            births = {"fork": self.birth, "clone": self.birth, "begin": self.birth, "lost": self.lose}
+            kinds = {"call": self.call, "creds": self.call, "cut": self.cut, "exit": self.exit, "exec": self.exec, "assume": self.assume, **births}
+            kinds[step.kind](step)
 
     def cut(self, step):
         self.objects.not_taken(step.record)
 
     def not_taken(self, step, why):
         self.verdicts[step] = (None, why)
-        if step.kind != "creds":
+        if step.record.name in CALLS:
             self.objects.not_taken(step.record)
 
     def call(self, step):
@@ -154,12 +167,14 @@ class Run:
 
     def system(self, line, step):
         """A line of the client that interrupts calls and lets time pass; False where the script hasn't this client yet."""
-        if self.plan.clients.keeps_one:
-            self.send(f"{SYSTEM} {line}", f"{step.record.place}: {step.record.result or 'it has no end'}", step)
-        return self.plan.clients.keeps_one
+        if self.plan.clients.with_system:
+            record = step.record
+            text = record.place.text if record.kind == "end" else record.result or "it has no end"
+            self.send(f"{SYSTEM} {line}", f"{record.place}: {text}", step)
+        return self.plan.clients.with_system
 
     def interrupt(self, client, step):
-        return self.system(f"interrupt {self.plan.clients.number(client)}", step)
+        return self.system(f"interrupt {client.name}", step)
 
     def finish(self, step):
         """The end of a call: here at the latest it must be answered."""
@@ -170,10 +185,10 @@ class Run:
         if step not in self.answers:
             if was_interrupted(record):
                 self.interrupt(step.client, step)
-            elif deadline is not None and record.error == "EAGAIN" and self.plan.clients.keeps_one:
+            elif deadline is not None and record.error == "EAGAIN" and self.plan.clients.with_system:
                 self.now = max(self.now, deadline)
                 self.send(f"clock {self.now}")
-                self.system(f"interrupt {len(self.plan.clients.all) + 1}", step)
+                self.system(f"interrupt {SYSTEM}", step)
         self.verdicts[step] = self.verdict(step)
         if self.stops_at is not None and self.verdicts[step][0] is False and step not in self.stops_at:
             raise Otherwise(step)
@@ -187,47 +202,63 @@ class Run:
             self.interrupt(step.client, step)
             return False, "the definitions let it wait"
         row, ended_by = self.answers[step]
-        if step in self.ended_by_exit or record.result in (None, "?") and row.endswith(" interrupted"):
-            return True, "it waits until its process ends"
+        if step in self.ended_by_exit or record.result in (None, "?") and row.endswith((" interrupted", " ended")):
+            return True, f"it waits until its {'process' if step.thread.process.count == 1 else 'thread'} ends"
         if record.result in (None, "?"):
             return OPEN, f"its answer isn't in the trace; the definitions answer {row}"
         try:
-            is_so, text = judged(record, row, self.objects)
-            more = remark(record) if is_so and not record.error else ""
+            is_so, text = judged(step, row, self.objects, self.plan)
+            more = remark(record, row) if is_so and not record.error else ""
         except DAMAGED as why:
             return None, f"its answer can't be read: {reason(why)}"
         if ended_by and ended_by is not step and is_so:
             text += f", after a wait that {cause(ended_by)} ends"
         return is_so, text + more
 
-    def exit(self, step):
-        for client in step.group.clients:
-            waiting = self.waiting.get(client.name)
-            if waiting:
-                self.ended_by_exit.add(waiting)
-                if not self.interrupt(client, step):
-                    continue
-            self.send(f"{client.name} exit", f"{step.record.place}: {step.record.place.text.strip()}", step)
+    def birth(self, step):
+        """A new process, or a new thread. What one does that the script can't begin isn't taken."""
+        name, child = step.child.client.name, step.child
+        line = {"fork": f"fork {name} {step.words[0]}", "clone": f"clone {name}", "begin": f"begin {' '.join(step.words)}"}[step.kind]
+        own = self.send(f"{step.client.name} {line}", line_of(step.record), step)
+        if own != "ok":
+            self.unborn[child] = f"the script can't begin {child}: {own}"
+            self.notes.append((step.record, f"not taken: {self.unborn[child]}"))
+            self.lose(step)
 
-    def inherit(self, step):
-        """A new process has attached what its parent has."""
-        comment = f"{step.record.place}: the new process has attached what its parent has"
+    def lose(self, step):
+        """Of what a process has attached that isn't in the script the count isn't known."""
         for it in step.attachments:
-            ident = self.objects.own.get(("m", it.ident))
-            own = self.send(f"{it.client.name} shmat {ident} {octal(it.flags)}", comment, step) if ident is not None else None
-            if own and own.startswith("attached "):
-                self.numbers[it] = int(own.split()[1])
-            elif own:
-                self.notes.append((step.record, f"not taken: the new process can't attach the segment again: {own}"))
+            self.objects.lose("m", ident_of(it.record), step.record)
+
+    def exit(self, step):
+        """A thread ends. One that waits is interrupted first, or the process killed of which it is the last."""
+        waiting = self.waiting.get(step.client.name)
+        if waiting:
+            self.ended_by_exit.add(waiting)
+            has_system = self.system(f"kill {step.thread.process.number}" if step.is_last else f"interrupt {step.client.name}", step)
+            if step.is_last or not has_system:
+                return
+        self.send(f"{step.client.name} exit", f"{step.record.place}: {step.record.place.text}", step)
 
     def exec(self, step):
-        for it in step.attachments:
-            if it in self.numbers:
-                self.send(f"{it.client.name} shmdt {self.numbers[it]}", f"{step.record.place}: execve detaches", step)
+        self.send(f"{step.client.name} exec", line_of(step.record), step)
+
+    def assume(self, step):
+        self.send(f"{step.client.name} assume {step.words[0]}", f"{step.record.place}: by now it is {step.why}", step)
 
 
-def process_text(client):
-    return f"process {client.process.pid}" if client.process.pid else "the process"
+def line_of(record):
+    """Where a record stands in the trace, and its call, or its line where it is none."""
+    return f"{record.place}: {record.text or record.place.text}"
+
+
+def comment(text):
+    return f"# {text}"[:160].rstrip()
+
+
+def thread_text(client, thread):
+    then = "" if thread is client.threads[0] else "then "
+    return f"{client.name} is {then}{thread}: {thread.opening}, {thread.source}"
 
 
 def cause(step):
