@@ -71,7 +71,7 @@ for line in ("client www-data 33 33", "client bob 1 1", "bob msgget 5 01600", "b
     it.take(line)
 for before, word in (("", "w"), ("", "b"), ("", ":sa"), ("", "q"), ("www-data ", "shm"), ("bob ", "msgs"), ("bob msgsnd ", ""), ("bob rmid ", "s"), ("bob shmdt ", ""),
                      ("bob msgget 5 ", "IPC_"), ("bob msgget 5 IPC_CREAT|", "IPC_E"), ("bob msgget ", "I"), ("help ", "semt"), (":who ", "q"), (":save ", "checks/prompt/w"),
-                     ("carol ", "m"), ("bob msgegt ", ""), ("bob exit ", "")):
+                     ("bob ", "fo"), ("bob fork ", "w"), ("bob interrupt ", "b"), ("carol ", "m"), ("bob msgegt ", ""), ("bob exit ", "")):
     print(f"{before}[{word}]", *completion.candidates(before, word, it), sep="|")' >"$scratch/out" 2>"$scratch/shown"
     why='it fails'
     [ ! -s "$scratch/shown" ] || return 1

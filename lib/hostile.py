@@ -301,7 +301,17 @@ bob ipcs -q
 alice ipcrm -Q 5
 bob ipcmk -Q -p 640
 alice interrupt 2
+alice interrupt bob
 bob setcreds 200 20 groups=10,20
+bob assume 200 20 groups=10 caps=IPC_OWNER saved=100:10
+bob exit
+alice fork bob 9
+alice clone bob
+bob begin 5 200 20
+alice begin 4 100 10 groups=20
+alice name 7
+alice exec
+bob kill 7
 clock 7
 limit semmsl 9
 client carl 1 1

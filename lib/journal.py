@@ -17,7 +17,10 @@ import sys
 import kernel
 
 CALL = re.compile(r"at (\d+) client (\d+): (.*)")
-CLIENT = re.compile(r"client (\d+): effective (\d+):(\d+) real \2:\3 saved (\d+):(\d+) groups (\S+) caps \d+(?:,(\S+))?")
+CLIENT = re.compile(r"client (\d+): (effective .*)")
+CREDS = re.compile(r"effective (\d+):(\d+) real \1:\2 saved (\d+):(\d+) groups (\S+) caps \d+(?:,(\S+))?")
+# Where a changed number would make no script: a script has no real user and group of their own, names capabilities, and has texts of whole bytes.
+FIXED = re.compile(r"effective \S+ real \S+|caps \S+|x:\S*")
 ANSWER = re.compile(r"(  )(\d+)(\.)(\d+)( client )(\d+)(: )(.*)")
 DIFFERS = re.compile(r"line (\d+), row (\d+): the journal differs")
 LIMITS = ["slots 3", "first-seq 65534", "msgmax 20", "msgmnb 40", "semmsl 2", "semopm 2", "shmmax 16"]
@@ -44,6 +47,10 @@ def any_line(dice):
         f"{name} setval {ident} 0 {dice.choice(['-1', '32768'])}",
         f"{name} ipcrm -q {ident} -M 6",
         f"{name} exit",
+        f"{name} {kernel.any_process_call(dice, ident)}",
+        f"{name} name {dice.randrange(9)}",
+        f"{name} interrupt {dice.choice(kernel.NAMES)}",
+        f"{name} assume {dice.choice('123')}00 {dice.choice('123')}0 groups=10,20 caps=SYS_ADMIN saved=100:10",
     ])
 
 
@@ -56,17 +63,28 @@ def any_script(dice):
     return "".join(f"{it}\n" for it in [f"limit {it}" for it in LIMITS if dice.random() < 0.15] + lines)
 
 
+def words_of(creds):
+    """The words of a script for credentials of a journal."""
+    user, group, suid, sgid, groups, caps = CREDS.fullmatch(creds).groups()
+    options = [f"groups={groups}"] * (groups != "-") + [f"caps={caps}"] * bool(caps) + [f"saved={suid}:{sgid}"]
+    return f"{user} {group} {' '.join(options)}"
+
+
+def call_of(text):
+    """The words of a script for a call of a journal."""
+    handed = re.fullmatch(r"(.*): (effective .*)", text)
+    return f"{handed[1]} {words_of(handed[2])}" if handed else re.sub(r"client:(\d+)", r"c\1", text)
+
+
 def script_of(lines):
     """The script that makes the calls of a journal."""
     script = lines[1:HEAD]
     for line in lines[HEAD:]:
         client, call = CLIENT.fullmatch(line), CALL.fullmatch(line)
         if client:
-            number, user, group, suid, sgid, groups, caps = client.groups()
-            options = [f"groups={groups}"] * (groups != "-") + [f"caps={caps}"] * bool(caps) + [f"saved={suid}:{sgid}"]
-            script.append(f"client c{number} {user} {group} {' '.join(options)}")
+            script.append(f"client c{client[1]} {words_of(client[2])}")
         elif call:
-            script += [f"clock {call[1]}", f"c{call[2]} {call[3]}"]
+            script += [f"clock {call[1]}", f"c{call[2]} {call_of(call[3])}"]
     return "".join(f"{it}\n" for it in script)
 
 
@@ -90,9 +108,14 @@ def changed_answer(dice, line):
 
 def changed_call(dice, line):
     """Another number, but none that is written in octal or hexadecimal."""
-    numbers = [it for it in re.finditer(r"(?<![\w.,])(?:0|[1-9]\d*)(?!\w)", line)]
+    fixed = [it.span() for it in FIXED.finditer(line)]
+    numbers = [it for it in re.finditer(r"(?<![\w.,])(?:0|[1-9]\d*)(?!\w)", line) if not any(begin < it.start() < end for begin, end in fixed)]
     it = dice.choice(numbers)
-    return f"{line[: it.start()]}{int(it[0]) + dice.choice([1, 1, 2, 60])}{line[it.end() :]}"
+    number = int(it[0]) + dice.choice([1, 1, 2, 60])
+    # A script names a client by its name, and can't name one that there isn't.
+    if line[: it.start()].endswith("client:"):
+        number %= len(kernel.NAMES)
+    return f"{line[: it.start()]}{number}{line[it.end() :]}"
 
 
 def changed(dice, lines):

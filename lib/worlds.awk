@@ -2,13 +2,13 @@
 # F/1.without up to F/N.with and F/N.without. Both scripts of a pair begin alike. Then eve makes the same calls in both, and
 # between these, in the first alone, the others call at objects that are hidden from her: she has no right on them, as none
 # of the users and groups that she may become, no attachment and nothing there that her exit would undo. eve alone moves the
-# clock. With -v all=1 the others call at any object, so that she can notice.
+# clock. She forks and clones into kid and tom, who call as others do then. With -v all=1 the others call at any object, so that she can notice.
 
 function below(n) { return int(rand() * n) }
 function one_of(list,  parts) { return parts[1 + below(split(list, parts, " "))] }
 function say(line) { print line > with; print line > without }
 
-function other() { return one_of("bob carol dan owen fay") }
+function other() { return one_of("bob carol dan owen fay kid tom") }
 function kind() { return one_of("q s m") }
 
 # The identifier of an object, or one that no object has.
@@ -40,8 +40,12 @@ function make(client, k, mode) {
     owner[k, made[k]++] = client
 }
 
+# What kid and tom have attached are eve's attachments, or copies of them.
+function has_eves(client) { return client == "kid" || client == "tom" }
+
 # A client attaches a segment, as its next number.
 function attach(client, id) {
+    if (has_eves(client)) return
     say(client " shmat " id " 0")
     segment[client, attached[client]++] = id
     if (client == "eve") seen["m", id] = 1
@@ -82,7 +86,7 @@ function use(client, hidden,  k, id, tries, line) {
         k = kind()
         id = k == "m" ? below(3) : object(k)
     } while (hidden && !all && may_notice(client, k, id) && ++tries < 9)
-    if (tries == 9 || k == "m" && id >= attached[client]) return
+    if (tries == 9 || k == "m" && (id >= attached[client] || has_eves(client))) return
     line = client " " (k == "q" ? queue_call(id) : k == "s" ? set_call(id) : segment_call(id))
     if (hidden) print line > with; else say(line)
 }
@@ -107,11 +111,27 @@ function eves_call(  which, k) {
     else say(below(20) ? "eve getall " object("s") : "eve exit")
 }
 
+# At the start a thread of hers may take on a user to whom more is open than to her.
+function assume(client) { say(client " assume " one_of("200 300 400") " 20" (below(2) ? "" : " caps=IPC_OWNER")) }
+
+# What she may call on processes and threads. A kill of a process of her user, as fay's may be, undoes what that did at objects that are hidden
+# from her.
+function eves_life(  which) {
+    which = below(13)
+    if (which < 3) say("eve fork kid " one_of("8 9 20 21"))
+    else if (which < 6) say("eve clone tom")
+    else if (which == 6) say("eve exec")
+    else if (which == 7) say("eve name " 20 + below(3))
+    else if (which < 10) say("eve kill " one_of("1 2 6 6 7 8 9 20 21"))
+    else if (which == 10) say("eve interrupt " one_of("kid tom fay bob"))
+    else say("eve interrupt " one_of("1 6 8 9 20 21"))
+}
+
 # A call of eve, which may move the clock on. The others pass a time that doesn't.
 function eves_turn(  moves) {
     moves = !below(3)
     if (moves) say("clock " (now += 1 + below(3)))
-    if (below(3)) use("eve"); else eves_call()
+    if (!below(4)) eves_life(); else if (below(3)) use("eve"); else eves_call()
     if (moves) say("clock 0")
 }
 
@@ -134,6 +154,15 @@ function pair(n,  i, client, k) {
     join("dan", 200, 20)
     join("owen", 400, 40, " caps=IPC_OWNER,SETUID,SETGID")
     join("fay", 150, 15, " groups=20")
+    join("kid", 100, 10)
+    join("tom", 100, 10)
+    for (i = 0; i < 2; i++) {
+        client = i ? "kid" : "tom"
+        say(client " exit")
+        if (!below(3)) continue
+        say(i ? "eve fork kid 8" : "eve clone tom")
+        assume(client)
+    }
     say("clock " (now = 1 + below(9)))
     for (i = 0; i < 9; i++) {
         if (!below(3)) change()

@@ -5,6 +5,7 @@ import sorts
 SORTS = {
     "att": sorts.number_32,
     "caps=": sorts.caps,
+    "client": sorts.client,
     "count": sorts.number_32,
     "flags": sorts.flags(32),
     "group": sorts.group,
@@ -21,6 +22,7 @@ SORTS = {
     "saved=": sorts.saved,
     "seconds": sorts.number_64,
     "size": sorts.size,
+    "target": sorts.process_or_client,
     "text": sorts.text,
     "type": sorts.signed(64),
     "user": sorts.user,
@@ -41,6 +43,11 @@ class Form:
         """The name of the sort of each word, None for one too many."""
         behind = words[len(self.takes) :]
         return self.takes[: len(words)] + ([self.more] * len(behind) if self.more else self.options_for(behind))
+
+    def with_clients(self, words, clients):
+        """The words, in which another client has its name of the exact language."""
+        names = self.names_for(words)
+        return [clients.get(word, word) if name in ("client", "target") else word for word, name in zip(words, names)]
 
     def options_for(self, words):
         rest, found = list(self.options), []
@@ -82,8 +89,15 @@ CALLS = table("""
     stat        kind id
     set         kind id user group mode [length]
     rmid        kind id
-    interrupt   pid
+    interrupt   target
+    kill        pid
     setcreds    user group [groups=]
+    assume      user group [groups=] [caps=] [saved=]
+    begin       pid user group [groups=] [caps=] [saved=]
+    fork        client pid
+    clone       client
+    name        pid
+    exec
     exit
     ipcs        words..
     ipcrm       words..

@@ -35,7 +35,7 @@ class Line:
             words[place] = self.client
         form, begin = form_of(words, self.client)
         if form:
-            found = forms.read(form, words[begin:])
+            found = forms.read(form, form.with_clients(words[begin:], clients))
             words[begin:] = found.words
             self.faults = [(cut.column(begin + at) + why.place, str(why)) for at, why in found.faults]
             self.is_client = found.is_good and place == 1 and self.client is not None

@@ -8,6 +8,7 @@ import pwd
 import re
 import stat
 
+import names
 from c_words import BITS, ESCAPES, FLAGS, unescaped
 
 NUMBER = re.compile(r"0x[0-9a-fA-F]+|0[0-7]*|[1-9][0-9]{0,19}")
@@ -102,6 +103,14 @@ def size(word):
 
 def any_word(word):
     return word
+
+
+def client(word):
+    return word if names.is_exact(word) else None
+
+
+def process_or_client(word):
+    return client(word) or number_32(word)
 
 
 @functools.lru_cache(None)

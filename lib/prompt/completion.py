@@ -55,6 +55,8 @@ def arguments(call, words, session):
     if call not in forms.CALLS:
         return []
     sort = forms.CALLS[call].names_for([*words, ""])[-1]
+    if sort in ("client", "target"):
+        return whole(session.now.clients())
     if sort in ("id", "att"):
         return whole(session.now.answers("id" if sort == "id" else "attached"))
     return FLAGS if sort == "flags" else whole({"key": ["IPC_PRIVATE"], "kind": KINDS}.get(sort, []))
