@@ -32,12 +32,12 @@ impl Model for Desk {
 }
 
 impl Desk {
-    /// A namespace with these limits, each in its range, and 1 to 64 clients, numbered from 0 in the order of their
+    /// A namespace with these limits, each in its range, and 1 to 4,096 clients, numbered from 0 in the order of their
     /// credentials. Its time is 0. Memory (ENOMEM) comes where an allocation fails.
     pub fn open(limits: Limits, clients: Vec<Creds>) -> Result<Desk, Memory>
         requires limits { IsTrue (are_in_range limits) }
         requires some { 1 ≤ vec_len clients }
-        requires few { vec_len clients ≤ 64 }
+        requires few { vec_len clients ≤ 4096 }
         ensures { IfOk result (λ desk. desk ≡
             record {
               history = record { limits = limits; clients = clients.items; events = [] };
@@ -54,10 +54,10 @@ impl Desk {
         })
     }
 
-    /// The same with the limits of Linux, for 1 to 64 users.
+    /// The same with the limits of Linux, for 1 to 4,096 users.
     pub fn of_users(alloc: Global, users: &[User]) -> Result<Desk, Memory>
         requires some { 1 ≤ length users.now }
-        requires few { length users.now ≤ 64 }
+        requires few { length users.now ≤ 4096 }
         ensures { IfOk result (λ desk. desk ≡
             record {
               history = record { limits = default_limits; clients = map creds_of_user users.now; events = [] };

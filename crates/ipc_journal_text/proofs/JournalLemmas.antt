@@ -223,7 +223,7 @@ free_limits l h =
     (free_limit SemOpm l.sem_opm _ h.sem_opm
     (free_limit ShmMax l.shm_max _ h.shm_max (record { all = All-nil Free })))))))
 
-free_clients : (first : ℕ) (cs : List Credentials) → first + length cs ≤ 64 → All CredsFit cs → AreFree (client_lines first cs)
+free_clients : (first : ℕ) (cs : List Credentials) → first + length cs ≤ 4096 → All CredsFit cs → AreFree (client_lines first cs)
 unfolding client_lines
 free_clients first [] h k = record { all = All-nil Free }
 free_clients first (c ∷ cs) h k =
@@ -297,11 +297,11 @@ late_row number read line h e =
 with_rows : Limits → List Credentials → List JournalRow → Read
 with_rows l cs rs = record { limits = l; clients = cs; rows = rs }
 
-client_step : (number : ℕ) (l : Limits) (done : List Credentials) (c : Credentials) (first : ℕ) → 8 ≤ number → length done < 64 → Fits32 first → CredsFit c → read_line (after number) (with_rows l done []) (client_line first c) ≡ Some (with_rows l (done ++ c ∷ []) [])
+client_step : (number : ℕ) (l : Limits) (done : List Credentials) (c : Credentials) (first : ℕ) → 8 ≤ number → length done < 4096 → Fits32 first → CredsFit c → read_line (after number) (with_rows l done []) (client_line first c) ≡ Some (with_rows l (done ++ c ∷ []) [])
 unfolding with_rows
 client_step number l done c first n d f h =
     let is : is_client (with_rows l done []) (client_line first c) ≡ true = rw (client_first first c) refl in
-    let few : (length done == 64) ≡ false = grind (arith, nat_tests) in
+    let few : (length done == 4096) ≡ false = grind (arith, nat_tests) in
     late_client (after number) (with_rows l done []) (client_line first c) (later number n) is ∙ rw (few, (client_read first c f h).reads) refl
 
 row_step : (number : ℕ) (l : Limits) (cs : List Credentials) (done : List JournalRow) (r : JournalRow) → 8 ≤ number → 1 ≤ length cs → RowFits r → read_line (after number) (with_rows l cs done) (row_line r) ≡ Some (with_rows l cs (done ++ r ∷ []))
@@ -320,7 +320,7 @@ rows_read number l cs done (r ∷ rs) n c h =
     ∙ rows_read (after number) l cs (done ++ r ∷ []) rs (omega arith) c (All-tail RowFits r rs h)
     ∙ ap (λ t. Some (with_rows l cs t)) (append_assoc done (r ∷ []) rs)
 
-clients_read : (number first : ℕ) (l : Limits) (done cs : List Credentials) (rs : List JournalRow) → 8 ≤ number → first + length cs ≤ 64 → length done ≡ first → 1 ≤ length (done ++ cs) → All CredsFit cs → All RowFits rs →
+clients_read : (number first : ℕ) (l : Limits) (done cs : List Credentials) (rs : List JournalRow) → 8 ≤ number → first + length cs ≤ 4096 → length done ≡ first → 1 ≤ length (done ++ cs) → All CredsFit cs → All RowFits rs →
     read_lines number (with_rows l done []) (client_lines first cs ++ map row_line rs) ≡ Some (with_rows l (done ++ cs) rs)
 unfolding client_lines
 clients_read number first l done [] rs n d e some h k = rw (append-nil done) (rows_read number l done [] rs n (rw (append-nil done) at some) k)

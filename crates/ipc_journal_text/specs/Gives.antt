@@ -72,7 +72,7 @@ Refuses other P = P → ⊥
 pub record IsWritten (read : Read) (text : List ℕ) : Type 0 where
   pub in_range : IsTrue (are_in_range read.limits)
   pub some : 1 ≤ length read.clients
-  pub few : length read.clients ≤ 64
+  pub few : length read.clients ≤ 4096
   pub same : text ≡ text_of read.limits read.clients read.rows
 
 -- these were read; only a lack of memory is no fault

@@ -92,11 +92,11 @@ pub record CredsFit (c : Credentials) : Type 0 where
   pub few : length c.groups ≤ groups_max
   pub caps : c.caps < 2 ^ 8
 
--- what a journal may have: limits in their ranges, 1 to 64 clients, and any rows
+-- what a journal may have: limits in their ranges, 1 to 4,096 clients, and any rows
 pub record IsJournal (limits : Limits) (clients : List Credentials) (rows : List JournalRow) : Type 0 where
   pub in_range : IsTrue (are_in_range limits)
   pub first_seq : limits.first_seq < 2 ^ 16
   pub some : 1 ≤ length clients
-  pub few : length clients ≤ 64
+  pub few : length clients ≤ 4096
   pub clients_fit : All CredsFit clients
   pub rows_fit : All RowFits rows

@@ -232,7 +232,7 @@ read_limit read line = do
 
 abbrev pub read_client : Read → List ℕ → Option Read
 read_client read line =
-    if length read.clients == 64 then None
+    if length read.clients == 4096 then None
     else option_map (λ c. record read { clients = read.clients ++ c ∷ [] }) (client_of (words_of line))
 
 abbrev pub read_row : Read → List ℕ → Option Read

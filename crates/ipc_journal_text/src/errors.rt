@@ -19,7 +19,7 @@ pub enum Wanted {
     #[error("'client N: effective UID:GID real UID:GID saved UID:GID groups GROUPS caps CAPS'")]
     Client,
     /// No further client.
-    #[error("no more than 64 clients")]
+    #[error("no more than 4,096 clients")]
     NoClient,
     /// A row.
     #[error("'at TIME client N: CALL' or '  PLACE.TURN client N: ANSWER'")]

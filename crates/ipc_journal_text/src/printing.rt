@@ -18,7 +18,7 @@ pub fn print_journal(
     clients: &[Creds],
     rows: &[JournalRow],
 ) -> Result<(), Memory>
-    requires { length clients.now ≤ 64 }
+    requires { length clients.now ≤ 4096 }
     ensures { OnOk result (string_bytes text.new ≡ string_bytes text.old ++ text_of limits.now clients.now rows.now) }
 {
     print_heading(text)?;

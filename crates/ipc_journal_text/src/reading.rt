@@ -18,7 +18,7 @@ use ipc_words::split_field;
 use std::alloc::{AllocError, Global};
 
 /// How many clients a namespace may have.
-const CLIENTS_MAX: usize = 64;
+const CLIENTS_MAX: usize = 4096;
 
 /// The line of the heading, and the last one of a limit.
 const HEADING: u64 = 1;
@@ -43,7 +43,7 @@ pub fn read_journal(alloc: Global, text: &[u8]) -> Result<Recorded, Unread>
     ensures text { IfOk result (λ read. text.now ≡ text_of read.limits read.clients.items read.rows.items) }
     ensures limits { IfOk result (λ read. IsTrue (are_in_range read.limits)) }
     ensures some { IfOk result (λ read. 1 ≤ vec_len read.clients) }
-    ensures few { IfOk result (λ read. vec_len read.clients ≤ 64) }
+    ensures few { IfOk result (λ read. vec_len read.clients ≤ 4096) }
     ensures back { ReadsBack text.now result }
 {
     let mut read = Recorded {
@@ -175,7 +175,7 @@ fn check(alloc: Global, read: &Recorded, text: &[u8]) -> Result<(), Unread>
     ensures text { OnOk result (text.now ≡ text_of read.now.limits read.now.clients.items read.now.rows.items) }
     ensures limits { OnOk result (IsTrue (are_in_range read.now.limits)) }
     ensures some { OnOk result (1 ≤ vec_len read.now.clients) }
-    ensures few { OnOk result (vec_len read.now.clients ≤ 64) }
+    ensures few { OnOk result (vec_len read.now.clients ≤ 4096) }
     ensures refused { IfErr result (λ e. Refuses e (IsWritten (shown read.now) text.now)) }
 {
     if !read.limits.in_range() {

@@ -103,7 +103,7 @@ left-alone (t ∷ ts) process zero alive = by (eqb t.process process) refl alive
 pub renamed-process : (ts : List Thread) (process p c : ℕ) → (get_or (map (renamed process p) ts) c no_thread).process ≡ (get_or ts c no_thread).process
 renamed-process [] process p c = refl
 renamed-process (t ∷ ts) process p (suc c) = renamed-process ts process p c
-renamed-process (t ∷ ts) process p zero = by (eqb t.process process)
+renamed-process (t ∷ ts) process p zero = by (runs process t)
   where
     by : (b : Bool) → (cond b (record t { pid = p }) t).process ≡ t.process
     by true = refl

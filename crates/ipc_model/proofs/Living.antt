@@ -14,7 +14,7 @@ use Rattle.ipc_call.specs.declared.replies.Waiting.{Waiting}
 use Rattle.ipc_call.specs.declared.rules.Rule.{Rule}
 use Rattle.ipc_call.specs.declared.rules.Rule.TheVariants.{ClientInUse, Ended, NoProcess}
 use Rattle.ipc_perm.specs.Access.{SetGroups}
-use Rattle.ipc_model.specs.State.{State, Thread, caller, creds_at, has_exited, has_pid, is_running, no_thread, process_at, thread_at}
+use Rattle.ipc_model.specs.State.{State, Thread, caller, creds_at, has_exited, has_pid, is_running, no_thread, process_at, runs, thread_at}
 use Rattle.ipc_model.specs.Decision.{Decision, Granted, Refused, Waits}
 use Rattle.ipc_model.specs.Decide.{decide, part_plan, plan}
 use Rattle.ipc_model.specs.Plan.{Needs}
@@ -40,7 +40,7 @@ none-ended false is = refl
 pub renamed-ended : (ts : List Thread) (process p c : ℕ) → (get_or (map (renamed process p) ts) c no_thread).has_ended ≡ (get_or ts c no_thread).has_ended
 renamed-ended [] process p c = refl
 renamed-ended (t ∷ ts) process p (suc c) = renamed-ended ts process p c
-renamed-ended (t ∷ ts) process p zero = by (eqb t.process process)
+renamed-ended (t ∷ ts) process p zero = by (runs process t)
   where
     by : (b : Bool) → (cond b (record t { pid = p }) t).has_ended ≡ t.has_ended
     by true = refl

@@ -279,7 +279,7 @@ module _ (process p : ℕ) where
   renamed-ended : (ts : List Thread) (c : ℕ) → (thread_in (map (renamed process p) ts) c).has_ended ≡ (thread_in ts c).has_ended
   renamed-ended [] c = refl
   renamed-ended (t ∷ ts) (suc c) = renamed-ended ts c
-  renamed-ended (t ∷ ts) zero = by (eqb t.process process)
+  renamed-ended (t ∷ ts) zero = by (runs process t)
     where
       by : (b : Bool) → (cond b (record t { pid = p }) t).has_ended ≡ t.has_ended
       by true = refl
@@ -291,7 +291,7 @@ module _ (process p : ℕ) where
   renamed-at (t ∷ ts) (suc c) live = renamed-at ts c live
 
   renamed-below : (next : ℕ) (t : Thread) → t.process < next → (renamed process p t).process < next
-  renamed-below next t lt = by (eqb t.process process)
+  renamed-below next t lt = by (runs process t)
     where
       by : (b : Bool) → (cond b (record t { pid = p }) t).process < next
       by true = lt
@@ -308,13 +308,13 @@ module _ (process p : ℕ) where
   numbered-renamed ts next some own numbered =
       let us = map (renamed process p) ts in
       let below = all-mapped (λ t. t.process < next) (renamed process p) (renamed-below next) ts numbered.below in
-      numbered-by ts us next next numbered below p process (λ c live. each c (sym (renamed-ended ts c) ∙ live) (eqb (thread_in ts c).process process) refl) own
+      numbered-by ts us next next numbered below p process (λ c live. each c (sym (renamed-ended ts c) ∙ live) (runs process (thread_in ts c)) refl) own
     where
-      each : (c : ℕ) → IsLive ts c → (b : Bool) → eqb (thread_in ts c).process process ≡ b
+      each : (c : ℕ) → IsLive ts c → (b : Bool) → runs process (thread_in ts c) ≡ b
           → Stayed ts (map (renamed process p) ts) c ⊎ Came p process (map (renamed process p) ts) c
       each c was true is =
           let same : thread_in (map (renamed process p) ts) c ≡ record (thread_in ts c) { pid = p } = renamed-at ts c was ∙ ap (λ b. cond b (record (thread_in ts c) { pid = p }) (thread_in ts c)) is in
-          inr (some, ap (λ (t : Thread). t.pid) same, ap (λ (t : Thread). t.process) same ∙ eqb-true (thread_in ts c).process process is)
+          inr (some, ap (λ (t : Thread). t.pid) same, ap (λ (t : Thread). t.process) same ∙ eqb-true (thread_in ts c).process process (and_parts (eqb (thread_in ts c).process process) (not (thread_in ts c).has_ended) is).0)
       each c was false isnt =
           let same : thread_in (map (renamed process p) ts) c ≡ thread_in ts c = renamed-at ts c was ∙ ap (λ b. cond b (record (thread_in ts c) { pid = p }) (thread_in ts c)) isnt in
           inl (was, ap (λ (t : Thread). t.pid) same, ap (λ (t : Thread). t.process) same)

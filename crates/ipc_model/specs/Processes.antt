@@ -8,7 +8,7 @@ use Rattle.ipc_call.specs.declared.rules.Rule.TheVariants.{BadPid, ClientInUse, 
 use Rattle.ipc_call.specs.declared.replies.Answer.TheVariants.{Done}
 use Rattle.ipc_creds.specs.Credentials.{Credentials, became, executed, groups_max}
 use Rattle.ipc_perm.specs.Access.{BecomeGroup, BecomeUser, SameUser, SetGroups}
-use Rattle.ipc_model.specs.State.{Caller, State, Thread, creds_at, has_pid, is_running, thread_at}
+use Rattle.ipc_model.specs.State.{Caller, State, Thread, creds_at, has_pid, is_running, runs, thread_at}
 use Rattle.ipc_model.specs.Semaphores.{after_exit}
 use Rattle.ipc_model.specs.Segments.{after_detaches, after_fork}
 use Rattle.ipc_model.specs.Plan.{Check, Needs, Passes, Plan, Grant, found, in_order, ◌⨾◌}
@@ -119,9 +119,9 @@ clone s who child =
     Passes (nat_lt child (length s.threads)) NoClient _
     ⨾ found (free_client s child) ClientInUse _ (λ _. Grant Done (with_client s child who.process who.pid who.creds))
 
--- the threads of a process with another pid
+-- the threads of a process with another pid; one that has ended keeps the pid that it had
 abbrev pub renamed : ℕ → ℕ → Thread → Thread
-renamed process pid thread = if thread.process == process then record thread { pid = pid } else thread
+renamed process pid thread = if runs process thread then record thread { pid = pid } else thread
 
 -- a thread of another process has the pid
 abbrev pub is_other : ℕ → ℕ → Thread → Bool

@@ -1,4 +1,5 @@
 pub mod Calling
+pub mod Earliest
 pub mod Endings
 pub mod Expiring
 pub mod Held

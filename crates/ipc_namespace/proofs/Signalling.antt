@@ -1,9 +1,10 @@
 -- The threads of a process: each is asked whether it may be signalled, and each changes.
-use Rattle.std.proofs.Common.{◌≡◌, ◌∙◌, ℕ, zero, suc, ◌+◌, ◌<◌, ◌≤◌, ap, arith, refl, sym, Bool, true, false, cond, get_or, set, List, [], ◌∷◌, ◌++◌, drop, take, length, map, Option, Some, None, Ok, Err}
-use Rattle.std.specs.Prelude.{◌==◌, filter, if◌then◌else◌}
-use Rattle.std.specs.List.{find, zip}
-use Rattle.std.proofs.lemmas.Bool.{true≢false}
-use Rattle.std.proofs.lemmas.List.{drop_all, drop_more, length-map}
+use Rattle.std.proofs.Common.{◌≡◌, ◌∙◌, ℕ, zero, suc, ◌+◌, ◌-◌, ◌<◌, ◌≤◌, ap, arith, inl, inr, refl, sym, ⊎_elim, Bool, true, false, cond, get_or, List, [], ◌∷◌, drop, length, map, Option, Some, None, Ok, Err}
+use Rattle.std.specs.Prelude.{◌⊎◌, ◌==◌, filter, if◌then◌else◌, nat_lt, not, IfNone, IfSome}
+use Rattle.std.specs.List.{zip}
+use Rattle.std.proofs.lemmas.Bool.{and_parts, cases_Bool}
+use Rattle.std.proofs.lemmas.Bool.Decides.{nat_tests}
+use Rattle.std.proofs.lemmas.List.{drop_all, drop_more}
 use Rattle.ipc_call.specs.declared.replies.Answer.TheVariants.{Done}
 use Rattle.ipc_call.specs.declared.rules.Rule.{Rule}
 use Rattle.ipc_creds.specs.Credentials.{Credentials}
@@ -13,7 +14,8 @@ use Rattle.ipc_perm.specs.declared.access.Verdict.TheVariants.{Allowed, Denied}
 use Rattle.ipc_model.specs.State.{State, Thread, creds_at, has_pid, no_thread, nobody}
 use Rattle.ipc_model.specs.Decision.{Decision, Refused, without_answer}
 use Rattle.ipc_model.specs.Plan.{Check, Grant, Needs, Plan, decision, in_order, unless}
-use Rattle.ipc_namespace.specs.Namespace.{allowed_by, mapped, signals_from}
+use Rattle.ipc_namespace.specs.Namespace.{allowed_by, signals_from}
+use Rattle.ipc_namespace.proofs.Earliest.{unturned}
 
 module _ (s : State) (pid n : ℕ) (known : n < length s.clients) (also : n < length s.threads) where
   abbrev here : Bool
@@ -53,39 +55,44 @@ module _ (s : State) (pid n : ℕ) (known : n < length s.clients) (also : n < le
 pub signals-over : (s : State) (pid n : ℕ) → length s.clients ≤ n → signals_from s pid n ≡ []
 signals-over s pid n past = ap (λ cs. map (λ c. Needs (SameUser c.euid)) (map (λ t. t.0) (filter (λ t. has_pid pid t.1) (zip cs (drop n s.threads))))) (drop_all n s.clients past)
 
--- the first that passes, of those from a place on
-module _ {A : Type 0} (test : A → Bool) (d : A) (xs : List A) (n : ℕ) (known : n < length xs) where
-  pub find-past : test (get_or xs n d) ≡ false → find test (drop (n + 1) xs) ≡ find test (drop n xs)
-  find-past isnt = sym (ap (find test) (drop_more xs n d known) ∙ ap (λ b. cond b (Some (get_or xs n d)) (find test (drop (n + 1) xs))) isnt)
+-- what is still to be asked, from the next one on
+abbrev pub signals_at : State → ℕ → Option ℕ → List Check
+signals_at s pid None = []
+signals_at s pid (Some next) = signals_from s pid next
 
-  pub find-here : test (get_or xs n d) ≡ true → find test (drop n xs) ≡ Some (get_or xs n d)
-  find-here is = ap (find test) (drop_more xs n d known) ∙ ap (λ b. cond b (Some (get_or xs n d)) (find test (drop (n + 1) xs))) is
+-- clients that aren't threads of the process are passed over
+module _ (s : State) (pid : ℕ) (all : length s.threads ≡ length s.clients) where
+  abbrev IsOther : ℕ → Type 0
+  IsOther c = has_pid pid (get_or s.threads c no_thread) ≡ false
 
--- one more is changed, and all
-module _ {A : Type 0} (f : A → A) (d : A) where
-  pub mapped-more : (n : ℕ) (xs : List A) → set (mapped f n xs) n (f (get_or (mapped f n xs) n d)) ≡ mapped f (suc n) xs
-  mapped-more zero [] = refl
-  mapped-more zero (x ∷ xs) = refl
-  mapped-more (suc n) [] = refl
-  mapped-more (suc n) (x ∷ xs) = ap (λ ys. f x ∷ ys) (mapped-more n xs)
+  past-one : (n : ℕ) → IsOther n → signals_from s pid n ≡ signals_from s pid (n + 1)
+  past-one n other = ⊎_elim
+      (λ (known : n < length s.clients).
+      let also : n < length s.threads = omega (arith, known, all) in
+      signals-step s pid n known also ∙ ap (λ b. cond b (asked s pid n known also ∷ signals_from s pid (n + 1)) (signals_from s pid (n + 1))) other)
+      (λ (over : length s.clients ≤ n). signals-over s pid n over ∙ sym (signals-over s pid (n + 1) (omega (arith, over))))
+      (below-or-not n (length s.clients))
+    where
+      below-or-not : (a b : ℕ) → (a < b) ⊎ (b ≤ a)
+      below-or-not a b = ⊎_elim (λ yes. inl (grind (arith, nat_tests))) (λ no. inr (grind (arith, nat_tests))) (cases_Bool (nat_lt a b))
 
-  pub mapped-all : (n : ℕ) (xs : List A) → length xs ≤ n → mapped f n xs ≡ map f xs
-  mapped-all zero [] few = refl
-  mapped-all zero (x ∷ xs) few = absurd (omega (arith, few))
-  mapped-all (suc n) [] few = refl
-  mapped-all (suc n) (x ∷ xs) few = ap (λ ys. f x ∷ ys) (mapped-all n xs (omega (arith, few)))
+  past-some : (k n : ℕ) → ((c : ℕ) → n ≤ c → c < n + k → IsOther c) → signals_from s pid n ≡ signals_from s pid (n + k)
+  past-some zero n others = ap (λ m. signals_from s pid m) (let e : n ≡ n + 0 = omega arith in e)
+  past-some (suc k) n others =
+      past-one n (others n (omega arith) (omega arith)) ∙ past-some k (n + 1) (λ c from to. others c (omega (arith, from)) (omega (arith, to)))
+      ∙ ap (λ m. signals_from s pid m) (let e : (n + 1) + k ≡ n + suc k = omega arith in e)
 
-  pub mapped-long : (n : ℕ) (xs : List A) → length (mapped f n xs) ≡ length xs
-  mapped-long zero xs = refl
-  mapped-long (suc n) [] = refl
-  mapped-long (suc n) (x ∷ xs) = ap suc (mapped-long n xs)
+  pub signals-next : (from : ℕ) (o : Option ℕ) → IfNone o ((c : ℕ) → from ≤ c → IsOther c) → IfSome o (λ k. from ≤ k) → IfSome o (λ k. (c : ℕ) → from ≤ c → c < k → IsOther c)
+      → signals_from s pid from ≡ signals_at s pid o
+  signals-next from None none above least =
+      past-some (length s.clients) from (λ c from to. none c from) ∙ signals-over s pid (from + length s.clients) (omega arith)
+  signals-next from (Some high) none above least =
+      let back : from + (high - from) ≡ high = omega (arith, above) in
+      past-some (high - from) from (λ c from to. least c from (omega (arith, to, back))) ∙ ap (λ m. signals_from s pid m) back
 
-  pub mapped-next : (n : ℕ) (xs : List A) → set (mapped f n xs) n (f (get_or (mapped f n xs) n d)) ≡ mapped f (n + 1) xs
-  mapped-next n xs = mapped-more n xs ∙ ap (λ k. mapped f k xs) (let e : suc n ≡ n + 1 = omega arith in e)
-
--- stands for a thread that isn't there in a list that is changed by index
-abbrev pub blank_thread : Thread
-blank_thread = record { process = 0; pid = 0; has_ended = false }
+-- a thread that has the pid lives
+pub pid-lives : (ts : List Thread) (pid c : ℕ) → has_pid pid (get_or ts c no_thread) ≡ true → (get_or ts c no_thread).has_ended ≡ false
+pid-lives ts pid c is = unturned (get_or ts c no_thread).has_ended (and_parts ((get_or ts c no_thread).pid == pid) (not (get_or ts c no_thread).has_ended) is).1
 
 pub allowed-none : (v : Verdict) → allowed_by v ≡ Ok tt → denied_rule v ≡ None
 allowed-none (Allowed _) is = refl
@@ -94,13 +101,3 @@ allowed-none (Denied rule) is = cc
 pub allowed-err : (v : Verdict) (rule : Rule) → allowed_by v ≡ Err rule → denied_rule v ≡ Some rule
 allowed-err (Allowed _) rule is = cc
 allowed-err (Denied other) rule is = let same : other ≡ rule = cc in ap (λ r. Some r) same
-
-take-front : {A : Type 0} (xs zs : List A) → take (length xs) (xs ++ zs) ≡ xs
-take-front [] zs = refl
-take-front (x ∷ xs) zs = ap (λ ys. x ∷ ys) (take-front xs zs)
-
--- a list that was changed as a whole
-pub written : {A : Type 0} (f : A → A) (len : ℕ) (xs new : List A) → len ≡ length xs → new ≡ map f xs → take len (new ++ drop (length new) xs) ≡ map f xs
-written f len xs new all is =
-    let long : len ≡ length new = all ∙ sym (ap length is ∙ length-map xs f) in
-    ap (λ k. take k (new ++ drop (length new) xs)) long ∙ take-front new (drop (length new) xs) ∙ is

@@ -1,6 +1,6 @@
 -- What is true of the calls that wait, and what a granted call ends of them.
-use Rattle.std.specs.Prelude.{◌≡◌, ⊤, Ok, Err, Result, ℕ, ◌+◌, ◌<◌, ◌==◌, Bool, true, false, List, [], ◌∷◌, drop, filter, flat_map, map, suc, zero, is_none, Option, Some, None, IfSome, IsSome, if◌then◌else◌, slice_index_or}
-use Rattle.std.specs.List.{AllByRecursion, zip}
+use Rattle.std.specs.Prelude.{◌≡◌, ⊤, Ok, Err, Result, ℕ, ◌+◌, ◌<◌, ◌==◌, Bool, true, false, List, [], ◌∷◌, drop, filter, flat_map, map, not, option_map, is_none, Option, Some, None, IfSome, IsSome, if◌then◌else◌, slice_index_or}
+use Rattle.std.specs.List.{AllByRecursion, find, zip}
 use Rattle.ipc_call.specs.declared.replies.Waiting.{Waiting}
 use Rattle.ipc_call.specs.declared.calls.Call.{Call}
 use Rattle.ipc_call.specs.declared.calls.Call.TheVariants.{MsgSnd, MsgRcv, SemOp, SemGet, GetNcnt, GetZcnt, GetVal, GetPid, GetAll, SetVal, SetAll, ShmGet, ShmAt, ShmDt, ShmRead, ShmWrite, IpcSet, IpcRmid, Interrupt, InterruptThread, Kill, Exec}
@@ -13,7 +13,7 @@ use Rattle.msg_calls.specs.WithRoom.{QueueWithRoom, one_if, room}
 use Rattle.sem_calls.specs.WithRows.{SetsWithRows, HasRow}
 use Rattle.ipc_perm.specs.declared.access.Verdict.{Verdict}
 use Rattle.ipc_perm.specs.declared.access.Verdict.TheVariants.{Allowed, Denied}
-use Rattle.ipc_model.specs.State.{Sems, State, Thread, creds_at, has_pid, no_thread, pid_at, process_at}
+use Rattle.ipc_model.specs.State.{Sems, State, Thread, creds_at, has_exited, has_pid, no_thread, pid_at, process_at, runs, thread_at}
 use Rattle.ipc_model.specs.Semaphores.{set_at}
 use Rattle.sem_set.specs.Trials.{are_in}
 use Rattle.ipc_model.specs.Plan.{Check, Needs}
@@ -128,7 +128,26 @@ cancelled_as s (cancellings.Denied kind id) w =
 cancelled_as s (cancellings.Removed kind id) w = if waits_on kind id w.call then Some Removed else None
 cancelled_as s (cancellings.Interrupted pid) w = if pid == pid_at s w.client then Some Interrupted else None
 cancelled_as s (cancellings.ThreadInterrupted client) w = if client == w.client then Some Interrupted else None
-cancelled_as s (cancellings.Ended process) w = if process == process_at s w.client then Some Ended else None
+cancelled_as s (cancellings.Ended client) w = if process_at s client == process_at s w.client then Some Ended else None
+
+-- the client is a thread of the process whose waiting calls end
+abbrev pub is_named : State → Cancelling → ℕ → Bool
+is_named s (cancellings.Interrupted pid) client = has_pid pid (thread_at s client)
+is_named s (cancellings.Ended other) client = runs (process_at s other) (thread_at s client)
+is_named s cancelling client = false
+
+-- the client that stands for a process is one of its threads
+abbrev pub lives_in : State → Cancelling → Bool
+lives_in s (cancellings.Ended client) = not (has_exited s client)
+lives_in s cancelling = true
+
+-- the client of the earliest waiting call whose client passes
+abbrev pub earliest_of : State → (ℕ → Bool) → Option ℕ
+earliest_of s test = option_map (λ w. w.client) (find (λ w. test w.client) s.parked)
+
+abbrev pub is_found : Option ℕ → ℕ → Bool
+is_found None client = false
+is_found (Some other) client = client == other
 
 -- the call was granted
 abbrev pub is_grant : Option Outcome → Bool
@@ -159,9 +178,3 @@ AreQuietBut touched s = AllByRecursion (λ w. touched w ≡ false → is_ready s
 abbrev pub signals_from : State → ℕ → ℕ → List Check
 signals_from s pid n =
     map (λ c. Needs (SameUser c.euid)) (map (λ t. t.0) (filter (λ t. has_pid pid t.1) (zip (drop n s.clients) (drop n s.threads))))
-
--- a list of which so many, the first, are changed
-abbrev pub mapped : {A : Type 0} → (A → A) → ℕ → List A → List A
-mapped f zero xs = xs
-mapped f (suc n) [] = []
-mapped f (suc n) (x ∷ xs) = f x ∷ mapped f n xs

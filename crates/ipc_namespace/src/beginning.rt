@@ -1,18 +1,17 @@
 // How processes and threads begin: begin, fork (fork(2)), clone (clone(2)), and name, by which a process takes another pid.
 
-ghost use Rattle.std.specs.Prelude.{◌≡◌, ◌<◌, ℕ, ◌+◌, length, Some, None, IfOk, is_some, true, OnOk, OnErr};
+ghost use Rattle.std.specs.Prelude.{◌≡◌, ◌<◌, ℕ, false, length, Some, None, IfOk, is_some, OnOk, OnErr};
 ghost use Rattle.ipc_model.specs.Decision.{left_by, outcome_of};
 ghost use Rattle.ipc_model.specs.Decide.{decide_alive as decision_on};
-ghost use Rattle.ipc_model.specs.Processes.{free_client, with_client};
+ghost use Rattle.ipc_model.specs.Processes.{free_client};
+ghost use Rattle.ipc_model.specs.State.{has_exited};
 ghost use Rattle.shm_seg.specs.Attachments.{attachment_at};
 
 use crate::becoming::creds_of;
 use crate::callers::caller_of;
 use crate::namespace::Namespace;
-use crate::threads::{is_of_another, is_process, rename};
-use ipc_call::{Answer, Call, Identity, Memory, Outcome, Rule, Thread};
-use ipc_creds::{Creds, GROUPS_MAX};
-use std::alloc::AllocError;
+use ipc_call::{Answer, Call, Identity, Memory, Outcome, Rule};
+use ipc_creds::GROUPS_MAX;
 
 impl Namespace {
     /// begin: the client, whose thread has ended, is the only thread of a new process. The error comes where an allocation
@@ -39,13 +38,12 @@ impl Namespace {
         if creds.groups.len() > GROUPS_MAX {
             return Ok(Err(Rule::TooManyGroups));
         }
-        if is_process(&self.threads, pid) {
+        if self.processes.is_process(pid) {
             return Ok(Err(Rule::PidInUse));
         }
-        let next = after_process(self.next)?;
-        let creds = creds_of(creds)?;
-        self.put(client, self.next, pid, creds);
-        self.next = next;
+        self.processes.next()?;
+        self.clients[client as usize] = creds_of(creds)?;
+        self.processes.begin(client, pid);
         Ok(Ok(Answer::Done))
     }
 
@@ -64,21 +62,21 @@ impl Namespace {
         if pid == 0 {
             return Ok(Err(Rule::BadPid));
         }
-        if child as usize >= self.threads.len() {
+        if child as usize >= self.clients.len() {
             return Ok(Err(Rule::NoClient));
         }
         if !self.is_free(child) {
             return Ok(Err(Rule::ClientInUse));
         }
-        if is_process(&self.threads, pid) {
+        if self.processes.is_process(pid) {
             return Ok(Err(Rule::PidInUse));
         }
-        let next = after_process(self.next)?;
+        let process = self.processes.next()?;
         let creds = self.clients[client as usize].copy()?;
-        let who = caller_of(&self.clients, &self.threads, client, self.clock);
-        self.segments.fork(&who, self.next)?;
-        self.put(child, self.next, pid, creds);
-        self.next = next;
+        let who = caller_of(&self.clients, self.processes.threads(), client, self.clock);
+        self.segments.fork(&who, process)?;
+        self.clients[child as usize] = creds;
+        self.processes.begin(child, pid);
         Ok(Ok(Answer::Done))
     }
 
@@ -87,20 +85,20 @@ impl Namespace {
     #[tactic(auto, unfolding(ipc_model::specs::Decide::part_plan))]
     pub(super) fn clone(&mut self, client: u32, child: u32) -> Result<Outcome, Memory>
         requires known { client < length self.old.clients }
+        requires alive { has_exited self.old client ≡ false }
         ensures outcome { IfOk result (λ outcome. outcome_of (decision_on self.old client (Call.Clone child)) ≡ Some outcome) }
         ensures state { OnOk result (self.new ≡ left_by self.old (decision_on self.old client (Call.Clone child))) }
         ensures parked { self.new.parked ≡ self.old.parked }
         ensures err { OnErr result (self.new ≡ self.old) }
     {
-        if child as usize >= self.threads.len() {
+        if child as usize >= self.clients.len() {
             return Ok(Err(Rule::NoClient));
         }
         if !self.is_free(child) {
             return Ok(Err(Rule::ClientInUse));
         }
-        let creds = self.clients[client as usize].copy()?;
-        let thread = self.threads[client as usize];
-        self.put(child, thread.process, thread.pid, creds);
+        self.clients[child as usize] = self.clients[client as usize].copy()?;
+        self.processes.clone(client, child);
         Ok(Ok(Answer::Done))
     }
 
@@ -108,6 +106,7 @@ impl Namespace {
     #[tactic(auto, unfolding(ipc_model::specs::Decide::part_plan))]
     pub(super) fn name(&mut self, client: u32, pid: u32) -> Outcome
         requires known { client < length self.old.clients }
+        requires alive { has_exited self.old client ≡ false }
         ensures outcome { outcome_of (decision_on self.old client (Call.Name pid)) ≡ Some result }
         ensures state { self.new ≡ left_by self.old (decision_on self.old client (Call.Name pid)) }
         ensures parked { self.new.parked ≡ self.old.parked }
@@ -115,11 +114,10 @@ impl Namespace {
         if pid == 0 {
             return Err(Rule::BadPid);
         }
-        let process = self.threads[client as usize].process;
-        if is_of_another(&self.threads, process, pid) {
+        if self.processes.is_of_another(self.process_of(client), pid) {
             return Err(Rule::PidInUse);
         }
-        rename(&mut self.threads, process, pid);
+        self.processes.rename(client, pid);
         Ok(Answer::Done)
     }
 
@@ -127,30 +125,9 @@ impl Namespace {
     fn is_free(&self, client: u32) -> bool
         ensures { result ≡ is_some (free_client self.now client) }
     {
-        match self.threads.get(client as usize) {
+        match self.processes.threads().get(client as usize) {
             None => false,
             Some(thread) => thread.has_ended,
         }
     }
-
-    /// A client whose thread has ended begins as a thread of a process.
-    fn put(&mut self, client: u32, process: u64, pid: u32, creds: Creds)
-        requires known { client < length self.old.clients }
-        requires free { is_some (free_client self.old client) ≡ true }
-        ensures { self.new ≡ with_client self.old client process pid creds }
-    {
-        self.clients[client as usize] = creds;
-        self.threads[client as usize] = Thread {
-            process,
-            pid,
-            has_ended: false,
-        };
-    }
-}
-
-/// The serial number of the process that comes after the one of this number. Memory where there is none.
-fn after_process(process: u64) -> Result<u64, Memory>
-    ensures { IfOk result (λ next. next ≡ process + 1) }
-{
-    process.checked_add(1).ok_or(AllocError)
 }

@@ -16,6 +16,5 @@ mod reserving;
 mod segment_calls;
 mod semaphore_calls;
 mod signals;
-mod threads;
 
 pub use namespace::Namespace;

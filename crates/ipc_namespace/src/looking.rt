@@ -1,11 +1,11 @@
 // What can be looked at without a call: it is no event, and asks for no right.
 
-ghost use Rattle.std.specs.Prelude.{◌≡◌, IfOk, option_copied, option_map, slice_get};
+ghost use Rattle.std.specs.Prelude.{◌≡◌, ◌<◌, ◌≤◌, ℕ, false, true, length, IfNone, IfOk, IfSome, option_copied, option_map, slice_get};
 ghost use Rattle.ipc_call.specs.declared.replies.Waiting.{Waiting as WaitingCall};
 ghost use Rattle.ipc_model.specs.Controls.{perm_of as perm_in, status_of as status_in};
 ghost use Rattle.ipc_model.specs.Semaphores.{values_at};
-ghost use Rattle.ipc_model.specs.State.{has_exited as exited_before, pid_at, process_at, waiting_of as waiting_in};
-ghost use Rattle.ipc_namespace.specs.Looking.{object_with_key, stopped_at as stopping_at};
+ghost use Rattle.ipc_model.specs.State.{has_exited as exited_before, pid_at, process_at, runs, thread_at, waiting_of as waiting_in};
+ghost use Rattle.ipc_namespace.specs.Looking.{object_with_key, soonest, stopped_at as stopping_at};
 ghost use Rattle.sem_undo.specs.Entries.{adj_of};
 ghost use Rattle.shm_seg.specs.Attachments.{attachment_at};
 
@@ -36,7 +36,7 @@ impl Namespace {
     pub fn has_exited(&self, client: u32) -> bool
         ensures { result ≡ exited_before self.now client }
     {
-        match self.threads.get(client as usize) {
+        match self.processes.threads().get(client as usize) {
             None => true,
             Some(thread) => thread.has_ended,
         }
@@ -46,17 +46,53 @@ impl Namespace {
     pub fn process_of(&self, client: u32) -> u64
         ensures { result ≡ process_at self.now client }
     {
-        process_in(&self.threads, client)
+        process_in(self.processes.threads(), client)
     }
 
     /// The pid of the client's process (getpid(2)), 0 for a client that isn't there.
     pub fn pid_of(&self, client: u32) -> u32
         ensures { result ≡ pid_at self.now client }
     {
-        match self.threads.get(client as usize) {
+        match self.processes.threads().get(client as usize) {
             None => 0,
             Some(thread) => thread.pid,
         }
+    }
+
+    /// The first client from this one on that is a thread of the process of a client whose thread hasn't ended: so all of them,
+    /// one after another. It takes no memory, and the threads of other processes cost nothing.
+    pub fn next_thread_of(&self, client: u32, from: u32) -> Option<u32>
+        requires alive { exited_before self.now client ≡ false }
+        ensures none { IfNone result ((c : ℕ) → from ≤ c → runs (process_at self.now client) (thread_at self.now c) ≡ false) }
+        ensures there { IfSome result (λ found. runs (process_at self.now client) (thread_at self.now found) ≡ true) }
+        ensures from { IfSome result (λ found. from ≤ found) }
+        ensures least { IfSome result (λ found. (c : ℕ) → from ≤ c → c < found → runs (process_at self.now client) (thread_at self.now c) ≡ false) }
+    {
+        self.processes.next_of(client, from)
+    }
+
+    /// The least client whose thread has ended, which may begin anew. The time is linear in its number.
+    pub fn free_client(&self) -> Option<u32>
+        ensures none { IfNone result ((c : ℕ) → c < length self.now.clients → exited_before self.now c ≡ false) }
+        ensures known { IfSome result (λ client. client < length self.now.clients) }
+        ensures free { IfSome result (λ client. exited_before self.now client ≡ true) }
+        ensures least { IfSome result (λ client. (c : ℕ) → c < client → exited_before self.now c ≡ false) }
+    {
+        let threads = self.processes.threads();
+        for client in 0..threads.len() {
+            if threads[client].has_ended {
+                return Some(client as u32);
+            }
+        }
+        None
+    }
+
+    /// The soonest deadline of a waiting call, in seconds of the clock (semtimedop of semop(2)). None where none has one. It is
+    /// known without a walk.
+    pub fn soonest_deadline(&self) -> Option<u64>
+        ensures { result ≡ soonest self.now.parked }
+    {
+        self.parked.soonest()
     }
 
     /// The permissions of the object of an identifier.

@@ -18,7 +18,7 @@ impl Namespace {
         ensures parked { self.new.parked ≡ self.old.parked }
         ensures err { OnErr result (self.new ≡ self.old) }
     {
-        let who = caller_of(&self.clients, &self.threads, client, self.clock);
+        let who = caller_of(&self.clients, self.processes.threads(), client, self.clock);
         self.queues.msgget(&self.limits, &who, asked)
     }
 
@@ -36,7 +36,7 @@ impl Namespace {
         ensures state { self.new ≡ left_by self.old (decision_on self.old client (Call.MsgRcv id asked.size asked.msgtyp asked.flags)) }
         ensures parked { self.new.parked ≡ self.old.parked }
     {
-        let who = caller_of(&self.clients, &self.threads, client, self.clock);
+        let who = caller_of(&self.clients, self.processes.threads(), client, self.clock);
         Ok(self.queues.msgrcv(&who, id, asked))
     }
 
@@ -57,7 +57,7 @@ impl Namespace {
         ensures parked { self.new.parked ≡ self.old.parked }
         ensures err { OnErr result (self.new ≡ self.old) }
     {
-        let who = caller_of(&self.clients, &self.threads, client, self.clock);
+        let who = caller_of(&self.clients, self.processes.threads(), client, self.clock);
         let asked = Sending {
             mtype,
             len: text.len(),

@@ -17,14 +17,13 @@ ghost use Rattle.ipc_model.specs.Decision.{without_answer};
 use crate::callers::caller_of;
 use crate::reserving::{release_in, reserve_in, reserve_row, sent_to};
 use crate::semaphore_calls::Awaited;
-use crate::threads::first_threads;
 use ipc_call::{
     Answer, Call, Completion, Get, Limits, Memory, Outcome, Receive, Rule, Sending, Settings,
-    Thread,
 };
 use ipc_creds::Creds;
 use ipc_parked::{Arrival, Parked, Touched};
 use msg_calls::Queues;
+use process_table::ProcessTable;
 use sem_calls::Sets;
 use shm_calls::Segments;
 use std::marker::Model;
@@ -35,9 +34,8 @@ use std::marker::Model;
 pub struct Namespace {
     pub(super) limits: Limits,
     pub(super) clients: Vec<Creds>,
-    pub(super) threads: Vec<Thread>,
-    /// The serial number of the process that comes next.
-    pub(super) next: u64,
+    /// What each client is a thread of.
+    pub(super) processes: ProcessTable,
     pub(super) clock: u64,
     pub(super) queues: Queues,
     pub(super) sets: Sets,
@@ -62,8 +60,8 @@ impl Model for Namespace {
     ghost view = { λ n. record {
       limits = n.limits;
       clients = n.clients.items;
-      threads = n.threads.items;
-      next = n.next;
+      threads = n.processes.threads;
+      next = n.processes.next;
       clock = n.clock;
       queues = queues_of n.queues;
       sems = sems_of n.sets;
@@ -71,24 +69,22 @@ impl Model for Namespace {
       parked = waiting n.parked;
     } };
 
-    ghost invariant = { λ n. ((vec_len n.clients ≤ 64) × (vec_len n.threads ≡ vec_len n.clients)) × AreParked (length n.clients.items) (waiting n.parked) × IsReserved n.queues (waiting n.parked) × AreHeld n.sets n.threads.items (waiting n.parked) };
+    ghost invariant = { λ n. ((vec_len n.clients ≤ 4096) × (length n.processes.threads ≡ vec_len n.clients)) × AreParked (length n.clients.items) (waiting n.parked) × IsReserved n.queues (waiting n.parked) × AreHeld n.sets n.processes.threads (waiting n.parked) };
 }
 
 impl Namespace {
-    /// A namespace before its first event, of at most 64 clients.
+    /// A namespace before its first event, of at most 4,096 clients.
     pub fn new(limits: Limits, clients: Vec<Creds>) -> Result<Namespace, Memory>
         requires limits { IsTrue (are_in_range limits) }
-        requires few { vec_len clients ≤ 64 }
+        requires few { vec_len clients ≤ 4096 }
         ensures { IfOk result (λ namespace. namespace ≡ opening limits clients.items) }
     {
         let alloc = *clients.allocator();
-        let threads = first_threads(alloc, clients.as_slice())?;
-        let next = clients.len() as u64;
+        let processes = ProcessTable::new(alloc, clients.as_slice())?;
         Ok(Namespace {
             limits,
             clients,
-            threads,
-            next,
+            processes,
             clock: 0,
             queues: Queues::new(alloc, limits.slots, limits.first_seq),
             sets: Sets::new(alloc, limits.slots, limits.first_seq),
@@ -97,10 +93,10 @@ impl Namespace {
         })
     }
 
-    /// How many clients there are, at most 64.
+    /// How many clients there are, at most 4,096.
     pub fn clients(&self) -> u32
         ensures count { result ≡ length self.now.clients }
-        ensures few { result ≤ 64 }
+        ensures few { result ≤ 4096 }
     {
         self.clients.len() as u32
     }
@@ -119,10 +115,10 @@ impl Namespace {
         self.clock
     }
 
-    /// How many waiting calls an event may end: those that wait, at most 64.
+    /// How many waiting calls an event may end: those that wait, at most 4,096.
     pub fn most_ended(&self) -> usize
         ensures count { result ≡ length self.now.parked }
-        ensures few { result ≤ 64 }
+        ensures few { result ≤ 4096 }
     {
         self.parked.len()
     }
@@ -291,6 +287,7 @@ impl Namespace {
     fn serve_on_waiting(&mut self, client: u32, call: &Call, ended: &mut Vec<Completion>) -> Outcome
         requires known { client < length self.old.clients }
         requires free { waits self.old client ≡ false }
+        requires alive { exited_before self.old client ≡ false }
         requires on_waiting { is_on_waiting_by call.now ≡ true }
         requires space { vec_len ended.old + length self.old.parked ≤ vec_capacity ended.old }
         ensures own { outcome_of (decision_alive self.old client call.now) ≡ Some result }
@@ -336,6 +333,7 @@ impl Namespace {
         requires known { client < length self.old.clients }
         requires fresh { (number : ℕ) → attachment_at self.old.shared.attached self.old.next number ≡ None }
         requires free { waits self.old client ≡ false }
+        requires may { may_call self.old client call.now ≡ true }
         requires alone { is_on_waiting_by call.now ≡ false }
         ensures own { IfOk result (λ own. own ≡ outcome_of (decision_alive self.old client call.now)) }
         ensures state { OnOk result (self.new ≡ left_by self.old (decision_alive self.old client call.now)) }
@@ -373,6 +371,7 @@ impl Namespace {
         requires known { client < length self.old.clients }
         requires fresh { (number : ℕ) → attachment_at self.old.shared.attached self.old.next number ≡ None }
         requires free { waits self.old client ≡ false }
+        requires may { may_call self.old client call.now ≡ true }
         requires alone { is_on_waiting_by call.now ≡ false }
         requires at_once { waits_at call.now ≡ None }
         ensures own { IfOk result (λ own. own ≡ outcome_of (decision_alive self.old client call.now)) }
@@ -536,7 +535,7 @@ impl Namespace {
         ensures shorter { IfSome result (λ _. length self.new.parked + 1 ≡ length self.old.parked) }
     {
         let call = self.parked.call_of(client);
-        let who = caller_of(&self.clients, &self.threads, client, self.clock);
+        let who = caller_of(&self.clients, self.processes.threads(), client, self.clock);
         match call {
             Call::MsgSnd {
                 id,
@@ -599,7 +598,7 @@ impl Namespace {
         else {
             unreachable!()
         };
-        let who = caller_of(&self.clients, &self.threads, client, self.clock);
+        let who = caller_of(&self.clients, self.processes.threads(), client, self.clock);
         self.queues.send_reserved(&who, id, mtype, text);
         Completion {
             client,

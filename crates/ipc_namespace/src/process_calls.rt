@@ -1,15 +1,15 @@
 // How threads and processes end: exit (_exit(2)), kill (kill(2) with SIGKILL) and exec (execve(2)).
 
 ghost use Rattle.std.specs.Prelude.{◌≡◌, ◌+◌, ◌<◌, ◌≤◌, ◌++◌, false, length, vec_len, vec_capacity, Some};
-ghost use Rattle.ipc_model.specs.State.{Caller as CallerOf, caller, creds_at, is_running as running, is_waiting as waits, process_at};
+ghost use Rattle.ipc_model.specs.State.{Caller as CallerOf, caller, creds_at, has_exited, is_running as running, is_waiting as waits, process_at};
 ghost use Rattle.ipc_model.specs.Decision.{left_by, outcome_of};
 ghost use Rattle.ipc_model.specs.Decide.{decide_alive as decision_on};
 ghost use Rattle.ipc_model.specs.Processes.{as_process, process_ended};
 ghost use Rattle.ipc_namespace.specs.Namespace.{left_alive as moved_by};
 
+use crate::callers::{caller_of, thread_of};
 use crate::cancelling::Cancelling;
 use crate::namespace::Namespace;
-use crate::threads::{end_all, is_running, thread_with_pid};
 use ipc_call::{Answer, Call, Completion, Outcome, Rule, Thread};
 use object_calls::Caller;
 
@@ -20,13 +20,14 @@ impl Namespace {
     pub(super) fn exit(&mut self, client: u32) -> Outcome
         requires known { client < length self.old.clients }
         requires free { waits self.old client ≡ false }
+        requires alive { has_exited self.old client ≡ false }
         ensures outcome { outcome_of (decision_on self.old client Call.Exit) ≡ Some result }
         ensures state { self.new ≡ left_by self.old (decision_on self.old client Call.Exit) }
         ensures parked { self.new.parked ≡ self.old.parked }
     {
-        self.threads[client as usize].has_ended = true;
-        let thread = self.threads[client as usize];
-        if !is_running(&self.threads, thread.process) {
+        let runs = self.processes.end(client);
+        if !runs {
+            let thread = thread_of(self.processes.threads(), client);
             self.end_process(client, thread);
         }
         Ok(Answer::Done)
@@ -44,12 +45,13 @@ impl Namespace {
         ensures few { vec_len ended.new + length self.new.parked ≡ vec_len ended.old + length self.old.parked }
         ensures space { vec_capacity ended.old ≤ vec_capacity ended.new }
     {
-        let Some(thread) = thread_with_pid(&self.threads, pid) else {
+        let Some(target) = self.processes.with_pid(pid) else {
             return Err(Rule::NoProcess);
         };
         self.may_signal(client, pid)?;
-        self.cancel(Cancelling::Ended(thread.process), ended);
-        end_all(&mut self.threads, thread.process);
+        self.cancel(Cancelling::Ended(target), ended);
+        self.processes.end_all(target);
+        let thread = thread_of(self.processes.threads(), target);
         self.end_process(client, thread);
         Ok(Answer::Done)
     }
@@ -61,6 +63,7 @@ impl Namespace {
     pub(super) fn exec(&mut self, client: u32, ended: &mut Vec<Completion>) -> Outcome
         requires known { client < length self.old.clients }
         requires free { waits self.old client ≡ false }
+        requires alive { has_exited self.old client ≡ false }
         requires space { vec_len ended.old + length self.old.parked ≤ vec_capacity ended.old }
         ensures outcome { outcome_of (decision_on self.old client Call.Exec) ≡ Some result }
         ensures state { self.new ≡ (moved_by self.old client Call.Exec).state }
@@ -68,18 +71,10 @@ impl Namespace {
         ensures few { vec_len ended.new + length self.new.parked ≡ vec_len ended.old + length self.old.parked }
         ensures space { vec_capacity ended.old ≤ vec_capacity ended.new }
     {
-        let thread = self.threads[client as usize];
-        self.cancel(Cancelling::Ended(thread.process), ended);
-        let who = Caller::new(
-            client,
-            thread.process,
-            thread.pid,
-            &self.clients[client as usize],
-            self.clock,
-        );
+        self.cancel(Cancelling::Ended(client), ended);
+        let who = caller_of(&self.clients, self.processes.threads(), client, self.clock);
         self.segments.exit(&who);
-        end_all(&mut self.threads, thread.process);
-        self.threads[client as usize] = thread;
+        self.processes.end_others(client);
         self.clients[client as usize].execute();
         Ok(Answer::Done)
     }

@@ -21,7 +21,7 @@ impl Namespace {
         ensures parked { self.new.parked ≡ self.old.parked }
         ensures err { OnErr result (self.new ≡ self.old) }
     {
-        let who = caller_of(&self.clients, &self.threads, client, self.clock);
+        let who = caller_of(&self.clients, self.processes.threads(), client, self.clock);
         match call {
             Call::ShmGet { key, size, flags } => {
                 let get = Get {

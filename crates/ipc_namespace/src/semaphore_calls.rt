@@ -50,7 +50,7 @@ impl Namespace {
         ensures parked { self.new.parked ≡ self.old.parked }
         ensures err { OnErr result (self.new ≡ self.old) }
     {
-        let who = caller_of(&self.clients, &self.threads, client, self.clock);
+        let who = caller_of(&self.clients, self.processes.threads(), client, self.clock);
         self.sets.semop(&self.limits, &who, id, ops.as_slice())
     }
 
@@ -60,12 +60,12 @@ impl Namespace {
         ensures outcome { outcome_of (decision (creds_at self.old client) (get_waiting self.old id num (is_awaited awaited num))) ≡ Some result }
         ensures same { self.new ≡ self.old }
     {
-        let who = caller_of(&self.clients, &self.threads, client, self.clock);
+        let who = caller_of(&self.clients, self.processes.threads(), client, self.clock);
         self.sets.with_semaphore(&who, id, num)?;
         Ok(Answer::Value(self.waiting_at(id, num, awaited)))
     }
 
-    /// How many calls wait at a semaphore, at most 64.
+    /// How many calls wait at a semaphore, at most 4,095.
     fn waiting_at(&mut self, id: u32, num: u32, awaited: Awaited) -> u32
         ensures count { result ≡ count_by (λ w. waits_for self.old.sems id (is_awaited awaited num) (process_at self.old w.client) w.call) self.old.parked }
         ensures same { self.new ≡ self.old }
@@ -94,7 +94,7 @@ impl Namespace {
         if *set != id {
             return false;
         }
-        let process = process_in(&self.threads, client);
+        let process = process_in(self.processes.threads(), client);
         match self.sets.stopping(process, id, ops.as_slice()) {
             None => false,
             Some(oper) => awaited.is_at(num, oper),
@@ -112,7 +112,7 @@ impl Namespace {
         ensures parked { self.new.parked ≡ self.old.parked }
         ensures err { OnErr result (self.new ≡ self.old) }
     {
-        let who = caller_of(&self.clients, &self.threads, client, self.clock);
+        let who = caller_of(&self.clients, self.processes.threads(), client, self.clock);
         match call {
             Call::SemGet { key, nsems, flags } => {
                 let get = Get {

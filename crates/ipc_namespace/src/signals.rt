@@ -12,7 +12,6 @@ ghost use Rattle.ipc_namespace.specs.Namespace.{left_alive as moved_by};
 use crate::cancelling::Cancelling;
 use crate::control_calls::allowed;
 use crate::namespace::Namespace;
-use crate::threads::{has_pid, is_process};
 use ipc_call::{Answer, Call, Completion, Outcome, Rule};
 use ipc_perm::may_interrupt;
 
@@ -44,7 +43,7 @@ impl Namespace {
         requires known { client < length self.now.clients }
         ensures { without_answer (decision (creds_at self.now client) (interrupt_by self.now (caller self.now client) pid)) ≡ Some result }
     {
-        if is_process(&self.threads, pid) {
+        if self.processes.is_process(pid) {
             self.may_signal(client, pid)
         } else {
             Err(Rule::NoProcess)
@@ -78,7 +77,7 @@ impl Namespace {
         requires known { client < length self.now.clients }
         ensures { without_answer (decision (creds_at self.now client) (interrupt_of self.now (caller self.now client) target)) ≡ Some result }
     {
-        let Some(thread) = self.threads.get(target as usize) else {
+        let Some(thread) = self.processes.threads().get(target as usize) else {
             return Err(Rule::NoClient);
         };
         if thread.has_ended {
@@ -101,10 +100,10 @@ impl Namespace {
             return Ok(());
         }
         let creds = &self.clients[client as usize];
-        for target in 0..self.threads.len() {
-            if has_pid(pid, &self.threads[target]) {
-                allowed(may_interrupt(creds, self.clients[target].euid()))?;
-            }
+        let mut next = self.processes.next_with_pid(pid, 0);
+        while let Some(target) = next {
+            allowed(may_interrupt(creds, self.clients[target as usize].euid()))?;
+            next = self.processes.next_with_pid(pid, target + 1);
         }
         Ok(())
     }

@@ -1,9 +1,12 @@
 pub mod Clients
 pub mod Covering
+pub mod Dues
+pub mod Line
 pub mod Listed
+pub mod Lists
 pub mod Marked
-pub mod Marking
 pub mod Objects
 pub mod Picking
+pub mod Ranks
 pub mod Rows
 pub mod Sooner

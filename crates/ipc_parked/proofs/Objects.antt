@@ -1,5 +1,5 @@
 -- The calls that wait on an object, among all: what a call more or less changes, and which is at an index.
-use Rattle.std.proofs.Common.{◌≡◌, ℕ, zero, suc, ◌≤◌, Bool, true, false, cond, eqb, List, [], ◌∷◌, ◌++◌, length, map, drop, slice_get, refl, sym, ap, subst, ◌∙◌, ⊎_elim, inl, inr, arith, Option, Some, None, is_some}
+use Rattle.std.proofs.Common.{◌≡◌, ℕ, zero, suc, ◌≤◌, Bool, true, false, cond, eqb, List, [], ◌∷◌, ◌++◌, length, map, drop, slice_get, refl, sym, ap, subst, ◌∙◌, ⊎_elim, inl, inr, arith, Option, Some, None}
 use Rattle.std.specs.Option.{option_map}
 use Rattle.std.specs.Borrow.{Bor}
 use Rattle.std.proofs.lemmas.Bool.{cases_Bool, true≢false, eqb-true, eq-eqb}
@@ -15,7 +15,7 @@ use Rattle.ipc_parked.specs.declared.parked.Arrival.{Arrival}
 use Rattle.ipc_parked.specs.declared.waits.Wait.{Wait}
 use Rattle.ipc_parked.specs.Waits.{clients_at, without_first}
 use Rattle.ipc_parked.specs.Parked.{is_there, arrival_of, others, waiting, entry_of, on_object, clients_on, is_at, AreDistinct, IsIndex, MayAsk, Answers, Picks}
-use Rattle.ipc_parked.proofs.Clients.{lookup_there, lookup_arrival, others_free}
+use Rattle.ipc_parked.proofs.Clients.{others_free, there_from}
 
 -- a call more
 pub clients-push : (kind : Kind) (i : ℕ) (es : List (ℕ × Arrival)) (e : ℕ × Arrival)
@@ -117,9 +117,6 @@ none_without_clients [] none = refl
 none_without_clients (e ∷ es) none = absurd (let h = ap length none in omega (arith, h))
 
 -- which is at an index
-pub there_from : (c : ℕ) (es : List (ℕ × Arrival)) (a : Arrival) → arrival_of c es ≡ Some a → is_there c es ≡ true
-there_from c es a is = sym (lookup_there c es) ∙ ap (λ (o : Option Arrival). is_some o) (lookup_arrival c es ∙ is)
-
 -- past a call of another client
 later_at : (e : ℕ × Arrival) (c : ℕ) (es : List (ℕ × Arrival)) → is_there e.0 es ≡ false → (a : Arrival) → arrival_of c es ≡ Some a → arrival_of c (e ∷ es) ≡ Some a
 later_at e c es apart a is =

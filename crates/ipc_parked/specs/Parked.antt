@@ -1,5 +1,5 @@
 -- The calls that wait, as one list of clients with their calls, in order of arrival. The list is the project's own.
-use Rattle.std.specs.Prelude.{◌≡◌, ℕ, ◌==◌, ◌&&◌, ◌⊎◌, ◌<◌, Bool, true, false, not, nat_lt, List, [], ◌∷◌, length, map, filter, Option, Some, None, slice_index_or}
+use Rattle.std.specs.Prelude.{◌≡◌, ℕ, ◌==◌, ◌&&◌, ◌⊎◌, Bool, true, false, not, nat_lt, List, [], ◌∷◌, map, filter, Option, Some, None, if◌then◌else◌}
 use Rattle.std.specs.List.{find, list_any, AllByRecursion}
 use Rattle.std.specs.Option.{option_map, unwrap_or}
 use Rattle.std.specs.Borrow.{Bor}
@@ -22,10 +22,6 @@ waiting es = map entry_of es
 abbrev pub is_there : ℕ → List (ℕ × Arrival) → Bool
 is_there client es = list_any (λ e. e.0 == client) es
 
--- each client that has a mark is marked by whether a call of it waits
-abbrev pub AreMarks : List Bool → List (ℕ × Arrival) → Type 0
-AreMarks marks es = (client : ℕ) → client < length marks → slice_index_or marks client false ≡ is_there client es
-
 -- the call of the client, with its place
 abbrev pub arrival_of : ℕ → List (ℕ × Arrival) → Option Arrival
 arrival_of client es = option_map (λ e. e.1) (find (λ e. e.0 == client) es)
@@ -35,10 +31,6 @@ abbrev pub is_before : Option ℕ → Option ℕ → Bool
 is_before None bound = false
 is_before (Some deadline) None = true
 is_before (Some deadline) (Some bound) = nat_lt deadline bound
-
--- no deadline is before the bound
-abbrev pub NoneBefore : Option ℕ → List (ℕ × Arrival) → Type 0
-NoneBefore bound es = AllByRecursion (λ e. is_before e.1.deadline bound ≡ false) es
 
 -- those of other clients
 abbrev pub others : ℕ → List (ℕ × Arrival) → List (ℕ × Arrival)
@@ -84,3 +76,17 @@ pub record Answers (post : ℕ → Bor Call → Bool → Type 0) (e : ℕ × Arr
 abbrev pub Picks : (ℕ × Arrival → Bool → Type 0) → List (ℕ × Arrival) → Option ℕ → Type 0
 Picks answers [] client = client ≡ None
 Picks answers (e ∷ es) client = ((client ≡ Some e.0) × answers e true) ⊎ (answers e false × Picks answers es client)
+
+-- the call of a client came before that of another, which is not the same
+unfoldable pub comes_before : ℕ → ℕ → List (ℕ × Arrival) → Bool
+comes_before client other [] = false
+comes_before client other (e ∷ es) = if e.0 == other then false else if e.0 == client then true else comes_before client other es
+
+-- the lesser of two deadlines, where None is after all
+abbrev pub sooner_of : Option ℕ → Option ℕ → Option ℕ
+sooner_of a b = if is_before a b then a else b
+
+-- the soonest deadline
+unfoldable pub soonest_deadline : List (ℕ × Arrival) → Option ℕ
+soonest_deadline [] = None
+soonest_deadline (e ∷ es) = sooner_of e.1.deadline (soonest_deadline es)

@@ -2,6 +2,8 @@
 //! fail for want of memory.
 #![tactic(auto)]
 
+mod arrivals;
+mod deadlines;
 mod marks;
 mod parked;
 mod touched;

@@ -1,14 +1,13 @@
-// Of which clients a call waits, and on which objects one may wait, known without a look-up.
+// On which objects a call may wait, known without a look-up.
 
-ghost use Rattle.std.specs.Prelude.{◌≡◌, [], slice_get, slice_set};
-ghost use Rattle.ipc_parked.specs.Parked.{AreMarks};
+ghost use Rattle.std.specs.Prelude.{◌≡◌, false, replicate, slice_get, slice_set};
 
 use std::marker::Model;
 
-/// How many marks there are: as many as a namespace may have clients.
+/// How many marks there are.
 pub(crate) const MARKED: usize = 64;
 
-/// A mark for each number below 64: of a client whether a call of it waits.
+/// A mark for each number below 64.
 #[derive(Debug, Drop)]
 pub(crate) struct Marks {
     marks: [bool; MARKED],
@@ -25,14 +24,14 @@ impl Model for Marks {
 impl Marks {
     /// None is set.
     pub(crate) fn none() -> Marks
-        ensures { AreMarks result [] }
+        ensures { result ≡ replicate 64 false }
     {
         Marks {
             marks: [false; MARKED],
         }
     }
 
-    /// The mark of a client or of another number, None where it has none.
+    /// The mark of a number, None where it has none.
     #[inline(always)]
     pub(crate) fn get(&self, number: u32) -> Option<bool>
         ensures { result ≡ slice_get self.now number }

@@ -1,6 +1,6 @@
 // The calls that wait.
 
-ghost use Rattle.std.specs.Prelude.{◌≡◌, ℕ, ◌<◌, true, false, [], ◌∷◌, ◌++◌, length, option_copied, slice_get, OnOk, OnErr, Some, if◌then◌else◌};
+ghost use Rattle.std.specs.Prelude.{◌≡◌, ℕ, ◌<◌, ◌==◌, true, false, [], ◌∷◌, ◌++◌, length, option_copied, slice_get, OnOk, OnErr, Some, if◌then◌else◌};
 ghost use Rattle.std.specs.Option.{option_map};
 ghost use Rattle.ipc_call.specs.declared.calls.Kind.TheVariants as kinds;
 ghost use Rattle.ipc_call.specs.declared.replies.Waiting.{Waiting as WaitingCall};
@@ -17,16 +17,17 @@ ghost use Rattle.ipc_parked.specs.Parked.{
   MayAsk,
   Answers,
   Picks,
-  NoneBefore,
-  is_before,
   clients_on,
+  comes_before,
   is_at,
+  soonest_deadline,
 };
+ghost use Rattle.ipc_parked.specs.Deadlines.{dues_of, rows_at};
 ghost use Rattle.ipc_parked.specs.Waits.{clients_at, without_first};
 
-use crate::marks::Marks;
+use crate::arrivals::Arrivals;
+use crate::deadlines::{Deadlines, Due};
 use crate::waits::Waits;
-use indexmap::IndexMap;
 use ipc_call::{Call, Kind, Memory};
 use std::alloc::Global;
 use std::marker::Model;
@@ -46,11 +47,9 @@ pub struct Arrival {
 /// project's own.
 #[derive(Debug, Drop)]
 pub struct Parked {
-    arrivals: IndexMap<u32, Arrival>,
-    /// Of which clients a call waits, for most of those that ask.
-    marks: Marks,
-    /// No deadline is before this one. None where no call has a deadline.
-    soonest: Option<u64>,
+    arrivals: Arrivals,
+    /// The deadlines of those that have one.
+    deadlines: Deadlines,
     /// The clients whose calls wait on queues, by queue.
     queues: Waits,
     /// The clients whose calls wait on semaphore sets, by set.
@@ -61,13 +60,15 @@ impl Model for Parked {
     ghost use Rattle.std.specs.Prelude.{ℕ, List};
     ghost use Rattle.ipc_parked.specs.declared.parked.Arrival.{Arrival};
     ghost use Rattle.ipc_call.specs.declared.calls.Kind.TheVariants.{Queue, Sems};
-    ghost use Rattle.ipc_parked.specs.Parked.{AreDistinct, AreMarks, IsIndex, NoneBefore};
+    ghost use Rattle.ipc_parked.specs.Arrivals.{IsLine, entries};
+    ghost use Rattle.ipc_parked.specs.Deadlines.{AreDues};
+    ghost use Rattle.ipc_parked.specs.Parked.{IsIndex};
 
     ghost Value = { List (ℕ × Arrival) };
 
-    ghost view = { λ p. p.arrivals.entries };
+    ghost view = { λ p. entries p.arrivals.stays };
 
-    ghost invariant = { λ p. AreDistinct p.arrivals.entries × NoneBefore p.soonest p.arrivals.entries × IsIndex Queue p.queues.rows p.arrivals.entries × IsIndex Sems p.sets.rows p.arrivals.entries × AreMarks p.marks p.arrivals.entries };
+    ghost invariant = { λ p. IsLine p.arrivals.next p.arrivals.stays × AreDues p.deadlines.rows p.arrivals.stays × IsIndex Queue p.queues.rows (entries p.arrivals.stays) × IsIndex Sems p.sets.rows (entries p.arrivals.stays) };
 }
 
 impl Parked {
@@ -76,16 +77,15 @@ impl Parked {
         ensures { result ≡ [] }
     {
         Parked {
-            arrivals: IndexMap::new(alloc),
-            marks: Marks::none(),
-            soonest: None,
+            arrivals: Arrivals::new(alloc),
+            deadlines: Deadlines::new(alloc),
             queues: Waits::new(alloc),
             sets: Waits::new(alloc),
         }
     }
 
     /// The call of a client waits from now on, after those that are there, none of which is the client's. The
-    /// error comes only where an allocation fails.
+    /// error comes only where an allocation fails, and after 2^64 - 1 calls.
     pub fn park(&mut self, client: u32, arrival: Arrival) -> Result<(), Memory>
         requires free { is_there client self.old ≡ false }
         ensures ok { OnOk result (self.new ≡ self.old ++ (client, arrival) ∷ []) }
@@ -94,10 +94,10 @@ impl Parked {
         let at = waits_at(&arrival.call);
         let deadline = arrival.deadline;
         reserve_row(&mut self.queues, &mut self.sets)?;
-        self.arrivals.insert(client, arrival)?;
+        self.deadlines.reserve_one()?;
+        let number = self.arrivals.push(client, arrival)?;
         add_row(&mut self.queues, &mut self.sets, at, client);
-        self.marks.set(client, true);
-        self.soonest = sooner(self.soonest, deadline);
+        add_deadline(&mut self.deadlines, deadline, number, client);
         Ok(())
     }
 
@@ -108,22 +108,20 @@ impl Parked {
         self.arrivals.len()
     }
 
-    /// Whether a call of the client waits. Of the clients below 64 this is known without a look-up. Takes no memory.
-    #[inline]
+    /// Whether a call of the client waits. Takes no memory.
+    #[inline(always)]
     pub fn is_waiting(&self, client: u32) -> bool
         ensures { result ≡ is_there client self.now }
     {
-        match self.marks.get(client) {
-            Some(waits) => waits,
-            None => self.arrivals.contains_key(&client),
-        }
+        self.arrivals.contains(client)
     }
 
     /// The client's call that waits, with its place and its deadline. Takes no memory.
     pub fn get(&self, client: u32) -> Option<&Arrival>
         ensures { option_copied result ≡ arrival_of client self.now }
     {
-        self.arrivals.get(&client)
+        let stay = self.arrivals.get(client)?;
+        Some(&stay.arrival)
     }
 
     /// The place of the event that brought the client's call, which waits. Takes no memory.
@@ -131,7 +129,7 @@ impl Parked {
         requires { is_there client self.now ≡ true }
         ensures { option_map (λ a. a.place) (arrival_of client self.now) ≡ Some result }
     {
-        self.arrivals[&client].place
+        self.arrivals.get(client).unwrap().arrival.place
     }
 
     /// The client's call, which waits. Takes no memory.
@@ -139,15 +137,15 @@ impl Parked {
         requires { is_there client self.now ≡ true }
         ensures { option_map (λ a. a.call) (arrival_of client self.now) ≡ Some result.now }
     {
-        &self.arrivals[&client].call
+        &self.arrivals.get(client).unwrap().arrival.call
     }
 
     /// The call at an index in order of arrival, from 0, with its client. Takes no memory.
     pub fn nth(&self, index: usize) -> Option<(u32, &Arrival)>
         ensures { option_map {U = WaitingCall} (λ found. entry_of (found.0, found.1.now)) result ≡ slice_get (waiting self.now) index }
     {
-        let (client, arrival) = self.arrivals.get_index(index)?;
-        Some((*client, arrival))
+        let (client, stay) = self.arrivals.nth(index)?;
+        Some((client, &stay.arrival))
     }
 
     /// The call at an index, from 0, in order of arrival among those that wait on the object of this kind and
@@ -156,7 +154,7 @@ impl Parked {
         ensures { option_map {U = WaitingCall} (λ found. entry_of (found.0, found.1.now)) result ≡ slice_get (waiting (those_on_object kind id self.now)) index }
     {
         let client = self.client_on(kind, id, index)?;
-        Some((client, &self.arrivals[&client]))
+        Some((client, &self.arrivals.get(client).unwrap().arrival))
     }
 
     /// Its client alone.
@@ -182,21 +180,42 @@ impl Parked {
         }
     }
 
-    /// The client of the earliest waiting call whose deadline is reached at a second of the clock. Where none is, this is
-    /// known without a walk. Takes no memory.
+    /// The soonest deadline of a waiting call. None where none has one. Takes no memory.
+    #[inline(always)]
+    pub fn soonest(&self) -> Option<u64>
+        ensures { result ≡ soonest_deadline self.now }
+    {
+        self.deadlines.soonest()
+    }
+
+    /// Whether the call of a client came before that of another. Takes no memory.
+    pub fn is_earlier(&self, client: u32, other: u32) -> bool
+        requires client { is_there client self.now ≡ true }
+        requires other { is_there other self.now ≡ true }
+        ensures { result ≡ comes_before client other self.now }
+    {
+        let number = self.arrivals.get(client).unwrap().number;
+        number < self.arrivals.get(other).unwrap().number
+    }
+
+    /// The client of the earliest waiting call whose deadline is reached at a second of the clock. Only calls whose deadline
+    /// is reached cost more than the first test. Takes no memory.
     #[inline(always)]
     pub fn due(&self, clock: u64) -> Option<u32>
         ensures { result ≡ option_map (λ e. e.0) (find (λ e. is_reached clock e.1.deadline) self.now) }
     {
-        if !is_due(self.soonest, clock) {
+        if !is_due(self.soonest(), clock) {
             return None;
         }
-        for (client, arrival) in self.arrivals.iter() {
-            if is_due(arrival.deadline, clock) {
-                return Some(*client);
-            }
-        }
-        None
+        self.first_due(clock)
+    }
+
+    /// The same without a first test.
+    fn first_due(&self, clock: u64) -> Option<u32>
+        ensures { result ≡ option_map (λ e. e.0) (find (λ e. is_reached clock e.1.deadline) self.now) }
+    {
+        let row = self.deadlines.first_reached(clock)?;
+        Some(row.client)
     }
 
     /// The client of the earliest waiting call that passes the test, which is asked of those that wait and no
@@ -205,9 +224,10 @@ impl Parked {
         requires { MayAsk (F.pre test) self.now }
         ensures { Picks (Answers (F.post test)) self.now result }
     {
-        for (client, arrival) in self.arrivals.iter() {
-            if test(*client, &arrival.call) {
-                return Some(*client);
+        for index in 0..self.len() {
+            let (client, arrival) = self.nth(index)?;
+            if test(client, &arrival.call) {
+                return Some(client);
             }
         }
         None
@@ -234,14 +254,16 @@ impl Parked {
         ensures call { option_map (λ a. a.call) (arrival_of client self.old) ≡ Some result }
         ensures rest { self.new ≡ others client self.old }
     {
-        let arrival = self.arrivals.shift_remove(&client).unwrap();
-        let at = waits_at(&arrival.call);
+        let stay = self.arrivals.remove(client);
+        let at = waits_at(&stay.arrival.call);
         remove_row(&mut self.queues, &mut self.sets, at, client);
-        self.marks.set(client, false);
-        if arrival.deadline.is_some() {
-            self.soonest = soonest_of(&self.arrivals);
-        }
-        arrival.call
+        remove_deadline(
+            &mut self.deadlines,
+            stay.arrival.deadline,
+            stay.number,
+            client,
+        );
+        stay.arrival.call
     }
 }
 
@@ -282,26 +304,32 @@ fn remove_row(queues: &mut Waits, sets: &mut Waits, at: Option<(Kind, u32)>, cli
     }
 }
 
-/// The soonest of the deadlines.
-fn soonest_of(arrivals: &IndexMap<u32, Arrival>) -> Option<u64>
-    ensures { NoneBefore result arrivals.now.entries }
+/// The deadline of an arrival, if any, is there from now on. There is room for it.
+fn add_deadline(deadlines: &mut Deadlines, deadline: Option<u64>, number: u64, client: u32)
+    requires room { 0 < deadlines.old.spare }
+    requires new { rows_at number deadlines.old.rows ≡ [] }
+    ensures { (n : ℕ) → rows_at n deadlines.new.rows ≡ (if number == n then dues_of client number deadline else rows_at n deadlines.old.rows) }
 {
-    let mut soonest = None;
-    for (_, arrival) in arrivals.iter() {
-        soonest = sooner(soonest, arrival.deadline);
+    if let Some(deadline) = deadline {
+        deadlines.add(Due {
+            deadline,
+            number,
+            client,
+        });
     }
-    soonest
 }
 
-/// The sooner of two deadlines, where None is after all.
-fn sooner(a: Option<u64>, b: Option<u64>) -> Option<u64>
-    ensures first { is_before a result ≡ false }
-    ensures second { is_before b result ≡ false }
+/// The deadline of an arrival, if any, is there no longer.
+fn remove_deadline(deadlines: &mut Deadlines, deadline: Option<u64>, number: u64, client: u32)
+    requires { rows_at number deadlines.old.rows ≡ dues_of client number deadline }
+    ensures { (n : ℕ) → rows_at n deadlines.new.rows ≡ (if number == n then [] else rows_at n deadlines.old.rows) }
 {
-    match (a, b) {
-        (Some(a), Some(b)) => Some(a.min(b)),
-        (Some(a), None) => Some(a),
-        (None, b) => b,
+    if let Some(deadline) = deadline {
+        deadlines.remove(Due {
+            deadline,
+            number,
+            client,
+        });
     }
 }
 

@@ -37,7 +37,7 @@ pub record IsOfHistory (s : State) (clients : List Credentials) (journal : List 
 pub record CanOpen (limits : Limits) (clients : List Credentials) : Type 0 where
   pub limited : IsTrue (are_in_range limits)
   pub some : 1 ≤ length clients
-  pub few : length clients ≤ 64
+  pub few : length clients ≤ 4096
 
 -- the reply to an event's own call, where it didn't wait
 abbrev pub own_reply : ℕ → Option Outcome → Option Reply

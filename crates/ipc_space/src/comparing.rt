@@ -21,13 +21,13 @@ pub enum Compared {
     Differs(usize, Space),
 }
 
-/// Replays the rows of a journal in a namespace with these limits, each in its range, and 1 to 64 clients, by their
+/// Replays the rows of a journal in a namespace with these limits, each in its range, and 1 to 4,096 clients, by their
 /// credentials at the start, and says as `ipc_space::replay` where they first differ. `Memory` (ENOMEM) comes where a
 /// growth was refused.
 pub fn compare(limits: Limits, clients: Vec<Creds>, rows: &[JournalRow]) -> Result<Compared, Memory>
     requires limits { IsTrue (are_in_range limits) }
     requires some { 1 ≤ vec_len clients }
-    requires few { vec_len clients ≤ 64 }
+    requires few { vec_len clients ≤ 4096 }
     ensures { IfOk result (λ compared. Compares limits clients.items rows.now compared) }
 {
     let mut space = Space::start(limits, clients)?;

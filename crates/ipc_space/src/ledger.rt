@@ -58,7 +58,7 @@ impl Ledger {
     pub fn start(limits: Limits, clients: Vec<Creds>) -> Result<Ledger, Memory>
         requires limits { IsTrue (are_in_range limits) }
         requires some { 1 ≤ vec_len clients }
-        requires few { vec_len clients ≤ 64 }
+        requires few { vec_len clients ≤ 4096 }
         ensures { IfOk result (λ ledger. ledger ≡ record { history = record { limits = limits; clients = clients.items; events = [] }; given = 0 }) }
     {
         let alloc = *clients.allocator();
@@ -130,10 +130,10 @@ impl Ledger {
         self.namespace.stopped_at(client)
     }
 
-    /// How many clients there are, at most 64. They are numbered from 0.
+    /// How many clients there are, at most 4,096. They are numbered from 0.
     pub fn clients(&self) -> u32
         ensures count { result ≡ length self.now.history.clients }
-        ensures few { result ≤ 64 }
+        ensures few { result ≤ 4096 }
     {
         self.namespace.clients()
     }
@@ -213,7 +213,7 @@ fn reserve(
     others: &mut Vec<(u32, Reply)>,
     most: usize,
 ) -> Result<(), Memory>
-    requires few { most ≤ 64 }
+    requires few { most ≤ 4096 }
     requires none_ended { ended.old.items ≡ [] }
     requires none_told { others.old.items ≡ [] }
     ensures rows { journal.new.rows ≡ journal.old.rows }
@@ -270,7 +270,7 @@ fn tell_others(
     place: u64,
     ended: &mut Vec<Completion>,
 ) -> Vec<(u32, Reply)>
-    requires few { vec_len ended.old ≤ 65 }
+    requires few { vec_len ended.old ≤ 4097 }
     requires journal_room { vec_len ended.old ≤ journal.old.room }
     requires empty { others.old.items ≡ [] }
     requires room { vec_len ended.old ≤ vec_capacity others.old }
@@ -297,7 +297,7 @@ fn tell_each(
     place: u64,
     ended: &mut Vec<Completion>,
 )
-    requires few { vec_len ended.old ≤ 65 }
+    requires few { vec_len ended.old ≤ 4097 }
     requires journal_room { vec_len ended.old ≤ journal.old.room }
     requires empty { others.old.items ≡ [] }
     requires room { vec_len ended.old ≤ vec_capacity others.old }

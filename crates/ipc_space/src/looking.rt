@@ -1,12 +1,12 @@
 // What can be looked at without a call: it is no event, and asks for no right.
 
-ghost use Rattle.std.specs.Prelude.{◌≡◌, IfOk, None, Some, if◌then◌else◌, option_copied, option_map, slice_get};
+ghost use Rattle.std.specs.Prelude.{◌≡◌, ◌<◌, ◌≤◌, ℕ, false, true, length, IfNone, IfOk, IfSome, None, Some, if◌then◌else◌, option_copied, option_map, slice_get};
 ghost use Rattle.ipc_call.specs.declared.replies.Waiting.{Waiting as WaitingCall};
 ghost use Rattle.ipc_history.specs.History.{run};
 ghost use Rattle.ipc_model.specs.Controls.{perm_of as perm_in, status_of as status_in};
 ghost use Rattle.ipc_model.specs.Semaphores.{values_at};
-ghost use Rattle.ipc_model.specs.State.{has_exited as exited_before, pid_at, process_at, waiting_of as waiting_in};
-ghost use Rattle.ipc_namespace.specs.Looking.{object_with_key, stopped_at as stopping_at};
+ghost use Rattle.ipc_model.specs.State.{has_exited as exited_before, pid_at, process_at, runs, thread_at, waiting_of as waiting_in};
+ghost use Rattle.ipc_namespace.specs.Looking.{object_with_key, soonest, stopped_at as stopping_at};
 ghost use Rattle.sem_undo.specs.Entries.{adj_of};
 ghost use Rattle.shm_seg.specs.Attachments.{attachment_at};
 
@@ -40,6 +40,42 @@ impl Space {
             return None;
         }
         Some(namespace.pid_of(client))
+    }
+
+    /// The serial number of the client's process, 0 for a client that isn't there. No two processes have the same.
+    pub fn process_of(&self, client: u32) -> u64
+        ensures { result ≡ process_at (run self.now) client }
+    {
+        self.ledger.namespace().process_of(client)
+    }
+
+    /// The first client from this one on that is a thread of the process of a client whose thread hasn't ended: so all of them,
+    /// one after another. It takes no memory.
+    pub fn next_thread_of(&self, client: u32, from: u32) -> Option<u32>
+        requires alive { exited_before (run self.now) client ≡ false }
+        ensures none { IfNone result ((c : ℕ) → from ≤ c → runs (process_at (run self.now) client) (thread_at (run self.now) c) ≡ false) }
+        ensures there { IfSome result (λ found. runs (process_at (run self.now) client) (thread_at (run self.now) found) ≡ true) }
+        ensures from { IfSome result (λ found. from ≤ found) }
+        ensures least { IfSome result (λ found. (c : ℕ) → from ≤ c → c < found → runs (process_at (run self.now) client) (thread_at (run self.now) c) ≡ false) }
+    {
+        self.ledger.namespace().next_thread_of(client, from)
+    }
+
+    /// The least client whose thread has ended, which may begin anew. The time is linear in its number.
+    pub fn free_client(&self) -> Option<u32>
+        ensures none { IfNone result ((c : ℕ) → c < length self.now.clients → exited_before (run self.now) c ≡ false) }
+        ensures known { IfSome result (λ client. client < length self.now.clients) }
+        ensures free { IfSome result (λ client. exited_before (run self.now) client ≡ true) }
+        ensures least { IfSome result (λ client. (c : ℕ) → c < client → exited_before (run self.now) c ≡ false) }
+    {
+        self.ledger.namespace().free_client()
+    }
+
+    /// The soonest deadline of a waiting call, in seconds of the clock (semtimedop of semop(2)). None where none has one.
+    pub fn soonest_deadline(&self) -> Option<u64>
+        ensures { result ≡ soonest (run self.now).parked }
+    {
+        self.ledger.namespace().soonest_deadline()
     }
 
     /// Whether the client's thread has ended.

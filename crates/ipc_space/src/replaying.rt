@@ -18,7 +18,7 @@ pub enum Replayed {
     Differs(u64),
 }
 
-/// Replays the rows of a journal in a namespace with these limits, each in its range, and 1 to 64 clients, by
+/// Replays the rows of a journal in a namespace with these limits, each in its range, and 1 to 4,096 clients, by
 /// their credentials at the start. `Same` comes with the namespace of the legal history whose journal is all of the
 /// rows, in the state that the history leads to. Where there is none, `Differs` comes with the length of the longest
 /// front of the rows that begins the journal of some legal history: the index of the first row that is wrong, and
@@ -27,7 +27,7 @@ pub enum Replayed {
 pub fn replay(limits: Limits, clients: Vec<Creds>, rows: &[JournalRow]) -> Result<Replayed, Memory>
     requires limits { IsTrue (are_in_range limits) }
     requires some { 1 ≤ vec_len clients }
-    requires few { vec_len clients ≤ 64 }
+    requires few { vec_len clients ≤ 4096 }
     ensures { IfOk result (λ replayed. Replays limits clients.items rows.now replayed) }
 {
     match compare(limits, clients, rows)? {

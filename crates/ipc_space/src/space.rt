@@ -35,14 +35,14 @@ impl Model for Space {
 }
 
 impl Space {
-    /// A namespace with these limits, each in its range, and 1 to 64 clients, numbered from 0 in the
+    /// A namespace with these limits, each in its range, and 1 to 4,096 clients, numbered from 0 in the
     /// order of their credentials. It has no object, no waiting call and an empty journal, and its clock
     /// is at 0. Memory (ENOMEM) comes where an allocation fails: the credentials are kept twice, as they are at the start
     /// and as calls change them.
     pub fn start(limits: Limits, clients: Vec<Creds>) -> Result<Space, Memory>
         requires limits { IsTrue (are_in_range limits) }
         requires some { 1 ≤ vec_len clients }
-        requires few { vec_len clients ≤ 64 }
+        requires few { vec_len clients ≤ 4096 }
         ensures { IfOk result (λ space. space ≡ record { limits = limits; clients = clients.items; events = [] }) }
     {
         let ledger = Ledger::start(limits, clients)?;
@@ -76,10 +76,10 @@ impl Space {
         self.ledger.apply(client, now, call)
     }
 
-    /// How many clients there are, at most 64. They are numbered from 0.
+    /// How many clients there are, at most 4,096. They are numbered from 0.
     pub fn clients(&self) -> u32
         ensures count { result ≡ length self.now.clients }
-        ensures few { result ≤ 64 }
+        ensures few { result ≤ 4096 }
     {
         self.ledger.clients()
     }

@@ -121,7 +121,7 @@ fn append_journal(alloc: Global, space: &Space, out: &mut String) -> Result<(), 
 fn recorded(alloc: Global, file: &Option<String>, text: &[u8]) -> Result<Recorded, Fault>
     ensures limits { IfOk result (λ read. IsTrue (are_in_range read.limits)) }
     ensures some { IfOk result (λ read. 1 ≤ vec_len read.clients) }
-    ensures few { IfOk result (λ read. vec_len read.clients ≤ 64) }
+    ensures few { IfOk result (λ read. vec_len read.clients ≤ 4096) }
 {
     match read_journal(alloc, text) {
         Ok(recorded) => Ok(recorded),
@@ -134,7 +134,7 @@ fn recorded(alloc: Global, file: &Option<String>, text: &[u8]) -> Result<Recorde
 fn replay(recorded: Recorded, out: &mut String) -> Result<u8, Fault>
     requires limits { IsTrue (are_in_range recorded.limits) }
     requires some { 1 ≤ vec_len recorded.clients }
-    requires few { vec_len recorded.clients ≤ 64 }
+    requires few { vec_len recorded.clients ≤ 4096 }
 {
     let Recorded {
         limits,

@@ -30,7 +30,7 @@ invariant_of-self c =
       c.self.invariant.0,
       (left b).parked,
       λ id. (left b).room id _ _ (ap (λ q. room c.release_in.new.queues id + one_if (is_at id q)) (sym c.sent_to.ensures) ∙ c.release_in.ensures.room id) (c.self.invariant.2 id),
-      subst (λ ws. AreHeld c.self.inside.sets c.self.inside.threads.items ws) (sym (left b).rest) (held-filter c.self.inside.sets c.self.inside.threads.items (λ w. not (w.client == c.args.client)) (waiting c.self.inside.parked) c.self.invariant.3),
+      subst (λ ws. AreHeld c.self.inside.sets c.self.inside.processes.threads ws) (sym (left b).rest) (held-filter c.self.inside.sets c.self.inside.processes.threads (λ w. not (w.client == c.args.client)) (waiting c.self.inside.parked) c.self.invariant.3),
     )
 
 pub returns-clause-state : goal.returns-clause-state

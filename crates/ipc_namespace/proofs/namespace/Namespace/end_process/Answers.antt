@@ -17,7 +17,7 @@ invariant_of-self c =
       c.self.invariant.0,
       c.self.invariant.1,
       c.self.invariant.2,
-      held-gone n.sets c.exit.new.self n.threads.items process none stay (waiting n.parked) c.self.invariant.3,
+      held-gone n.sets c.exit.new.self n.processes.threads process none stay (waiting n.parked) c.self.invariant.3,
     )
 
 pub returns : goal.returns
@@ -31,8 +31,8 @@ returns c =
     (λ i. record {
       limits = n.limits;
       clients = n.clients.items;
-      threads = n.threads.items;
-      next = n.next;
+      threads = n.processes.threads;
+      next = n.processes.next;
       clock = n.clock;
       queues = queues_of n.queues;
       sems = c.exit.ensures.sems i;

@@ -72,7 +72,7 @@ rest_is c =
 
 called : (c : After-caller_of-who) → c.caller_of-who.result ≡ caller (rest c) c.args.client
 unfolding rest
-called c = let e = c.caller_of-who.ensures in rw (c.deref.ensures.value, c.deref-2.ensures.value) at e
+called c = let e = c.caller_of-who.ensures in rw (c.deref.ensures.value, c.threads.ensures) at e
 
 back : (c : After-caller_of-who) → to_z w64 (of_z w64 c.in-MsgSnd.mtype) ≡ c.in-MsgSnd.mtype
 back c = to_z-of_z w64 c.in-MsgSnd.mtype (let fits : SFits w64 c.in-MsgSnd.mtype = search rules in fits)
@@ -105,7 +105,7 @@ invariant_of-self c =
       c.self.invariant.0,
       (left b).parked,
       λ id. (left b).room id _ _ (ap (λ (call : Call). room c.send_reserved.new.self id + one_if (is_send_to id call)) c.in-MsgSnd.is ∙ c.send_reserved.ensures.room id) (c.self.invariant.2 id),
-      subst (λ ws. AreHeld c.self.inside.sets c.self.inside.threads.items ws) (sym (left b).rest) (held-filter c.self.inside.sets c.self.inside.threads.items (λ w. not (w.client == c.args.client)) (waiting c.self.inside.parked) c.self.invariant.3),
+      subst (λ ws. AreHeld c.self.inside.sets c.self.inside.processes.threads ws) (sym (left b).rest) (held-filter c.self.inside.sets c.self.inside.processes.threads (λ w. not (w.client == c.args.client)) (waiting c.self.inside.parked) c.self.invariant.3),
     )
 
 pub returns-clause-ended : goal.returns-clause-ended

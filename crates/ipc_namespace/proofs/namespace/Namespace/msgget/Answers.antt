@@ -9,7 +9,7 @@ use Rattle.ipc_namespace.proofs.namespace.Namespace.msgget.Goals as goal
 use Rattle.ipc_namespace.proofs.namespace.Namespace.msgget.Goals.{After-msgget}
 
 called : (c : After-msgget) → c.caller_of-who.result ≡ caller (the_view c.self.inside) c.args.client
-called c = let e = c.caller_of-who.ensures in rw (c.deref.ensures.value, c.deref-2.ensures.value) at e
+called c = let e = c.caller_of-who.ensures in rw (c.deref.ensures.value, c.threads.ensures) at e
 
 pub returns-clause-outcome : goal.returns-clause-outcome
 returns-clause-outcome c =

@@ -17,7 +17,7 @@ use Rattle.ipc_namespace.proofs.namespace.Namespace.msgsnd.Goals as goal
 use Rattle.ipc_namespace.proofs.namespace.Namespace.msgsnd.Goals.{After-decide_send}
 
 called : (c : After-decide_send) → c.caller_of-who.result ≡ caller (the_view c.self.inside) c.args.client
-called c = let e = c.caller_of-who.ensures in rw (c.deref.ensures.value, c.deref-2.ensures.value) at e
+called c = let e = c.caller_of-who.ensures in rw (c.deref.ensures.value, c.threads.ensures) at e
 
 abbrev asked : After-decide_send → Call
 asked c = MsgSnd c.args.id c.args.mtype c.args.text.now c.args.flags

@@ -15,7 +15,7 @@ use Rattle.ipc_namespace.proofs.namespace.Namespace.on_segments.Goals as goal
 use Rattle.ipc_namespace.proofs.namespace.Namespace.on_segments.Goals.{After-caller_of-who}
 
 called : (c : After-caller_of-who) → c.caller_of-who.result ≡ caller (the_view c.self.inside) c.args.client
-called c = let e = c.caller_of-who.ensures in rw (c.deref.ensures.value, c.deref-2.ensures.value) at e
+called c = let e = c.caller_of-who.ensures in rw (c.deref.ensures.value, c.threads.ensures) at e
 
 anyway : {T E : Type 0} (r : Result T E) (P : Type 0) → P → OnOk r P
 anyway (Ok x) P p = p

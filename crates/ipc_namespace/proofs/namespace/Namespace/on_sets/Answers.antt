@@ -21,7 +21,7 @@ use Rattle.ipc_namespace.proofs.namespace.Namespace.on_sets.Goals as goal
 use Rattle.ipc_namespace.proofs.namespace.Namespace.on_sets.Goals.{After-caller_of-who}
 
 called : (c : After-caller_of-who) → c.caller_of-who.result ≡ caller (the_view c.self.inside) c.args.client
-called c = let e = c.caller_of-who.ensures in rw (c.deref.ensures.value, c.deref-2.ensures.value) at e
+called c = let e = c.caller_of-who.ensures in rw (c.deref.ensures.value, c.threads.ensures) at e
 
 anyway : {T E : Type 0} (r : Result T E) (P : Type 0) → P → OnOk r P
 anyway (Ok x) P p = p
@@ -134,14 +134,14 @@ returns-in-SetAll-clause-state c =
 pub invariant_of-self : goal.invariant_of-self
 invariant_of-self c =
     let n = c.self.inside in
-    (c.self.invariant.0, c.self.invariant.1, c.self.invariant.2, held-same n.sets c.semget.new.self n.threads.items (λ client set. ap (λ (u : Undone). row_len u client set) c.semget.ensures.undone) (waiting n.parked) c.self.invariant.3)
+    (c.self.invariant.0, c.self.invariant.1, c.self.invariant.2, held-same n.sets c.semget.new.self n.processes.threads (λ client set. ap (λ (u : Undone). row_len u client set) c.semget.ensures.undone) (waiting n.parked) c.self.invariant.3)
 
 pub invariant_of-self-in-SetVal : goal.invariant_of-self-in-SetVal
 invariant_of-self-in-SetVal c =
     let n = c.self.inside in
-    (c.self.invariant.0, c.self.invariant.1, c.self.invariant.2, held-same n.sets c.setval.new.self n.threads.items c.setval.ensures.rows (waiting n.parked) c.self.invariant.3)
+    (c.self.invariant.0, c.self.invariant.1, c.self.invariant.2, held-same n.sets c.setval.new.self n.processes.threads c.setval.ensures.rows (waiting n.parked) c.self.invariant.3)
 
 pub invariant_of-self-in-SetAll : goal.invariant_of-self-in-SetAll
 invariant_of-self-in-SetAll c =
     let n = c.self.inside in
-    (c.self.invariant.0, c.self.invariant.1, c.self.invariant.2, held-same n.sets c.setall.new.self n.threads.items c.setall.ensures.rows (waiting n.parked) c.self.invariant.3)
+    (c.self.invariant.0, c.self.invariant.1, c.self.invariant.2, held-same n.sets c.setall.new.self n.processes.threads c.setall.ensures.rows (waiting n.parked) c.self.invariant.3)

@@ -45,9 +45,9 @@ invariant_of-self-else-is_err c =
       subst (λ ws. AreParked (length n.clients.items) ws) (sym longer) (AreParked-push (length n.clients.items) (waiting n.parked) w c.self.invariant.1 known may free),
       λ id. c.in_ok-reserve_in.ensures.room id ∙ ap (λ q. room n.queues id + one_if (is_at id q)) c.sent_to-queue.ensures ∙ ap (λ k. k + one_if (is_send_to id c.args.arrival.call)) (c.self.invariant.2 id)
           ∙ sym (sends_on-push id (waiting n.parked) w) ∙ ap (λ ws. sends_on id ws) (sym longer),
-      subst (λ ws. AreHeld c.reserve_row.new.sets n.threads.items ws) (sym longer)
-          (held-push c.reserve_row.new.sets n.threads.items (waiting n.parked) w
-          (held-longer n.sets c.reserve_row.new.sets n.threads.items c.in_ok-reserve_row.ensures.rows (waiting n.parked) c.self.invariant.3) (
+      subst (λ ws. AreHeld c.reserve_row.new.sets n.processes.threads ws) (sym longer)
+          (held-push c.reserve_row.new.sets n.processes.threads (waiting n.parked) w
+          (held-longer n.sets c.reserve_row.new.sets n.processes.threads c.in_ok-reserve_row.ensures.rows (waiting n.parked) c.self.invariant.3) (
             subst (λ (s : State). has_exited s c.args.client ≡ false) (sym c.self.view_is) c.requires.alive,
             subst (λ k. HasRowFor c.reserve_row.new.sets k c.args.arrival.call) (c.process_of-process.ensures ∙ sym (ap (λ (s : State). process_at s c.args.client) c.self.view_is)) c.in_ok-reserve_row.ensures.row,
           )),
@@ -71,7 +71,7 @@ invariant_of-self-in_err-reserve_in c =
       c.self.invariant.0,
       c.self.invariant.1,
       λ id. ap (λ q. room q id) c.in_err-reserve_in.ensures.err ∙ c.self.invariant.2 id,
-      held-longer n.sets c.reserve_row.new.sets n.threads.items c.in_ok-reserve_row.ensures.rows (waiting n.parked) c.self.invariant.3,
+      held-longer n.sets c.reserve_row.new.sets n.processes.threads c.in_ok-reserve_row.ensures.rows (waiting n.parked) c.self.invariant.3,
     )
 
 pub invariant_of-self-then-is_err : goal.invariant_of-self-then-is_err
@@ -82,5 +82,5 @@ invariant_of-self-then-is_err c =
       c.self.invariant.0,
       subst (λ ws. AreParked (length n.clients.items) ws) (sym same) c.self.invariant.1,
       λ id. (let one = c.in_ok-reserve_in.ensures.room id in let less = c.release_in.ensures.room id in omega (arith, one, less)) ∙ c.self.invariant.2 id ∙ ap (λ ws. sends_on id ws) (sym same),
-      subst (λ ws. AreHeld c.reserve_row.new.sets n.threads.items ws) (sym same) (held-longer n.sets c.reserve_row.new.sets n.threads.items c.in_ok-reserve_row.ensures.rows (waiting n.parked) c.self.invariant.3),
+      subst (λ ws. AreHeld c.reserve_row.new.sets n.processes.threads ws) (sym same) (held-longer n.sets c.reserve_row.new.sets n.processes.threads c.in_ok-reserve_row.ensures.rows (waiting n.parked) c.self.invariant.3),
     )

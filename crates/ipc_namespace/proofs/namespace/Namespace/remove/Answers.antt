@@ -50,4 +50,4 @@ invariant_of-self-in-Sems c =
     let left : waiting n.parked ≡ kept_by (cancelled_as s (cancellings.Removed kinds.Sems c.args.id)) s.parked = ap (λ (t : State). t.parked) (c.self-2.view_is ∙ c.cancel.ensures.state)
     ∙ ap (λ (kind : Kind). kept_by (cancelled_as s (cancellings.Removed kind c.args.id)) s.parked) c.in-Sems.is in
     let apart = subst (λ (ws : List Waiting). AllByRecursion (λ w. waits_on kinds.Sems c.args.id w.call ≡ false) ws) (sym left) (none_there c.args.id s.parked) in
-    (inv.0, inv.1, inv.2, held-elsewhere n.sets c.remove-in-Sems.new.self c.args.id c.remove-in-Sems.ensures.rows n.threads.items (waiting n.parked) apart inv.3)
+    (inv.0, inv.1, inv.2, held-elsewhere n.sets c.remove-in-Sems.new.self c.args.id c.remove-in-Sems.ensures.rows n.processes.threads (waiting n.parked) apart inv.3)

@@ -18,7 +18,7 @@ use Rattle.ipc_namespace.proofs.namespace.Namespace.semop.Goals as goal
 use Rattle.ipc_namespace.proofs.namespace.Namespace.semop.Goals.{After-semop}
 
 called : (c : After-semop) → c.caller_of-who.result ≡ caller (the_view c.self.inside) c.args.client
-called c = let e = c.caller_of-who.ensures in rw (c.deref.ensures.value, c.deref-2.ensures.value) at e
+called c = let e = c.caller_of-who.ensures in rw (c.deref.ensures.value, c.threads.ensures) at e
 
 abbrev asked : After-semop → Call
 asked c = SemOp c.args.id c.args.ops.now
@@ -56,4 +56,4 @@ returns-clause-state c =
 pub invariant_of-self : goal.invariant_of-self
 invariant_of-self c =
     let n = c.self.inside in
-    (c.self.invariant.0, c.self.invariant.1, c.self.invariant.2, held-longer n.sets c.semop.new.self n.threads.items c.semop.ensures.rows (waiting n.parked) c.self.invariant.3)
+    (c.self.invariant.0, c.self.invariant.1, c.self.invariant.2, held-longer n.sets c.semop.new.self n.processes.threads c.semop.ensures.rows (waiting n.parked) c.self.invariant.3)

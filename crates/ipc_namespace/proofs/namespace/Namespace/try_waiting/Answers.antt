@@ -47,8 +47,8 @@ is_own c = sym (ap (λ (s : State). waiting_of s c.args.client) c.self.view_is) 
 pub call_of-call-requires : goal.call_of-call-requires
 call_of-call-requires c = sym (any_waiting c.args.client c.self.inside.parked) ∙ ap (λ (s : State). is_waiting s c.args.client) c.self.view_is ∙ c.requires
 
-is_held : (c : After-deref) → IsHeld c.self.inside.sets c.self.inside.threads.items (tried c)
-is_held c = held-found c.self.inside.sets c.self.inside.threads.items (λ w. w.client == c.args.client) (waiting c.self.inside.parked) (tried c) c.self.invariant.3 (own c)
+is_held : (c : After-deref) → IsHeld c.self.inside.sets c.self.inside.processes.threads (tried c)
+is_held c = held-found c.self.inside.sets c.self.inside.processes.threads (λ w. w.client == c.args.client) (waiting c.self.inside.parked) (tried c) c.self.invariant.3 (own c)
 
 alive : (c : After-deref) → has_exited c.args.self.now c.args.client ≡ false
 alive c = subst (λ (s : State). has_exited s c.args.client ≡ false) c.self.view_is (is_held c).0
@@ -61,7 +61,7 @@ pub caller_of-who-requires-clause-known : goal.caller_of-who-requires-clause-kno
 caller_of-who-requires-clause-known c = rw c.deref.ensures.value (of_client (goal.at.caller_of-who-requires-clause-known c).After-deref).0
 
 called : (c : After-caller_of-who) → c.caller_of-who.result ≡ caller (the_view c.self.inside) c.args.client
-called c = let e = c.caller_of-who.ensures in rw (c.deref.ensures.value, c.deref-2.ensures.value) at e
+called c = let e = c.caller_of-who.ensures in rw (c.deref.ensures.value, c.threads.ensures) at e
 
 -- the state without the call
 rest_is : (c : After-caller_of-who) → without (the_view c.self.inside) c.args.client ≡ without c.args.self.now c.args.client
@@ -143,7 +143,7 @@ invariant_of-self-in-SemOp c = (
   c.self.invariant.0,
   c.self.invariant.1,
   c.self.invariant.2,
-  held-same c.self.inside.sets c.semop_reserved.new.self c.self.inside.threads.items c.semop_reserved.ensures.rows (waiting c.self.inside.parked) c.self.invariant.3,
+  held-same c.self.inside.sets c.semop_reserved.new.self c.self.inside.processes.threads c.semop_reserved.ensures.rows (waiting c.self.inside.parked) c.self.invariant.3,
 )
 
 pub invariant_of-self-in_err-outcome-in-SemOp : goal.invariant_of-self-in_err-outcome-in-SemOp
@@ -151,7 +151,7 @@ invariant_of-self-in_err-outcome-in-SemOp c = (
   c.self.invariant.0,
   c.self.invariant.1,
   c.self.invariant.2,
-  held-same c.self.inside.sets c.semop_reserved.new.self c.self.inside.threads.items c.semop_reserved.ensures.rows (waiting c.self.inside.parked) c.self.invariant.3,
+  held-same c.self.inside.sets c.semop_reserved.new.self c.self.inside.processes.threads c.semop_reserved.ensures.rows (waiting c.self.inside.parked) c.self.invariant.3,
 )
 
 pub semop_reserved-requires : goal.semop_reserved-requires
@@ -160,7 +160,7 @@ semop_reserved-requires c =
     let held = (is_held b).1 in
     subst (λ (ops : List SemOper). HasRow c.self.inside.sets c.caller_of-who.result.process c.in-SemOp.id ops) (sym c.as_slice.ensures)
     (subst (λ k. HasRow c.self.inside.sets k c.in-SemOp.id c.in-SemOp.ops) (sym (ap (λ (w : Caller). w.process) (called (goal.at.semop_reserved-requires c).After-caller_of-who)))
-    (subst (λ (call : Call). HasRowFor c.self.inside.sets (slice_index_or c.self.inside.threads.items c.args.client no_thread).process call) c.in-SemOp.is held))
+    (subst (λ (call : Call). HasRowFor c.self.inside.sets (slice_index_or c.self.inside.processes.threads c.args.client no_thread).process call) c.in-SemOp.is held))
 
 -- the list hasn't changed
 waits : (c : After-deref) → list_any (λ w. w.client == c.args.client) (waiting c.self.inside.parked) ≡ true

@@ -20,7 +20,7 @@ pub overflow_add-count : goal.overflow_add-count
 overflow_add-count c =
     let n = c.self.inside in
     let few : length (waiting n.parked) ≤ length n.clients.items = length-parked (length n.clients.items) (waiting n.parked) c.self.invariant.1 in
-    let fits : c.loop-index.count + 1 ≤ 64 = omega (arith, few, length-waiting n.parked, c.self.invariant.0, c.len-index-end.ensures, c.loop-index-test.true, c.loop-index.invariant.few) in
+    let fits : c.loop-index.count + 1 ≤ 4096 = omega (arith, few, length-waiting n.parked, c.self.invariant.0, c.len-index-end.ensures, c.loop-index-test.true, c.loop-index.invariant.few) in
     omega (arith, fits)
 
 -- a call that stands where another isn't there

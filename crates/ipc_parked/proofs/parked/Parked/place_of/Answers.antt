@@ -1,14 +1,14 @@
-use Rattle.std.proofs.Common.{ap, List, Option, ◌∙◌, ℕ, sym}
+use Rattle.std.proofs.Common.{ap, Option, ℕ}
 use Rattle.std.specs.Option.{option_map}
 use Rattle.ipc_parked.specs.declared.parked.Arrival.{Arrival}
-use Rattle.ipc_parked.specs.Parked.{is_there, arrival_of}
-use Rattle.ipc_parked.proofs.Clients.{lookup_there, lookup_arrival}
+use Rattle.ipc_parked.proofs.Line.{arrival_shown, shown_by, shown_there}
 use Rattle.ipc_parked.proofs.parked.Parked.place_of.Goals as goal
 
-pub index-requires : goal.index-requires
-index-requires c = lookup_there c.args.client c.self.inside.arrivals.entries ∙ ap (λ (es : List (ℕ × Arrival)). is_there c.args.client es) c.self.view_is ∙ c.requires
+pub unwrap-requires : goal.unwrap-requires
+unwrap-requires c = shown_there c.args.client c.self.inside.arrivals.stays c.args.self.now c.get.result c.self.view_is c.get.ensures c.requires
 
 pub returns : goal.returns
 returns c =
-    let same = lookup_arrival c.args.client c.self.inside.arrivals.entries ∙ ap (λ (es : List (ℕ × Arrival)). arrival_of c.args.client es) c.self.view_is in
-    ap (λ (a : Option Arrival). option_map {T = Arrival} {U = ℕ} (λ a. a.place) a) (sym same ∙ c.index.ensures)
+    let es = c.self.inside.arrivals.stays in
+    ap (λ (o : Option Arrival). option_map {T = Arrival} {U = ℕ} (λ a. a.place) o)
+    (arrival_shown c.args.client es c.args.self.now c.unwrap.result.now c.self.view_is (shown_by c.args.client es c.get.result c.unwrap.result c.get.ensures c.unwrap.ensures))
