@@ -95,11 +95,12 @@ typedef struct ipcsh ipcsh; /* a handle; never looked into */
 
 /* Ranges: docs/PROFILE.md. */
 struct ipcsh_limits {
-    uint32_t slots, msgmax, msgmnb, semmsl, semopm, shmmax;
+    uint32_t queues, sets, segments; /* how many objects of each kind there may be */
+    uint32_t msgmax, msgmnb, semmsl, semopm, shmmax;
     uint32_t first_seq; /* its low 16 bits count */
     uint32_t journal;   /* not 0: the service keeps its journal until it is read, as by ipcsh_open_with_journal */
 };
-#define IPCSH_DEFAULT_LIMITS { 128, 8192, 16384, 32000, 500, 33554432, 0, 0 }
+#define IPCSH_DEFAULT_LIMITS { 128, 128, 128, 8192, 16384, 32000, 500, 33554432, 0, 0 }
 
 struct ipcsh_client {
     uint32_t uid, gid; /* the effective ones, and the real and the saved ones too */

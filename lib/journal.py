@@ -23,9 +23,7 @@ CREDS = re.compile(r"effective (\d+):(\d+) real \1:\2 saved (\d+):(\d+) groups (
 FIXED = re.compile(r"effective \S+ real \S+|caps \S+|x:\S*")
 ANSWER = re.compile(r"(  )(\d+)(\.)(\d+)( client )(\d+)(: )(.*)")
 DIFFERS = re.compile(r"line (\d+), row (\d+): the journal differs")
-LIMITS = ["slots 3", "first-seq 65534", "msgmax 20", "msgmnb 40", "semmsl 2", "semopm 2", "shmmax 16"]
-# The lines before those of the clients.
-HEAD = 8
+LIMITS = ["slots 3", "queues 2", "sets 1", "segments 2", "first-seq 65534", "msgmax 20", "msgmnb 40", "semmsl 2", "semopm 2", "shmmax 16"]
 
 
 def run(program, text, *words):
@@ -78,8 +76,9 @@ def call_of(text):
 
 def script_of(lines):
     """The script that makes the calls of a journal."""
-    script = lines[1:HEAD]
-    for line in lines[HEAD:]:
+    head = next(at for at, it in enumerate(lines) if CLIENT.fullmatch(it))
+    script = lines[1:head]
+    for line in lines[head:]:
         client, call = CLIENT.fullmatch(line), CALL.fullmatch(line)
         if client:
             script.append(f"client c{client[1]} {words_of(client[2])}")

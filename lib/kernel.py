@@ -34,7 +34,9 @@ ERRORS.update({24: "EMFILE", 27: "EFBIG", 28: "ENOSPC", 34: "ERANGE", 42: "ENOMS
 # CAP_SYS_ADMIN of a script is with CAP_KILL here, since it lets a client interrupt those of others.
 CAPABILITIES = {"IPC_OWNER": 1 << 15, "SYS_ADMIN": 1 << 21 | 1 << 5, "SYS_RESOURCE": 1 << 24, "SETUID": 1 << 7, "SETGID": 1 << 6}
 HAVE = int(re.search(r"CapPrm:\s*(\w+)", pathlib.Path("/proc/self/status").read_text())[1], 16)
-LIMITS = {"slots": 128, "first-seq": 0, "msgmax": 8192, "msgmnb": 16384, "semmsl": 32000, "semopm": 500, "shmmax": 33554432}
+SLOTS = {"q": "queues", "s": "sets", "m": "segments"}
+LIMITS = {"first-seq": 0, "msgmax": 8192, "msgmnb": 16384, "semmsl": 32000, "semopm": 500, "shmmax": 33554432}
+LIMITS.update(dict.fromkeys(SLOTS.values(), 128))
 KINDS = {"msgget": "q", "semget": "s", "shmget": "m"}
 FILES = {"q": "msg", "s": "sem", "m": "shm"}
 # How many seconds pass between two moments that a script with deadlines tells apart, for each try, since a machine at work may let a deadline
@@ -229,8 +231,8 @@ class Client:
 class Slots:
     """The identifiers of a kind: each slot's sequence number, and the object in it."""
 
-    def __init__(self, limits):
-        self.count, self.first, self.slots = limits["slots"], limits["first-seq"], {}
+    def __init__(self, count, first):
+        self.count, self.first, self.slots = count, first, {}
 
     def next(self):
         """The identifier of the next object, None where no slot is left."""
@@ -262,11 +264,11 @@ class Kernel:
             raise Stuck("an IPC namespace of its own wants root")
         sysctl("msgmax", limits["msgmax"])
         sysctl("msgmnb", limits["msgmnb"])
-        sysctl("msgmni", limits["slots"])
-        sysctl("sem", f"{limits['semmsl']} 1024000000 {limits['semopm']} {limits['slots']}")
+        sysctl("msgmni", limits["queues"])
+        sysctl("sem", f"{limits['semmsl']} 1024000000 {limits['semopm']} {limits['sets']}")
         sysctl("shmmax", limits["shmmax"])
-        sysctl("shmmni", limits["slots"])
-        self.slots = {kind: Slots(limits) for kind in FILES}
+        sysctl("shmmni", limits["segments"])
+        self.slots = {kind: Slots(limits[SLOTS[kind]], limits["first-seq"]) for kind in FILES}
         self.program, self.folder = program, tempfile.TemporaryDirectory()
         os.chmod(self.folder.name, 0o711)
         self.clients = {name: Client.alone(program, name, at, *words) for at, (name, words) in enumerate(clients.items(), 1)}
@@ -503,7 +505,8 @@ class Script:
             if words[0] == "clock":
                 now = number(words[1])
             elif words[0] == "limit":
-                self.limits[words[1]] = number(words[2])
+                names = SLOTS.values() if words[1] == "slots" else words[1:2]
+                self.limits.update(dict.fromkeys(names, number(words[2])))
             elif words[0] == "client":
                 self.clients[words[1]] = number(words[2]), number(words[3]), dict(it.split("=", 1) for it in words[4:])
             else:

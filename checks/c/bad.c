@@ -24,10 +24,14 @@ static void opening(void)
     one.caps = 32;
     tell("open with a sixth capability", ipcsh_open(&limits, &one, 1, handles));
     one.caps = 31;
-    other.slots = 0;
-    tell("open with no slots", ipcsh_open(&other, &one, 1, handles));
-    other.slots = 32769;
-    tell("open with too many slots", ipcsh_open(&other, &one, 1, handles));
+    other.queues = 0;
+    tell("open with no queues", ipcsh_open(&other, &one, 1, handles));
+    other.queues = 32768;
+    other.sets = 32769;
+    tell("open with too many sets", ipcsh_open(&other, &one, 1, handles));
+    other.sets = 1;
+    other.segments = 0;
+    tell("open with no segments", ipcsh_open(&other, &one, 1, handles));
     tell("a raw open with fewer places than clients", ipcsh_raw_open(&limits, many, 2, handles, 1));
     one.ngroups = 32;
     tell("open with a journal for no clients", ipcsh_open_with_journal(&limits, &one, 0, handles));

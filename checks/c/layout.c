@@ -4,9 +4,10 @@
 #define SIZE(name, size) _Static_assert(sizeof(struct name) == size, #name);
 #define AT(name, field, offset) _Static_assert(offsetof(struct name, field) == offset, #name "." #field);
 
-SIZE(ipcsh_limits, 32)
-AT(ipcsh_limits, first_seq, 24)
-AT(ipcsh_limits, journal, 28)
+SIZE(ipcsh_limits, 40)
+AT(ipcsh_limits, msgmax, 12)
+AT(ipcsh_limits, first_seq, 32)
+AT(ipcsh_limits, journal, 36)
 
 SIZE(ipcsh_client, 144)
 AT(ipcsh_client, ngroups, 12)

@@ -405,7 +405,7 @@ static int write_journal(const char *path)
 
 static int open_and_run(struct ipcsh_client *creds, uint64_t seed)
 {
-    const struct ipcsh_limits limits = {8, BYTES - 4, 4 * BYTES, SEMS, 2, BYTES, 0, 0};
+    const struct ipcsh_limits limits = {8, 8, 8, BYTES - 4, 4 * BYTES, SEMS, 2, BYTES, 0, 0};
     ipcsh *handles[CLIENTS];
     for (int i = 0; i < CLIENTS; i++)
         creds[i] = (struct ipcsh_client){.uid = 100 + (uint32_t)i % 3, .gid = 10, .caps = i == 0 ? 31 : i == 1 ? IPCSH_IPC_OWNER : 0,

@@ -7,7 +7,7 @@ import names
 from cut import Words
 
 CLIENT = re.compile(r"^[ \t]*client[ \t]+([^ \t\n]+)", re.M)
-LINUX = ["slots 32000", "msgmax 8192", "msgmnb 16384", "semmsl 32000", "semopm 500", "shmmax 1073741824"]
+LINUX = ["queues 32000", "sets 32000", "segments 4096", "msgmax 8192", "msgmnb 16384", "semmsl 32000", "semopm 500", "shmmax 1073741824"]
 
 
 class Line:

@@ -80,7 +80,7 @@ bool clients_declare(struct text *lines)
     first_capabilities = capabilities_now();
     if (!creds_now(&creds))
         return false;
-    text_print(lines, "limit slots 32000\nlimit shmmax 1073741824\n");
+    text_print(lines, "limit queues 32000\nlimit sets 32000\nlimit segments 4096\nlimit shmmax 1073741824\n");
     for (struct client *client = clients; client < clients + CLIENTS; client++) {
         client->told = creds;
         text_print(lines, "client %s %u %u", name_of(client), creds.uid, creds.gid);

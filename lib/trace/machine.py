@@ -16,7 +16,8 @@ CALLS = "trace=%ipc,%creds,execve,?clone,?clone3,?fork,?vfork,?unshare,?setns"
 # Of structures all is written, but of execve, whose environment is nobody's concern.
 STRACE = ["strace", "-f", "-ttt", "-s", "8192", "-e", "abbrev=execve", "-e", CALLS]
 # What the language takes of each limit.
-MOST = {"msgmax": 65536, "msgmnb": 2**31 - 1, "semmsl": 32000, "semopm": 500, "shmmax": 2**30, "slots": 32768}
+MOST = {"msgmax": 65536, "msgmnb": 2**31 - 1, "semmsl": 32000, "semopm": 500, "shmmax": 2**30}
+MOST.update({"queues": 32768, "sets": 32768, "segments": 32768})
 
 
 @contextlib.contextmanager
@@ -45,7 +46,9 @@ def credentials():
 
 def limits():
     """Those of the kernel, as far as the language takes them."""
-    read = {it: pathlib.Path(f"/proc/sys/kernel/{it}").read_text().split() for it in ("msgmax", "msgmnb", "sem", "shmmax", "msgmni")}
+    names = "msgmax", "msgmnb", "sem", "shmmax", "msgmni", "shmmni"
+    read = {it: pathlib.Path(f"/proc/sys/kernel/{it}").read_text().split() for it in names}
     found = {it: read[it][0] for it in ("msgmax", "msgmnb", "shmmax")}
-    found.update({"semmsl": read["sem"][0], "semopm": read["sem"][2], "slots": read["msgmni"][0]})
+    found.update({"semmsl": read["sem"][0], "semopm": read["sem"][2]})
+    found.update({"queues": read["msgmni"][0], "sets": read["sem"][3], "segments": read["shmmni"][0]})
     return {name: min(int(it), MOST[name]) for name, it in found.items()}

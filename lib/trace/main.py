@@ -19,8 +19,9 @@ import sessions
 from creds import CAPABILITIES, Creds
 from streams import write_error, write_out
 
-LIMITS = {"slots": 32000, "shmmax": 2**30}
-NAMES = ("slots", "first-seq", "msgmax", "msgmnb", "semmsl", "semopm", "shmmax")
+LIMITS = {"queues": 32000, "sets": 32000, "segments": 4096, "shmmax": 2**30}
+KINDS = ("queues", "sets", "segments")
+NAMES = ("slots", *KINDS, "first-seq", "msgmax", "msgmnb", "semmsl", "semopm", "shmmax")
 
 
 class Words(argparse.ArgumentParser):
@@ -92,6 +93,14 @@ def limit(word):
     if name not in NAMES or not number.isdigit():
         raise ValueError(word)
     return name, int(number)
+
+
+def by_kind(given):
+    """Limits that are given one after the other, of which slots are those of each kind."""
+    found = {}
+    for name, number in given:
+        found.update(dict.fromkeys(KINDS, number) if name == "slots" else {name: number})
+    return found
 
 
 def opening_of(given):
@@ -199,7 +208,7 @@ def judge(given):
     opening, source = opening_of(given)
     with machine.trace(given.record, given.output) as file:
         records = lines.read([file] if file else given.files)
-    limits = {**LIMITS, **(machine.limits() if given.record else {}), **dict(given.limit)}
+    limits = {**LIMITS, **(machine.limits() if given.record else {}), **by_kind(given.limit)}
     path = choosing.chosen("ipcsh_trace")
     progress = Progress(given)
     try:

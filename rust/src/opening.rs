@@ -35,8 +35,12 @@ impl Service {
 /// The limits of a namespace, each with the name of Linux where it has one (proc_sys_kernel(5)).
 #[derive(Clone, Copy, Debug, PartialEq, Eq)]
 pub struct Limits {
-    /// Slots for objects of each kind, 1 to 32768.
-    pub slots: u32,
+    /// MSGMNI, slots for queues, 1 to 32768.
+    pub queues: u32,
+    /// SEMMNI, slots for semaphore sets, 1 to 32768.
+    pub sets: u32,
+    /// SHMMNI, slots for segments, 1 to 32768.
+    pub segments: u32,
     /// The sequence number of a slot that was never used.
     pub first_seq: u16,
     /// MSGMAX, the longest text of a message in bytes, 1 to 65536.
@@ -52,10 +56,12 @@ pub struct Limits {
 }
 
 impl Default for Limits {
-    /// Those of Linux, with 128 slots.
+    /// Those of Linux, with 128 slots for each kind.
     fn default() -> Limits {
         Limits {
-            slots: 128,
+            queues: 128,
+            sets: 128,
+            segments: 128,
             first_seq: 0,
             msg_max: 8192,
             msg_mnb: 16384,
@@ -69,7 +75,9 @@ impl Default for Limits {
 impl Limits {
     fn raw(&self, journal: bool) -> RawLimits {
         RawLimits {
-            slots: self.slots,
+            queues: self.queues,
+            sets: self.sets,
+            segments: self.segments,
             msg_max: self.msg_max,
             msg_mnb: self.msg_mnb,
             sem_msl: self.sem_msl,

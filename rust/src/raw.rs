@@ -6,7 +6,9 @@ use std::mem::offset_of;
 /// `struct ipcsh_limits`.
 #[repr(C)]
 pub(crate) struct RawLimits {
-    pub(crate) slots: u32,
+    pub(crate) queues: u32,
+    pub(crate) sets: u32,
+    pub(crate) segments: u32,
     pub(crate) msg_max: u32,
     pub(crate) msg_mnb: u32,
     pub(crate) sem_msl: u32,
@@ -190,7 +192,7 @@ impl Answer {
 
 // The sizes of checks/c/layout.c, and where the last fields are.
 const _: () = {
-    assert!(size_of::<RawLimits>() == 32 && offset_of!(RawLimits, journal) == 28);
+    assert!(size_of::<RawLimits>() == 40 && offset_of!(RawLimits, journal) == 36);
     assert!(size_of::<RawClient>() == 144 && offset_of!(RawClient, groups) == 16);
     assert!(size_of::<SemOp>() == 6 && offset_of!(SemOp, flags) == 4);
     assert!(size_of::<Request>() == 104 && offset_of!(Request, caps) == 100);

@@ -11,14 +11,20 @@ fn open(users: &[Creds]) -> Vec<Client> {
 #[test]
 fn services_that_are_not_opened() {
     let one = [Creds::new(100, 10)];
-    let no_slots = Limits {
-        slots: 0,
-        ..Limits::default()
+    let defaults = Limits::default();
+    let (queues, sets, segments) = (0, 32769, 0);
+    let no_queues = Limits { queues, ..defaults };
+    let many_sets = Limits { sets, ..defaults };
+    let no_segments = Limits {
+        segments,
+        ..defaults
     };
-    assert_eq!(
-        Service::open(&no_slots, &one).unwrap_err(),
-        OpenError::BadLimits
-    );
+    for limits in [no_queues, many_sets, no_segments] {
+        assert_eq!(
+            Service::open(&limits, &one).unwrap_err(),
+            OpenError::BadLimits
+        );
+    }
     assert_eq!(
         Service::open(&Limits::default(), &[]).unwrap_err(),
         OpenError::BadClients

@@ -179,12 +179,18 @@ pub(crate) fn explain_key_exists(out: &mut String, case: Case<'_>) -> Told {
     out.push_str("\n")
 }
 
-/// Tells how many slots a kind has.
+/// Tells how many slots the kind has.
 pub(crate) fn explain_no_slot(out: &mut String, case: Case<'_>) -> Told {
     let Some((kind, _)) = key_of(case.call) else {
         return Ok(());
     };
-    let (kind, slots) = (kind_name(kind), case.space.limits().slots);
+    let limits = case.space.limits();
+    let slots = match kind {
+        Kind::Queue => limits.queues,
+        Kind::Sems => limits.sets,
+        Kind::Segment => limits.segments,
+    };
+    let kind = kind_name(kind);
     write!(
         out,
         "each of the {slots} slots for a {kind} holds one or is used up; this isn't disk space\n"

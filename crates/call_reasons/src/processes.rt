@@ -140,7 +140,7 @@ pub(crate) fn explain_groups(out: &mut String, case: Case<'_>) -> Told {
             )
         }
         Call::Begin { creds, .. } | Call::Assume { creds } => {
-            let count = creds.groups.len();
+            let count = creds.get().groups.len();
             write!(
                 out,
                 "{count} supplementary groups are given; at most 32 may be\n"

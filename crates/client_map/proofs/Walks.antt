@@ -27,8 +27,8 @@ use Rattle.client_map.proofs.Trees.{entry_at, get_map, map_of}
 not_above : (n m : ℕ) → n < m → is_gt (nat_cmp (n + 1) m) ≡ false
 not_above n m h = grind (arith, nat_tests)
 
-not_below : (n : ℕ) → is_gt (nat_cmp 0 n) ≡ false
-not_below n = grind (arith, nat_tests)
+not_below : (n m : ℕ) → n ≤ m → is_gt (nat_cmp n m) ≡ false
+not_below n m h = grind (arith, nat_tests, h)
 
 not_gt : (n m : ℕ) → is_gt (nat_cmp n m) ≡ false → n ≤ m
 not_gt n m h = grind (arith, nat_tests, h)
@@ -48,9 +48,9 @@ less_client a b r s Less e low ne = refl
 less_client a b r s Equal e low ne = absurd (ne (sym (ranked a b Equal (sym e))))
 less_client a b r s Greater e low ne = absurd (true≢false low)
 
-le_first : (client k : ℕ) → is_gt (key_cmp (key client 0) (key client k)) ≡ false
-le_first client k =
-    ap (λ r. is_gt (ordering_then r (nat_cmp 0 k))) (sym (nat_cmp_is client client Equal refl)) ∙ not_below k
+le_first : (client n k : ℕ) → n ≤ k → is_gt (key_cmp (key client n) (key client k)) ≡ false
+le_first client n k l =
+    ap (λ r. is_gt (ordering_then r (nat_cmp n k))) (sym (nat_cmp_is client client Equal refl)) ∙ not_below n k l
 
 -- the first of these is no less than a number of the client
 abbrev pub IsFrom : {X : Type 0} → ℕ → ℕ → List (Key × X) → Type 0
@@ -123,8 +123,8 @@ lt_later client n k l =
     ∙ ap (λ r. is_lt r && true) (sym (nat_cmp_is n k Less (omega (arith, l))))
 
 module _ {X : Type 0} (client : ℕ) (es fs : List (Key × X)) (m : finite.FinMap key_cmp X) (is : map_of es ≡ m) (sorted : IsStrictlySortedBy key_cmp (keys_of es)) where
-  pub walk_from : fs ≡ entries_from (Included (key client 0)) es → Walk m client 0 fs
-  walk_from from = walk_of (Included (key client 0)) client 0 (λ k h. at_or_after (key_cmp (key client 0) k) h) (λ k l. le_within _ (le_first client k)) es fs m is sorted from
+  pub walk_from : (n : ℕ) → fs ≡ entries_from (Included (key client n)) es → Walk m client n fs
+  walk_from n from = walk_of (Included (key client n)) client n (λ k h. at_or_after (key_cmp (key client n) k) h) (λ k l. le_within _ (le_first client n k l)) es fs m is sorted from
 
   pub walk_after : (n : ℕ) → fs ≡ entries_from (Excluded (key client n)) es → Walk m client (n + 1) fs
   walk_after n from =

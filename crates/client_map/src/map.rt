@@ -86,7 +86,18 @@ impl<V> ClientMap<V> {
         ensures least { IfSome result (λ number. (n : ℕ) → n < number
             → finite.get self.now (key client n) ≡ None) }
     {
-        match self.tree.range(Key { client, number: 0 }..).next() {
+        self.first_from(client, 0)
+    }
+
+    /// The least number from this one on under which a client has something.
+    pub fn first_from(&self, client: u64, number: u64) -> Option<u64>
+        ensures none { IfNone result ((n : ℕ) → number ≤ n → finite.get self.now (key client n) ≡ None) }
+        ensures there { IfSome result (λ first. IsSome (finite.get self.now (key client first))) }
+        ensures from { IfSome result (λ first. number ≤ first) }
+        ensures least { IfSome result (λ first. (n : ℕ) → number ≤ n → n < first
+            → finite.get self.now (key client n) ≡ None) }
+    {
+        match self.tree.range(Key { client, number }..).next() {
             None => None,
             Some((key, _)) => {
                 if key.client == client {

@@ -2,8 +2,8 @@
 #![tactic(auto)]
 
 use ipc_desk::{
-    AttachFlags, Client, Desk, Failure, Flags, GetFlags, Identity, Items, Kind, Message, Owner,
-    Progress, Receive, SemFlags, SemOp, SendFlags, Settings, User,
+    AttachFlags, Boxed, Client, Desk, Failure, Flags, GetFlags, Identity, Items, Kind, Memory,
+    Message, Owner, Progress, Receive, SemFlags, SemOp, SendFlags, Settings, User,
 };
 use std::io;
 
@@ -110,8 +110,8 @@ fn processes(rt: &HostRuntime, desk: &mut Desk) -> io::Result<()> {
 }
 
 /// The credentials of user 100.
-fn identity(rt: &HostRuntime) -> Identity {
-    Identity {
+fn identity(rt: &HostRuntime) -> Result<Boxed<Identity>, Memory> {
+    let identity = Identity {
         euid: 100,
         egid: 10,
         groups: Items::new(Vec::new(rt.alloc())),
@@ -120,7 +120,8 @@ fn identity(rt: &HostRuntime) -> Identity {
         suid: 100,
         rgid: 10,
         sgid: 10,
-    }
+    };
+    Boxed::new(rt.alloc(), identity)
 }
 
 fn told(rt: &HostRuntime, call: &str, answer: Result<(), Failure>) -> io::Result<()> {
@@ -135,13 +136,13 @@ fn told(rt: &HostRuntime, call: &str, answer: Result<(), Failure>) -> io::Result
 fn lives(rt: &HostRuntime, desk: &mut Desk) -> io::Result<()> {
     desk.fork(SECOND, FIRST, 9)?;
     desk.name(FIRST, 8)?;
-    desk.assume(FIRST, identity(rt))?;
+    desk.assume(FIRST, identity(rt)?)?;
     desk.kill(SECOND, 8)?;
     told(rt, "kill", desk.kill(SECOND, 8))?;
     desk.clone(SECOND, FIRST)?;
     desk.exec(SECOND)?;
-    desk.begin(FIRST, 7, identity(rt))?;
-    told(rt, "begin", desk.begin(FIRST, 6, identity(rt)))?;
+    desk.begin(FIRST, 7, identity(rt)?)?;
+    told(rt, "begin", desk.begin(FIRST, 6, identity(rt)?))?;
     Ok(desk.interrupt_process(SECOND, 7)?)
 }
 

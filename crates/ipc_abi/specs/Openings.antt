@@ -8,7 +8,9 @@ use Rattle.ipc_abi.specs.declared.opening.RawLimits.{RawLimits}
 -- a sequence number has 16 bits
 abbrev pub limits_in : RawLimits → Limits
 limits_in l = record {
-  slots = l.slots;
+  queues = l.queues;
+  sets = l.sets;
+  segments = l.segments;
   first_seq = l.first_seq % 65536;
   msg_max = l.msg_max;
   msg_mnb = l.msg_mnb;

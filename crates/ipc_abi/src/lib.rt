@@ -13,3 +13,4 @@ pub use opening::{RawClient, RawLimits, creds_of};
 pub use operations::Operation;
 pub use replies::{RawReply, copy_lists, fits};
 pub use requests::{BadRequest, Lists, RawRequest, RawSemOper};
+pub use rules::rule_code;

@@ -13,7 +13,9 @@ use std::alloc::Global;
 #[repr(C)]
 #[derive(Clone, Copy, Debug, PartialEq, Eq)]
 pub struct RawLimits {
-    pub slots: u32,
+    pub queues: u32,
+    pub sets: u32,
+    pub segments: u32,
     pub msg_max: u32,
     pub msg_mnb: u32,
     pub sem_msl: u32,
@@ -41,7 +43,9 @@ impl RawLimits {
         ensures { result ≡ limits_in self.now }
     {
         Limits {
-            slots: self.slots,
+            queues: self.queues,
+            sets: self.sets,
+            segments: self.segments,
             first_seq: (self.first_seq % 65536) as u16,
             msg_max: self.msg_max,
             msg_mnb: self.msg_mnb,

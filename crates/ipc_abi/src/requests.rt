@@ -6,7 +6,7 @@ ghost use Rattle.ipc_abi.specs.Requests.{call_in, call_of, identity_of, lists_in
 ghost use Rattle.ipc_abi.specs.declared.requests.BadRequest.TheVariants.{Unknown};
 
 use crate::operations::{Operation, kind_from_code};
-use ipc_call::{Call, Identity, Items, Kind, Memory, SemOper};
+use ipc_call::{Boxed, Call, Identity, Items, Kind, Memory, SemOper};
 use std::alloc::Global;
 
 /// A call, in numbers. docs/C.md says which of them each operation uses; it ignores the others.
@@ -238,10 +238,10 @@ impl RawRequest {
     }
 
     // The credentials that are handed in.
-    fn identity(&self, alloc: Global, groups: &[u32]) -> Result<Identity, Memory>
+    fn identity(&self, alloc: Global, groups: &[u32]) -> Result<Boxed<Identity>, Memory>
         ensures { IfOk result (λ identity. identity ≡ identity_of self.now groups.now) }
     {
-        Ok(Identity {
+        let identity = Identity {
             euid: self.uid,
             egid: self.gid,
             groups: items(alloc, groups)?,
@@ -250,7 +250,8 @@ impl RawRequest {
             suid: self.suid,
             rgid: self.rgid,
             sgid: self.sgid,
-        })
+        };
+        Boxed::new(alloc, identity)
     }
 
     // The kind of objects.

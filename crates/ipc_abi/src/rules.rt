@@ -6,7 +6,7 @@ ghost use Rattle.ipc_abi.specs.Rules.{code_of_rule};
 use ipc_call::Rule;
 
 /// The code of a rule. 0 is the code of none.
-pub(crate) fn rule_code(rule: Rule) -> u32
+pub fn rule_code(rule: Rule) -> u32
     ensures { result ≡ code_of_rule rule }
 {
     match rule {

@@ -1,4 +1,4 @@
-//! A value that an answer carries apart.
+//! A value that a call or an answer carries apart.
 
 ghost use Rattle.std.specs.Prelude.{◌≡◌, IfOk};
 
@@ -6,8 +6,8 @@ use crate::replies::Memory;
 use std::alloc::Global;
 use std::marker::Model;
 
-/// A plain value in memory of its own, so that what carries it stays small: an answer is moved often, and is seldom a
-/// status. Two of them are equal where their values are.
+/// A value in memory of its own, so that what carries it stays small: calls and answers are moved often, and are seldom ones
+/// with credentials or a status. Two of them are equal where their values are.
 #[derive(Debug, Drop)]
 pub struct Boxed<T> {
     value: Box<T>,
@@ -19,7 +19,7 @@ impl<T> Model for Boxed<T> {
     ghost view = { λ boxed. boxed.value.value };
 }
 
-impl<T: Copy> Boxed<T> {
+impl<T: Drop> Boxed<T> {
     /// The value, in memory that is made for it. The error comes only where an allocation fails.
     pub fn new(alloc: Global, value: T) -> Result<Boxed<T>, Memory>
         ensures { IfOk result (λ boxed. boxed ≡ value) }

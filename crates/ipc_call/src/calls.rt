@@ -2,6 +2,7 @@
 
 ghost use Rattle.std.specs.Prelude.{◌≡◌, IfOk};
 
+use crate::boxed::Boxed;
 use crate::items::Items;
 use crate::replies::Memory;
 
@@ -219,13 +220,13 @@ pub enum Call {
     },
     /// Gives the client these credentials, as the kernel tells them of its thread. It is the project's own.
     Assume {
-        creds: Identity,
+        creds: Boxed<Identity>,
     },
     /// The client, whose thread has ended, begins anew as the only thread of a new process of this pid, with these
     /// credentials. It is the project's own.
     Begin {
         pid: u32,
-        creds: Identity,
+        creds: Boxed<Identity>,
     },
     /// A client whose thread has ended becomes the only thread of a new process of this pid, with the caller's
     /// credentials and the attachments of its process (fork(2)).
@@ -346,11 +347,11 @@ impl Call {
                 Call::SetCreds { euid, egid, groups }
             }
             Call::Assume { ref creds } => {
-                let creds = creds.copy()?;
+                let creds = copied_apart(creds)?;
                 Call::Assume { creds }
             }
             Call::Begin { pid, ref creds } => {
-                let creds = creds.copy()?;
+                let creds = copied_apart(creds)?;
                 Call::Begin { pid, creds }
             }
             Call::Fork { child, pid } => Call::Fork { child, pid },
@@ -369,4 +370,12 @@ fn copied(groups: &Option<Items<u32>>) -> Result<Option<Items<u32>>, Memory>
         None => Ok(None),
         Some(groups) => Ok(Some(groups.copy()?)),
     }
+}
+
+/// A copy of credentials that a call carries apart.
+fn copied_apart(creds: &Boxed<Identity>) -> Result<Boxed<Identity>, Memory>
+    ensures { IfOk result (λ copied. copied ≡ creds.now) }
+{
+    let creds = creds.get();
+    Boxed::new(creds.groups.alloc(), creds.copy()?)
 }

@@ -3,6 +3,7 @@
 ghost use Rattle.std.specs.Prelude.{◌≡◌, IfOk, length, take};
 
 use crate::replies::Memory;
+use std::alloc::Global;
 use std::marker::Model;
 
 /// A list of plain values that a call or an answer carries: the bytes of a text, operations, groups.
@@ -51,6 +52,13 @@ impl<T> Items<T> {
     }
 }
 
+impl<T> Items<T> {
+    /// What allocates for it.
+    pub(crate) fn alloc(&self) -> Global {
+        *self.items.allocator()
+    }
+}
+
 impl<T: Drop> Items<T> {
     /// Keeps the first `len` elements, or all where there are fewer. It doesn't allocate.
     pub fn truncate(&mut self, len: usize)
@@ -65,8 +73,7 @@ impl<T: Copy> Items<T> {
     pub fn copy(&self) -> Result<Items<T>, Memory>
         ensures { IfOk result (λ copied. copied ≡ self.now) }
     {
-        let alloc = *self.items.allocator();
-        Ok(Items::new(Vec::from_slice(alloc, self.items.as_slice())?))
+        Ok(Items::new(Vec::from_slice(self.alloc(), self.items.as_slice())?))
     }
 }
 

@@ -14,8 +14,12 @@ ghost use Rattle.ipc_call.specs.Limits.{
 /// `Limit` has their ranges.
 #[derive(Clone, Copy, Debug, PartialEq, Eq)]
 pub struct Limits {
-    /// Slots for objects of each kind.
-    pub slots: u32,
+    /// MSGMNI, slots for queues.
+    pub queues: u32,
+    /// SEMMNI, slots for semaphore sets.
+    pub sets: u32,
+    /// SHMMNI, slots for segments.
+    pub segments: u32,
     /// The sequence number of a slot that was never used.
     pub first_seq: u16,
     /// MSGMAX, the longest text of a message in bytes.
@@ -36,7 +40,9 @@ impl Default for Limits {
     /// The limits that hold where none is set.
     fn default() -> Limits {
         Limits {
-            slots: 128,
+            queues: 128,
+            sets: 128,
+            segments: 128,
             first_seq: 0,
             msg_max: 8192,
             msg_mnb: 16384,
@@ -52,7 +58,9 @@ impl Limits {
     pub fn in_range(&self) -> bool
         ensures { result ≡ are_in_range self.now }
     {
-        Limit::Slots.admits(self.slots)
+        Limit::Queues.admits(self.queues)
+            && Limit::Sets.admits(self.sets)
+            && Limit::Segments.admits(self.segments)
             && Limit::MsgMax.admits(self.msg_max)
             && Limit::MsgMnb.admits(self.msg_mnb)
             && Limit::SemMsl.admits(self.sem_msl)
@@ -60,7 +68,7 @@ impl Limits {
             && Limit::ShmMax.admits(self.shm_max)
     }
 
-    /// The limits with one of them set to a value in its range.
+    /// The limits with one of them set to a value in its range, or with the slots of all kinds set to it.
     pub fn with_limit(self, limit: Limit, value: u32) -> Limits
         requires { IsTrue (is_in_range limit value) }
         ensures value { result ≡ limits_with self limit value }
@@ -68,7 +76,21 @@ impl Limits {
     {
         match limit {
             Limit::Slots => Limits {
-                slots: value,
+                queues: value,
+                sets: value,
+                segments: value,
+                ..self
+            },
+            Limit::Queues => Limits {
+                queues: value,
+                ..self
+            },
+            Limit::Sets => Limits {
+                sets: value,
+                ..self
+            },
+            Limit::Segments => Limits {
+                segments: value,
                 ..self
             },
             Limit::FirstSeq => Limits {
@@ -99,11 +121,17 @@ impl Limits {
     }
 }
 
-/// One of the limits.
+/// One of the limits, or the slots of all kinds.
 #[derive(Clone, Copy, Debug, PartialEq, Eq)]
 pub enum Limit {
-    /// 1 to 32768, by default 128.
+    /// The slots of each kind, 1 to 32768, by default 128.
     Slots,
+    /// 1 to 32768, by default 128.
+    Queues,
+    /// 1 to 32768, by default 128.
+    Sets,
+    /// 1 to 32768, by default 128.
+    Segments,
     /// 0 to 65535, by default 0.
     FirstSeq,
     /// 1 to 65536 bytes, by default 8192.
@@ -139,6 +167,9 @@ impl Limit {
     {
         match self {
             Limit::Slots => (1, 32768),
+            Limit::Queues => (1, 32768),
+            Limit::Sets => (1, 32768),
+            Limit::Segments => (1, 32768),
             Limit::FirstSeq => (0, 65535),
             Limit::MsgMax => (1, 65536),
             Limit::MsgMnb => (1, 2_147_483_647),

@@ -28,7 +28,17 @@ events_in (Called client now call ∷ es) = record { client = client; now = now;
 -- stands for the history where nothing was opened
 abbrev pub unopened : History
 unopened = record {
-  limits = record { slots = 0; first_seq = 0; msg_max = 0; msg_mnb = 0; sem_msl = 0; sem_opm = 0; shm_max = 0 };
+  limits = record {
+    queues = 0;
+    sets = 0;
+    segments = 0;
+    first_seq = 0;
+    msg_max = 0;
+    msg_mnb = 0;
+    sem_msl = 0;
+    sem_opm = 0;
+    shm_max = 0;
+  };
   clients = [];
   events = [];
 }

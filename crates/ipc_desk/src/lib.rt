@@ -21,8 +21,8 @@ pub use call_values::{
 };
 pub use desk::Desk;
 pub use ipc_call::{
-    Errno, Identity, Items, Kind, Limits, Listed, Memory, Mode, Perm, QueueStatus, Row, Rule,
-    SegmentStatus, SetStatus, Settings,
+    Boxed, Errno, Identity, Items, Kind, Limits, Listed, Memory, Mode, Perm, QueueStatus, Row,
+    Rule, SegmentStatus, SetStatus, Settings,
 };
 pub use ipc_creds::{Caps, Creds, GROUPS_MAX};
 pub use ipc_perm::{Ground, Verdict};

@@ -7,7 +7,7 @@ ghost use Rattle.ipc_desk.specs.Desks.{Comes, told};
 
 use crate::desk::Desk;
 use call_values::{Client, Failure};
-use ipc_call::{Call, Identity, Items, Kind, Row};
+use ipc_call::{Boxed, Call, Identity, Items, Kind, Row};
 
 impl Desk {
     /// The objects of a kind that the client may read, by rising slot (ipcs(1)).
@@ -68,7 +68,7 @@ impl Desk {
     }
 
     /// Makes the client, which has ended, a new process of this number with these credentials. It is the project's own.
-    pub fn begin(&mut self, client: Client, pid: u32, creds: Identity) -> Result<(), Failure>
+    pub fn begin(&mut self, client: Client, pid: u32, creds: Boxed<Identity>) -> Result<(), Failure>
         ensures { Comes self.old self.new client.0 (calls.Begin pid creds) (told (λ done. answers.Done) result) }
     {
         self.ask_done(client, Call::Begin { pid, creds })
@@ -82,7 +82,7 @@ impl Desk {
     }
 
     /// Gives the client these credentials, and asks for no right. It is the project's own.
-    pub fn assume(&mut self, client: Client, creds: Identity) -> Result<(), Failure>
+    pub fn assume(&mut self, client: Client, creds: Boxed<Identity>) -> Result<(), Failure>
         ensures { Comes self.old self.new client.0 (calls.Assume creds) (told (λ done. answers.Done) result) }
     {
         self.ask_done(client, Call::Assume { creds })

@@ -40,6 +40,12 @@ waiting_caller_of e = caller_where e.client (own_of e.answers)
 abbrev pub newly_awaited_in : State → Entered → Option Awaited
 newly_awaited_in s e = option_and_then (awaited_in s) (waiting_caller_of e)
 
+-- what is told of a call that was granted
+abbrev pub where_granted : {X : Type 0} → Own → Option X → Option X
+where_granted Granted told = told
+where_granted (Refused rule) told = None
+where_granted Waits told = None
+
 -- a line behind its number, and one with calls as it stands above its row
 abbrev pub line_number : ℕ → List ℕ
 line_number number = codes "line " ++ (decimal number ++ codes ": ")

@@ -1,20 +1,22 @@
 //! A script that is run and explained.
 
-ghost use Rattle.std.specs.Prelude.{◌≡◌, ◌++◌, [], Some, List, ℕ, IfOk, OnErr, OnOk, string_bytes};
+ghost use Rattle.std.specs.Prelude.{◌≡◌, ◌++◌, [], Some, List, ℕ, IfOk, IfSome, OnErr, OnOk, string_bytes};
 ghost use Rattle.call_reasons.specs.Cases.{entered};
 ghost use Rattle.ipc_history.specs.History.{History, run, with_event};
 ghost use Rattle.ipc_model.specs.Step.{Event};
 ghost use Rattle.row_notes.specs.Merging.{IsExplained, explained};
 ghost use Rattle.row_notes.specs.Noted.{AddsNote, Noted, with_note};
 ghost use Rattle.shown_lines.specs.Folding.{folded_all, lines_text};
-ghost use Rattle.ipc_explain.specs.Explaining.{head_of, line_number, newly_awaited_in, numbered, own_of, shown_line, waiting_caller_of};
+ghost use Rattle.thread_ends.specs.Leaving.{left_in, seen};
+ghost use Rattle.ipc_explain.specs.Explaining.{head_of, line_number, newly_awaited_in, numbered, own_of, shown_line, waiting_caller_of, where_granted};
 ghost use Rattle.ipcsh.specs.Runs.{EndsBy, transfer};
 
+use crate::leaving::print_threads;
 use call_reasons::{
     Awaited, Case, Ender, LatestEvent, Wait, asked_by, awaited_by, explain_end, explain_refusal,
     latest_event, print_awaited,
 };
-use ipc_call::{JournalRow, Memory, Rule};
+use ipc_call::{Call, JournalRow, Memory, Rule};
 use ipc_hints::Hints;
 use ipc_space::{Effects, Space};
 use ipc_text::{Command, Line, Reason, is_plain, split_word};
@@ -25,6 +27,7 @@ use shown_lines::{fold, print_line};
 use std::alloc::Global;
 use std::fmt::Write;
 use std::io::Read;
+use thread_ends::{Left, left_by, print_left};
 use wait_graph::Graph;
 
 /// How wide a note is beside its margin of four blanks, and a line of the script beside its own: a screen has 80 columns.
@@ -65,7 +68,7 @@ pub fn explain<R: Read>(alloc: Global, reader: &mut R) -> Result<Explained, Memo
 
 /// A client of the script.
 #[derive(Debug, Drop)]
-struct Client {
+pub(crate) struct Client {
     name: String,
     /// Since when its call waits.
     wait: Option<Wait>,
@@ -80,6 +83,8 @@ struct Explainer {
     clients: Vec<Client>,
     /// The latest line with calls, until it stands above a row.
     line: Vec<u8>,
+    /// What the call leaves that was entered last, where it is granted, unless memory was refused.
+    left: Option<Left>,
     /// The note on the next event. It begins with the warnings of the latest line with calls.
     text: String,
     /// The lines above rows.
@@ -95,6 +100,7 @@ impl Explainer {
             hints: Some(Hints::new(alloc)),
             clients: Vec::new(alloc),
             line: Vec::new(alloc),
+            left: None,
             text: String::new(alloc),
             lines: Notes::new(alloc),
             notes: Notes::new(alloc),
@@ -159,13 +165,33 @@ impl Explainer {
         Ok(())
     }
 
-    /// Tells of the event's own call: why a rule refused it, or what it waits for.
+    /// Keeps what the call of a client leaves that is entered next, where it is granted.
+    fn keep_left(&mut self, space: &Space, client: u32, call: &Call)
+        ensures { IfSome self.new.left (λ left. left_in (run space.now) client call.now ≡ Some (seen left)) }
+    {
+        self.left = left_by(self.alloc, space, client, call).unwrap_or(None);
+    }
+
+    /// Tells what the event's own call left, where it was granted.
+    fn tell_left(&mut self, own: Own) -> Told
+        ensures { self.new.notes ≡ self.old.notes }
+    {
+        match granted(own, self.left.take()) {
+            Some(left) => {
+                print_threads(&mut self.text, &self.clients, &left)?;
+                print_left(&mut self.text, &left)
+            }
+            None => Ok(()),
+        }
+    }
+
+    /// Tells of the event's own call: why a rule refused it, what it left, or what it waits for.
     fn tell_own(&mut self, case: Case<'_>, own: Own, place: u64, awaited: Option<Awaited>) -> Told
         ensures { self.new.notes ≡ self.old.notes }
     {
         match own {
             Own::Refused(rule) => explain_refusal(&mut self.text, case, rule),
-            Own::Granted => Ok(()),
+            Own::Granted => self.tell_left(own),
             Own::Waits => {
                 self.begin_wait(case, place);
                 match awaited {
@@ -415,7 +441,7 @@ fn show_line(alloc: Global, number: u64, text: &[u8]) -> Result<Vec<u8>, Memory>
 }
 
 /// The name of a client.
-fn name_of(clients: &[Client], client: u32) -> &str {
+pub(crate) fn name_of(clients: &[Client], client: u32) -> &str {
     match clients.get(client as usize) {
         Some(client) => client.name.as_str(),
         None => "",
@@ -440,6 +466,16 @@ fn own_in(answers: &[JournalRow]) -> Own
             None => Own::Granted,
         },
         _ => Own::Waits,
+    }
+}
+
+/// What a call leaves, where it was granted.
+fn granted(own: Own, left: Option<Left>) -> Option<Left>
+    ensures { result ≡ where_granted own left }
+{
+    match own {
+        Own::Granted => left,
+        _ => None,
     }
 }
 
@@ -538,6 +574,10 @@ impl Listener for Explainer {
                 self.keep(Head::Line(number), text);
             }
         }
+    }
+
+    fn entering(&mut self, space: &Space, client: u32, call: &Call) {
+        self.keep_left(space, client, call);
     }
 
     fn answered(&mut self, space: &mut Space, _client: u32, _effects: &Effects) {

@@ -6,7 +6,7 @@ use ipc_text::limit_named;
 use std::fmt::Write;
 
 /// The limits, by name.
-const LIMITS: &str = "slots first-seq msgmax msgmnb semmsl semopm shmmax";
+const LIMITS: &str = "slots queues sets segments first-seq msgmax msgmnb semmsl semopm shmmax";
 
 /// Appends what is wrong with the words after `limit`.
 pub(crate) fn explain_limit(out: &mut String, words: &[Word<'_>]) -> Told {

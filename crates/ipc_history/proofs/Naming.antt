@@ -188,6 +188,6 @@ distinct-from kind s (e ∷ es) sound =
     (distinct-from kind later es later_sound)
 
 -- no identifier is given to two objects of one kind
-pub made-distinct : (kind : Kind) (h : History) → h.limits.slots ≤ 32768 → IsDistinct eqb (made kind h)
-made-distinct kind h few = distinct-from kind (opening h.limits h.clients) h.events
-    (record { queues = IsSound-empty h.limits.slots h.limits.first_seq few; sets = IsSound-empty h.limits.slots h.limits.first_seq few; segments = IsSound-empty h.limits.slots h.limits.first_seq few })
+pub made-distinct : (kind : Kind) (h : History) → h.limits.queues ≤ 32768 → h.limits.sets ≤ 32768 → h.limits.segments ≤ 32768 → IsDistinct eqb (made kind h)
+made-distinct kind h queues sets segments = distinct-from kind (opening h.limits h.clients) h.events
+    (record { queues = IsSound-empty h.limits.queues h.limits.first_seq queues; sets = IsSound-empty h.limits.sets h.limits.first_seq sets; segments = IsSound-empty h.limits.segments h.limits.first_seq segments })

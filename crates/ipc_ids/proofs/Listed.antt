@@ -35,7 +35,7 @@ module _ {X Y : Type 0} (f : X → Y) (t : Table X) where
   mapped z None = refl
   mapped z (Some x) = refl
 
-  id_in-image : (slot : ℕ) → id_in (image f t) slot ≡ id_in t slot
+  pub id_in-image : (slot : ℕ) → id_in (image f t) slot ≡ id_in t slot
   id_in-image slot =
       ap (λ o. if nat_lt slot t.slots then o else None)
       (ap (option_map (λ y. id_at t slot)) (get-image f t.objects (id_at t slot)) ∙ mapped (id_at t slot) (object_at t slot))

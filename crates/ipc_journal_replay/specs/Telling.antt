@@ -4,11 +4,11 @@ use Rattle.ipc_call.specs.declared.replies.JournalRow.{JournalRow}
 use Rattle.ipc_call.specs.declared.replies.JournalRow.TheVariants.{Called, Answered}
 use Rattle.ipc_journal_text.specs.JournalText.{row_text}
 
--- the line of the text at which a row stands, behind the heading, seven limits and the clients, and its number from 1
-unfoldable pub place_text : ℕ → ℕ → List ℕ
-place_text clients count =
+-- the line of the text at which a row stands, behind so many lines and the clients, and its number from 1
+unfoldable pub place_text : ℕ → ℕ → ℕ → List ℕ
+place_text head clients count =
     codes "line "
-    ++ (decimal (9 + clients + count) ++ (codes ", row " ++ (decimal (count + 1) ++ codes ": the journal differs\n")))
+    ++ (decimal (head + 1 + clients + count) ++ (codes ", row " ++ (decimal (count + 1) ++ codes ": the journal differs\n")))
 
 -- what a journal has
 abbrev pub found_row : Option JournalRow → List ℕ
@@ -38,8 +38,8 @@ given_row clients (Some row) found = row_text row
 unfoldable pub given_text : ℕ → Option JournalRow → Option JournalRow → List ℕ
 given_text clients given found = codes "the definitions give: " ++ given_row clients given found
 
--- the place, what rows have there, and what a journal of so many clients gives
-abbrev pub difference_text : ℕ → List JournalRow → ℕ → List JournalRow → List ℕ
-difference_text clients rows count journal =
-    place_text clients count
+-- the place, what rows have there, and what a journal gives of so many lines before the clients, and of so many clients
+abbrev pub difference_text : ℕ → ℕ → List JournalRow → ℕ → List JournalRow → List ℕ
+difference_text head clients rows count journal =
+    place_text head clients count
     ++ (found_text (slice_get rows count) ++ given_text clients (slice_get journal count) (slice_get rows count))

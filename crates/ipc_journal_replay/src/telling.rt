@@ -1,16 +1,14 @@
 // Where a journal differs, in words.
 
 ghost use Rattle.std.specs.Prelude.{◌≡◌, ◌++◌, ◌≤◌, OnOk, length, option_map, slice_get, string_bytes};
-ghost use Rattle.ipc_history.specs.History.{rows_of};
+ghost use Rattle.ipc_history.specs.History.{rows_of, run};
+ghost use Rattle.ipc_journal_text.specs.JournalText.{head_lines as lines_before};
 ghost use Rattle.ipc_journal_replay.specs.Telling.{difference_text, found_row, found_text, given_text, no_call, place_text, why_none};
 
-use ipc_call::{JournalRow, Memory};
-use ipc_journal_text::print_row;
+use ipc_call::{JournalRow, Limits, Memory};
+use ipc_journal_text::{head_lines, print_row};
 use ipc_space::Space;
 use std::fmt::Write;
-
-/// The line of a text with no client at which its first row stands: behind the heading, and one for each limit.
-const FIRST: u64 = 9;
 
 /// Appends where rows, of which so many begin the journal of this namespace, differ from it: the line of their text, what
 /// stands there, and what the definitions give. `Memory` comes where a growth was refused, and a part of the text may then
@@ -22,11 +20,11 @@ pub fn print_difference(
     space: &Space,
 ) -> Result<(), Memory>
     requires { count ≤ length rows.now }
-    ensures { OnOk result (string_bytes text.new ≡ string_bytes text.old ++ difference_text (length space.now.clients) rows.now count (rows_of space.now)) }
+    ensures { OnOk result (string_bytes text.new ≡ string_bytes text.old ++ difference_text (lines_before (run space.now).limits) (length space.now.clients) rows.now count (rows_of space.now)) }
 {
     let clients = space.clients();
     let found = row_at(rows, count);
-    print_place(text, clients, count)?;
+    print_place(text, &space.limits(), clients, count)?;
     print_found(text, found)?;
     print_given(text, clients, row_at(space.journal(), count), found)
 }
@@ -38,11 +36,11 @@ fn row_at(rows: &[JournalRow], at: usize) -> Option<&JournalRow>
 }
 
 #[tactic(auto, unfolding(crate::specs::Telling::place_text))]
-fn print_place(text: &mut String, clients: u32, count: usize) -> Result<(), Memory>
+fn print_place(text: &mut String, limits: &Limits, clients: u32, count: usize) -> Result<(), Memory>
     requires { count ≤ 9223372036854775807 }
-    ensures { OnOk result (string_bytes text.new ≡ string_bytes text.old ++ place_text clients count) }
+    ensures { OnOk result (string_bytes text.new ≡ string_bytes text.old ++ place_text (lines_before limits.now) clients count) }
 {
-    let line = FIRST + u64::from(clients) + count as u64;
+    let line = head_lines(limits) + 1 + u64::from(clients) + count as u64;
     let row = count + 1;
     write!(text, "line {line}, row {row}: the journal differs\n")
 }

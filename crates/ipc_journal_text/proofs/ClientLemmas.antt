@@ -1,5 +1,5 @@
 -- The line of a client is read as its credentials.
-use Rattle.std.proofs.Common.{◌≡◌, ℕ, true, List, [], ◌∷◌, ◌++◌, length, arith, refl, ap, ◌∙◌, codes, append_assoc, nat_eq, nat_le}
+use Rattle.std.proofs.Common.{◌≡◌, ℕ, true, false, List, [], ◌∷◌, ◌++◌, length, arith, refl, ap, ◌∙◌, codes, append_assoc, nat_eq, nat_le}
 use Rattle.std.proofs.lemmas.Bool.Decides.{nat_tests}
 use Rattle.std.specs.List.{starts_with}
 use Rattle.std.specs.Prelude.{decimal, Some}
@@ -39,3 +39,8 @@ client_read client c n h =
 pub client_first : (client : ℕ) (c : Credentials) → starts_with nat_eq (client_line client c) (codes "client ") ≡ true
 unfolding client_line
 client_first client c = refl
+
+-- and it is no limit's
+pub client_no_limit : (client : ℕ) (c : Credentials) → starts_with nat_eq (client_line client c) (codes "limit ") ≡ false
+unfolding client_line
+client_no_limit client c = refl

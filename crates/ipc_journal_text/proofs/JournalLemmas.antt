@@ -5,29 +5,32 @@ use Rattle.std.proofs.lemmas.Grind.{flat_map-append}
 use Rattle.std.proofs.lemmas.List.{append-nil}
 use Rattle.std.proofs.lemmas.List.Elements.{All-append, All-cons, All-head, All-nil, All-tail}
 use Rattle.std.specs.List.{All}
-use Rattle.std.specs.Prelude.{IsTrue, decimal, flat_map, Option, Some}
+use Rattle.std.specs.Prelude.{IsTrue, decimal, flat_map, Option, Some, if◌then◌else◌}
 use Rattle.ipc_call.specs.Limits.{are_in_range, is_in_range, most, with_limit}
 use Rattle.ipc_call.specs.declared.limits.Limit.{Limit}
-use Rattle.ipc_call.specs.declared.limits.Limit.TheVariants.{Slots, FirstSeq, MsgMax, MsgMnb, SemMsl, SemOpm, ShmMax}
+use Rattle.ipc_call.specs.declared.limits.Limit.TheVariants.{Slots, Queues, Sets, Segments, FirstSeq, MsgMax, MsgMnb, SemMsl, SemOpm, ShmMax}
 use Rattle.ipc_call.specs.declared.limits.Limits.{Limits}
 use Rattle.ipc_call.specs.declared.replies.JournalRow.{JournalRow}
 use Rattle.ipc_creds.specs.Credentials.{Credentials}
 use Rattle.ipc_words.specs.Words.{fields_of, words_of}
-use Rattle.ipc_journal_text.proofs.ClientLemmas.{client_ended, client_first, client_line, client_read}
+use Rattle.ipc_journal_text.proofs.ClientLemmas.{client_ended, client_first, client_line, client_no_limit, client_read}
 use Rattle.ipc_journal_text.proofs.CredsLemmas.{before_last-append}
 use Rattle.ipc_journal_text.proofs.NumberLemmas.{within-decimal}
 use Rattle.ipc_journal_text.proofs.PartLemmas.{word_32}
-use Rattle.ipc_journal_text.proofs.RowLemmas.{row_ended, row_first, row_line, row_read}
+use Rattle.ipc_journal_text.proofs.RowLemmas.{row_ended, row_first, row_line, row_no_limit, row_read}
 use Rattle.ipc_journal_text.proofs.WordLemmas.{IsWord, both, fields-each, is_free, words-last, words-then}
 use Rattle.ipc_text.specs.Grammar.{limit_of}
-use Rattle.ipc_journal_text.specs.JournalText.{clients_text, heading_text, limit_text, message_limits, other_limits, row_text, text_of}
+use Rattle.ipc_journal_text.specs.JournalText.{are_alike, clients_text, head_lines, heading_text, limit_text, message_limits, other_limits, row_text, slot_limits, text_of}
 use Rattle.ipc_journal_text.specs.Ranges.{CredsFit, Fits32, IsJournal, RowFits}
-use Rattle.ipc_journal_text.specs.Reading.{Read, after, is_client, read_client, read_limit, read_line, read_lines, read_row, read_text}
+use Rattle.ipc_journal_text.specs.Reading.{Read, after, is_client, is_limit, read_client, read_limit, read_line, read_lines, read_row, read_text}
 use Rattle.ipc_text.specs.Settings.{limit_named, value_of}
 
 -- a limit's name and its line, without its end
 limit_name : Limit → List ℕ
 limit_name Slots = codes "slots"
+limit_name Queues = codes "queues"
+limit_name Sets = codes "sets"
+limit_name Segments = codes "segments"
 limit_name FirstSeq = codes "first-seq"
 limit_name MsgMax = codes "msgmax"
 limit_name MsgMnb = codes "msgmnb"
@@ -44,6 +47,9 @@ limit_line limit n = codes "limit " ++ limit_words limit n
 IsWord-name : (limit : Limit) → IsWord (limit_name limit)
 unfolding limit_name
 IsWord-name Slots = record { some = omega arith; solid = refl }
+IsWord-name Queues = record { some = omega arith; solid = refl }
+IsWord-name Sets = record { some = omega arith; solid = refl }
+IsWord-name Segments = record { some = omega arith; solid = refl }
 IsWord-name FirstSeq = record { some = omega arith; solid = refl }
 IsWord-name MsgMax = record { some = omega arith; solid = refl }
 IsWord-name MsgMnb = record { some = omega arith; solid = refl }
@@ -54,6 +60,9 @@ IsWord-name ShmMax = record { some = omega arith; solid = refl }
 read_name : (limit : Limit) → limit_named (limit_name limit) ≡ Some limit
 unfolding limit_name limit_named
 read_name Slots = refl
+read_name Queues = refl
+read_name Sets = refl
+read_name Segments = refl
 read_name FirstSeq = refl
 read_name MsgMax = refl
 read_name MsgMnb = refl
@@ -63,6 +72,9 @@ read_name ShmMax = refl
 
 small_most : (limit : Limit) → most limit < 2 ^ 32
 small_most Slots = omega arith
+small_most Queues = omega arith
+small_most Sets = omega arith
+small_most Segments = omega arith
 small_most FirstSeq = omega arith
 small_most MsgMax = omega arith
 small_most MsgMnb = omega arith
@@ -93,17 +105,23 @@ limit_read limit n h =
     let words = words-then (limit_name limit) _ _ (IsWord-name limit) (words-last (decimal n) (word_32 n (omega arith))) in
     record { reads = ap limit_of words.has ∙ rw (read_name limit, read_value limit n h) refl; free = words.free }
 
--- the lines of a journal
-limit_lines : Limits → List (List ℕ)
-limit_lines l =
-    limit_line Slots l.slots
-    ∷ limit_line FirstSeq l.first_seq
+-- the lines of a journal: of the slots of each kind, where all are alike and where not; of the other limits
+slot_lines : Bool → Limits → List (List ℕ)
+slot_lines true l = limit_line Slots l.queues ∷ []
+slot_lines false l = limit_line Queues l.queues ∷ limit_line Sets l.sets ∷ limit_line Segments l.segments ∷ []
+
+more_lines : Limits → List (List ℕ)
+more_lines l =
+    limit_line FirstSeq l.first_seq
     ∷ limit_line MsgMax l.msg_max
     ∷ limit_line MsgMnb l.msg_mnb
     ∷ limit_line SemMsl l.sem_msl
     ∷ limit_line SemOpm l.sem_opm
     ∷ limit_line ShmMax l.shm_max
     ∷ []
+
+limit_lines : Limits → List (List ℕ)
+limit_lines l = slot_lines (are_alike l) l ++ more_lines l
 
 client_lines : ℕ → List Credentials → List (List ℕ)
 client_lines first [] = []
@@ -126,11 +144,25 @@ limit_ended : (limit : Limit) (n : ℕ) → limit_text (limit_name limit) n ≡ 
 unfolding limit_text limit_line limit_words ended
 limit_ended limit n = simp append_assoc
 
-limits_ended : (l : Limits) → message_limits l ++ other_limits l ≡ flat_map ended (limit_lines l)
-unfolding message_limits other_limits limit_lines limit_name
-limits_ended l =
+slots_by : Bool → Limits → List ℕ
+slots_by alike l =
+    if alike then limit_text (codes "slots") l.queues
+    else limit_text (codes "queues") l.queues ++ (limit_text (codes "sets") l.sets ++ limit_text (codes "segments") l.segments)
+
+slots_ended : (alike : Bool) (l : Limits) → slots_by alike l ≡ flat_map ended (slot_lines alike l)
+unfolding slots_by slot_lines limit_name
+slots_ended true l = limit_ended Slots l.queues ∙ simp append-nil
+slots_ended false l =
     rw (
-      ← limit_ended Slots l.slots,
+      ← limit_ended Queues l.queues,
+      ← limit_ended Sets l.sets,
+      ← limit_ended Segments l.segments,
+    ) (simp (append_assoc, append-nil))
+
+more_ended : (l : Limits) → message_limits l ++ other_limits l ≡ flat_map ended (more_lines l)
+unfolding message_limits other_limits more_lines limit_name
+more_ended l =
+    rw (
       ← limit_ended FirstSeq l.first_seq,
       ← limit_ended MsgMax l.msg_max,
       ← limit_ended MsgMnb l.msg_mnb,
@@ -138,6 +170,11 @@ limits_ended l =
       ← limit_ended SemOpm l.sem_opm,
       ← limit_ended ShmMax l.shm_max,
     ) (simp (append_assoc, append-nil))
+
+limits_ended : (l : Limits) → slot_limits l ++ (message_limits l ++ other_limits l) ≡ flat_map ended (limit_lines l)
+unfolding slot_limits slots_by limit_lines
+limits_ended l =
+    rw (flat_map-append ended (slot_lines (are_alike l) l) (more_lines l), ← slots_ended (are_alike l) l, ← more_ended l) refl
 
 clients_ended : (first : ℕ) (cs : List Credentials) → clients_text first cs ≡ flat_map ended (client_lines first cs)
 unfolding client_lines ended
@@ -180,7 +217,9 @@ joined_fields line lines h k = (fields-each 10 (λ l. l) line lines h k).has ∙
 
 -- each limit is in its range
 record LimitsFit (l : Limits) : Type 0 where
-  slots : is_in_range Slots l.slots ≡ true
+  queues : is_in_range Queues l.queues ≡ true
+  sets : is_in_range Sets l.sets ≡ true
+  segments : is_in_range Segments l.segments ≡ true
   first_seq : is_in_range FirstSeq l.first_seq ≡ true
   msg_max : is_in_range MsgMax l.msg_max ≡ true
   msg_mnb : is_in_range MsgMnb l.msg_mnb ≡ true
@@ -188,15 +227,15 @@ record LimitsFit (l : Limits) : Type 0 where
   sem_opm : is_in_range SemOpm l.sem_opm ≡ true
   shm_max : is_in_range ShmMax l.shm_max ≡ true
 
-six : (a b c d e f : Bool) → (a && b && c && d && e && f) ≡ true → (a ≡ true) × (b ≡ true) × (c ≡ true) × (d ≡ true) × (e ≡ true) × (f ≡ true)
-six true true true true true true h = (refl, refl, refl, refl, refl, refl)
-six a b c d e f h = cc
+eight : (a b c d e f g h : Bool) → (a && b && c && d && e && f && g && h) ≡ true → (a ≡ true) × (b ≡ true) × (c ≡ true) × (d ≡ true) × (e ≡ true) × (f ≡ true) × (g ≡ true) × (h ≡ true)
+eight true true true true true true true true k = (refl, refl, refl, refl, refl, refl, refl, refl)
+eight a b c d e f g h k = cc
 
 limits_fit : (l : Limits) → IsTrue (are_in_range l) → l.first_seq < 2 ^ 16 → LimitsFit l
 limits_fit l h k =
-    let parts = six (is_in_range Slots l.slots) (is_in_range MsgMax l.msg_max) (is_in_range MsgMnb l.msg_mnb) (is_in_range SemMsl l.sem_msl) (is_in_range SemOpm l.sem_opm) (is_in_range ShmMax l.shm_max) h in
+    let parts = eight (is_in_range Queues l.queues) (is_in_range Sets l.sets) (is_in_range Segments l.segments) (is_in_range MsgMax l.msg_max) (is_in_range MsgMnb l.msg_mnb) (is_in_range SemMsl l.sem_msl) (is_in_range SemOpm l.sem_opm) (is_in_range ShmMax l.shm_max) h in
     let seq : is_in_range FirstSeq l.first_seq ≡ true = grind (arith, nat_tests) in
-    record { slots = parts.0; first_seq = seq; msg_max = parts.1; msg_mnb = parts.2; sem_msl = parts.3; sem_opm = parts.4; shm_max = parts.5 }
+    record { queues = parts.0; sets = parts.1; segments = parts.2; first_seq = seq; msg_max = parts.3; msg_mnb = parts.4; sem_msl = parts.5; sem_opm = parts.6; shm_max = parts.7 }
 
 -- no line feed in any of the lines
 Free : List ℕ → Type 0
@@ -212,10 +251,15 @@ free-cons line lines h k = record { all = All-cons Free line lines h k.all }
 free_limit : (limit : Limit) (n : ℕ) (lines : List (List ℕ)) → is_in_range limit n ≡ true → AreFree lines → AreFree (limit_line limit n ∷ lines)
 free_limit limit n lines h k = free-cons (limit_line limit n) lines (limit_read limit n h).free k
 
+free_slots : (alike : Bool) (l : Limits) → LimitsFit l → (lines : List (List ℕ)) → AreFree lines → AreFree (slot_lines alike l ++ lines)
+unfolding slot_lines
+free_slots true l h lines k = free_limit Slots l.queues _ h.queues k
+free_slots false l h lines k = free_limit Queues l.queues _ h.queues (free_limit Sets l.sets _ h.sets (free_limit Segments l.segments _ h.segments k))
+
 free_limits : (l : Limits) → LimitsFit l → AreFree (limit_lines l)
-unfolding limit_lines
+unfolding limit_lines more_lines
 free_limits l h =
-    free_limit Slots l.slots _ h.slots
+    free_slots (are_alike l) l h _
     (free_limit FirstSeq l.first_seq _ h.first_seq
     (free_limit MsgMax l.msg_max _ h.msg_max
     (free_limit MsgMnb l.msg_mnb _ h.msg_mnb
@@ -255,24 +299,67 @@ heading_read l = refl
 record ReadsAs (number : ℕ) (read : Read) (lines : List (List ℕ)) (result : Option Read) : Type 0 where
   is : read_lines number read lines ≡ result
 
-then_limit : (number : ℕ) (read : Read) (limit : Limit) (n : ℕ) (lines : List (List ℕ)) (result : Option Read) → (after number == 1) ≡ false → nat_le (after number) 8 ≡ true → is_in_range limit n ≡ true → ReadsAs (after number) (limit_set read limit n) lines result → ReadsAs number read (limit_line limit n ∷ lines) result
-unfolding read_line
-then_limit number read limit n lines result e f h k =
-    let step : read_line (after number) read (limit_line limit n) ≡ Some (limit_set read limit n) = rw (e, f) (limit_step read limit n h) in
-    record { is = one_line number read (limit_set read limit n) (limit_line limit n) lines step ∙ k.is }
+-- a limit's line is read as one, be it one of the first seven or not
+either_way : {A : Type 0} (early : Bool) (x y : A) → (if early then x else (if true then x else y)) ≡ x
+either_way true x y = refl
+either_way false x y = refl
 
-limits_read : (old l : Limits) (rest : List (List ℕ)) → LimitsFit l → ReadsAs 1 (fresh old) (limit_lines l ++ rest) (read_lines 8 (fresh l) rest)
-unfolding fresh limit_lines limit_set
+then_limit : (number : ℕ) (old : Limits) (limit : Limit) (n : ℕ) (lines : List (List ℕ)) (result : Option Read) → 1 ≤ number → is_in_range limit n ≡ true → ReadsAs (after number) (fresh (with_limit old limit n)) lines result → ReadsAs number (fresh old) (limit_line limit n ∷ lines) result
+unfolding read_line fresh limit_line limit_set
+then_limit number old limit n lines result some h k =
+    let behind : (after number == 1) ≡ false = grind (arith, nat_tests) in
+    let step : read_line (after number) (fresh old) (limit_line limit n) ≡ Some (fresh (with_limit old limit n)) =
+    rw (behind, either_way (nat_le (after number) 8) (read_limit (fresh old) (limit_line limit n)) _) (limit_step (fresh old) limit n h) in
+    record { is = one_line number (fresh old) (fresh (with_limit old limit n)) (limit_line limit n) lines step ∙ k.is }
+
+-- the other limits, behind the lines of slots
+one_on : (number : ℕ) → 1 ≤ number → 1 ≤ after number
+one_on number h = omega arith
+
+six_on : ℕ → ℕ
+six_on number = after (after (after (after (after (after number)))))
+
+more_read : (number : ℕ) (old l : Limits) (rest : List (List ℕ)) → 1 ≤ number → LimitsFit l →
+    ReadsAs number (fresh old) (more_lines l ++ rest) (read_lines (six_on number) (fresh (record l { queues = old.queues; sets = old.sets; segments = old.segments })) rest)
+unfolding more_lines six_on
+more_read number old l rest first h =
+    let second = one_on number first in
+    let third = one_on _ second in
+    let fourth = one_on _ third in
+    let fifth = one_on _ fourth in
+    let sixth = one_on _ fifth in
+    then_limit number _ FirstSeq l.first_seq _ _ first h.first_seq
+    (then_limit _ _ MsgMax l.msg_max _ _ second h.msg_max
+    (then_limit _ _ MsgMnb l.msg_mnb _ _ third h.msg_mnb
+    (then_limit _ _ SemMsl l.sem_msl _ _ fourth h.sem_msl
+    (then_limit _ _ SemOpm l.sem_opm _ _ fifth h.sem_opm
+    (then_limit _ _ ShmMax l.shm_max _ _ sixth h.shm_max (record { is = refl }))))))
+
+-- alike, each kind has as many slots as there are for queues
+alike_is : (l : Limits) → are_alike l ≡ true → record l { sets = l.queues; segments = l.queues } ≡ l
+alike_is l h =
+    let sets : l.queues ≡ l.sets = grind (arith, nat_tests) in
+    let segments : l.queues ≡ l.segments = grind (arith, nat_tests) in
+    λ i. record l { sets = sets i; segments = segments i }
+
+limits_by : (alike : Bool) (old l : Limits) (rest : List (List ℕ)) → are_alike l ≡ alike → LimitsFit l →
+    ReadsAs 1 (fresh old) (slot_lines alike l ++ (more_lines l ++ rest)) (read_lines (if alike then 8 else 10) (fresh l) rest)
+unfolding slot_lines six_on
+limits_by true old l rest e h =
+    then_limit 1 old Slots l.queues _ _ (omega arith) h.queues
+    (record { is = (more_read 2 _ l rest (omega arith) h).is ∙ ap (λ k. read_lines 8 (fresh k) rest) (alike_is l e) })
+limits_by false old l rest e h =
+    then_limit 1 old Queues l.queues _ _ (omega arith) h.queues
+    (then_limit 2 _ Sets l.sets _ _ (omega arith) h.sets
+    (then_limit 3 _ Segments l.segments _ _ (omega arith) h.segments
+    (more_read 4 _ l rest (omega arith) h)))
+
+limits_read : (old l : Limits) (rest : List (List ℕ)) → LimitsFit l → ReadsAs 1 (fresh old) (limit_lines l ++ rest) (read_lines (head_lines l) (fresh l) rest)
+unfolding limit_lines
 limits_read old l rest h =
-    then_limit 1 (fresh old) Slots l.slots _ _ refl refl h.slots
-    (then_limit 2 _ FirstSeq l.first_seq _ _ refl refl h.first_seq
-    (then_limit 3 _ MsgMax l.msg_max _ _ refl refl h.msg_max
-    (then_limit 4 _ MsgMnb l.msg_mnb _ _ refl refl h.msg_mnb
-    (then_limit 5 _ SemMsl l.sem_msl _ _ refl refl h.sem_msl
-    (then_limit 6 _ SemOpm l.sem_opm _ _ refl refl h.sem_opm
-    (then_limit 7 _ ShmMax l.shm_max _ _ refl refl h.shm_max (record { is = refl })))))))
+    rw (append_assoc (slot_lines (are_alike l) l) (more_lines l) rest) (limits_by (are_alike l) old l rest refl h)
 
-head_read : (old l : Limits) (rest : List (List ℕ)) → LimitsFit l → read_lines 0 (fresh old) (heading_line ∷ (limit_lines l ++ rest)) ≡ read_lines 8 (fresh l) rest
+head_read : (old l : Limits) (rest : List (List ℕ)) → LimitsFit l → read_lines 0 (fresh old) (heading_line ∷ (limit_lines l ++ rest)) ≡ read_lines (head_lines l) (fresh l) rest
 head_read old l rest h =
     one_line 0 (fresh old) (fresh old) heading_line (limit_lines l ++ rest) (heading_read old) ∙ (limits_read old l rest h).is
 
@@ -280,19 +367,19 @@ head_read old l rest h =
 later : (number : ℕ) → 8 ≤ number → 8 < after number
 later number h = omega arith
 
-late_client : (number : ℕ) (read : Read) (line : List ℕ) → 8 < number → is_client read line ≡ true → read_line number read line ≡ read_client read line
+late_client : (number : ℕ) (read : Read) (line : List ℕ) → 8 < number → is_limit read line ≡ false → is_client read line ≡ true → read_line number read line ≡ read_client read line
 unfolding read_line
-late_client number read line h e =
+late_client number read line h d e =
     let first : (number == 1) ≡ false = grind (arith, nat_tests) in
     let limit : nat_le number 8 ≡ false = grind (arith, nat_tests) in
-    rw (first, limit, e) refl
+    rw (first, limit, d, e) refl
 
-late_row : (number : ℕ) (read : Read) (line : List ℕ) → 8 < number → is_client read line ≡ false → read_line number read line ≡ read_row read line
+late_row : (number : ℕ) (read : Read) (line : List ℕ) → 8 < number → is_limit read line ≡ false → is_client read line ≡ false → read_line number read line ≡ read_row read line
 unfolding read_line
-late_row number read line h e =
+late_row number read line h d e =
     let first : (number == 1) ≡ false = grind (arith, nat_tests) in
     let limit : nat_le number 8 ≡ false = grind (arith, nat_tests) in
-    rw (first, limit, e) refl
+    rw (first, limit, d, e) refl
 
 with_rows : Limits → List Credentials → List JournalRow → Read
 with_rows l cs rs = record { limits = l; clients = cs; rows = rs }
@@ -300,16 +387,18 @@ with_rows l cs rs = record { limits = l; clients = cs; rows = rs }
 client_step : (number : ℕ) (l : Limits) (done : List Credentials) (c : Credentials) (first : ℕ) → 8 ≤ number → length done < 4096 → Fits32 first → CredsFit c → read_line (after number) (with_rows l done []) (client_line first c) ≡ Some (with_rows l (done ++ c ∷ []) [])
 unfolding with_rows
 client_step number l done c first n d f h =
+    let none : is_limit (with_rows l done []) (client_line first c) ≡ false = rw (client_no_limit first c) refl in
     let is : is_client (with_rows l done []) (client_line first c) ≡ true = rw (client_first first c) refl in
     let few : (length done == 4096) ≡ false = grind (arith, nat_tests) in
-    late_client (after number) (with_rows l done []) (client_line first c) (later number n) is ∙ rw (few, (client_read first c f h).reads) refl
+    late_client (after number) (with_rows l done []) (client_line first c) (later number n) none is ∙ rw (few, (client_read first c f h).reads) refl
 
 row_step : (number : ℕ) (l : Limits) (cs : List Credentials) (done : List JournalRow) (r : JournalRow) → 8 ≤ number → 1 ≤ length cs → RowFits r → read_line (after number) (with_rows l cs done) (row_line r) ≡ Some (with_rows l cs (done ++ r ∷ []))
 unfolding with_rows
 row_step number l cs done r n c h =
+    let none : is_limit (with_rows l cs done) (row_line r) ≡ false = rw (row_no_limit r) refl in
     let is : is_client (with_rows l cs done) (row_line r) ≡ false = rw (row_first r) refl in
     let some : (length cs == 0) ≡ false = grind (arith, nat_tests) in
-    late_row (after number) (with_rows l cs done) (row_line r) (later number n) is ∙ rw (some, (row_read r h).reads) refl
+    late_row (after number) (with_rows l cs done) (row_line r) (later number n) none is ∙ rw (some, (row_read r h).reads) refl
 
 rows_read : (number : ℕ) (l : Limits) (cs : List Credentials) (done rs : List JournalRow) → 8 ≤ number → 1 ≤ length cs → All RowFits rs → read_lines number (with_rows l cs done) (map row_line rs) ≡ Some (with_rows l cs (done ++ rs))
 unfolding with_rows
@@ -334,11 +423,15 @@ clients_read number first l done (c ∷ cs) rs n d e some h k =
 
 -- ---- the text of a journal is read as that journal
 
+enough_head : (alike : Bool) → 8 ≤ (if alike then 8 else 10)
+enough_head true = omega arith
+enough_head false = omega arith
+
 all_read : (old l : Limits) (cs : List Credentials) (rs : List JournalRow) → IsJournal l cs rs → read_lines 0 (fresh old) (heading_line ∷ lines_behind l cs rs) ≡ Some (with_rows l cs rs)
 unfolding lines_behind fresh with_rows
 all_read old l cs rs h =
     head_read old l (client_lines 0 cs ++ map row_line rs) (limits_fit l h.in_range h.first_seq)
-    ∙ clients_read 8 0 l [] cs rs (omega arith) (let few = h.few in omega arith) refl h.some h.clients_fit h.rows_fit
+    ∙ clients_read (head_lines l) 0 l [] cs rs (enough_head (are_alike l)) (let few = h.few in omega arith) refl h.some h.clients_fit h.rows_fit
 
 all_free : (l : Limits) (cs : List Credentials) (rs : List JournalRow) → IsJournal l cs rs → AreFree (lines_behind l cs rs)
 unfolding lines_behind
@@ -348,9 +441,14 @@ all_free l cs rs h =
     let rows = free_rows rs h.rows_fit in
     record { all = All-append Free (limit_lines l) (client_lines 0 cs ++ map row_line rs) limits.all (All-append Free (client_lines 0 cs) (map row_line rs) clients.all rows.all) }
 
+enough_by : (alike : Bool) (l : Limits) (rest : List (List ℕ)) → nat_le 8 (length (heading_line ∷ ((slot_lines alike l ++ more_lines l) ++ rest))) ≡ true
+unfolding slot_lines more_lines
+enough_by true l rest = grind (arith, nat_tests)
+enough_by false l rest = grind (arith, nat_tests)
+
 enough : (l : Limits) (cs : List Credentials) (rs : List JournalRow) → nat_le 8 (length (heading_line ∷ lines_behind l cs rs)) ≡ true
 unfolding lines_behind limit_lines
-enough l cs rs = grind (arith, nat_tests)
+enough l cs rs = enough_by (are_alike l) l _
 
 pub journal_read : (old l : Limits) (cs : List Credentials) (rs : List JournalRow) → IsJournal l cs rs → read_text (record { limits = old; clients = []; rows = [] }) (text_of l cs rs) ≡ Some (record { limits = l; clients = cs; rows = rs })
 unfolding read_text fresh with_rows Free

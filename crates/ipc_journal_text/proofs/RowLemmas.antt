@@ -117,3 +117,9 @@ pub row_first : (row : JournalRow) → starts_with nat_eq (row_line row) (codes 
 unfolding row_line
 row_first (Called client now call) = refl
 row_first (Answered client place turn rule) = refl
+
+-- nor as that of a limit
+pub row_no_limit : (row : JournalRow) → starts_with nat_eq (row_line row) (codes "limit ") ≡ false
+unfolding row_line
+row_no_limit (Called client now call) = refl
+row_no_limit (Answered client place turn rule) = refl

@@ -1,6 +1,6 @@
 -- A journal as text: a heading with the version, the limits and the clients' credentials at the start, and then a line for
 -- each row. The text is the project's own.
-use Rattle.std.specs.Prelude.{ℕ, ◌+◌, List, [], ◌∷◌, ◌++◌, codes, decimal, flat_map, Option, Some, None}
+use Rattle.std.specs.Prelude.{ℕ, ◌+◌, Bool, ◌&&◌, ◌==◌, if◌then◌else◌, List, [], ◌∷◌, ◌++◌, codes, decimal, flat_map, Option, Some, None}
 use Rattle.ipc_call.specs.Rules.{error_of, name_of_rule}
 use Rattle.ipc_call.specs.declared.limits.Limits.{Limits}
 use Rattle.ipc_call.specs.declared.replies.JournalRow.{JournalRow}
@@ -14,16 +14,30 @@ use Rattle.ipc_text.specs.Rows.{error_text}
 unfoldable pub limit_text : List ℕ → ℕ → List ℕ
 limit_text name value = codes "limit " ++ (name ++ (codes " " ++ (decimal value ++ codes "\n")))
 
+-- whether all kinds have as many slots
+abbrev pub are_alike : Limits → Bool
+are_alike l = (l.queues == l.sets) && (l.sets == l.segments)
+
+-- the slots of each kind: one line where they are as many
+unfoldable pub slot_limits : Limits → List ℕ
+slot_limits l =
+    if are_alike l then limit_text (codes "slots") l.queues
+    else limit_text (codes "queues") l.queues
+    ++ (limit_text (codes "sets") l.sets ++ limit_text (codes "segments") l.segments)
+
 unfoldable pub message_limits : Limits → List ℕ
 message_limits l =
-    limit_text (codes "slots") l.slots
-    ++ (limit_text (codes "first-seq") l.first_seq
-    ++ (limit_text (codes "msgmax") l.msg_max ++ limit_text (codes "msgmnb") l.msg_mnb))
+    limit_text (codes "first-seq") l.first_seq
+    ++ (limit_text (codes "msgmax") l.msg_max ++ limit_text (codes "msgmnb") l.msg_mnb)
 
 unfoldable pub other_limits : Limits → List ℕ
 other_limits l =
     limit_text (codes "semmsl") l.sem_msl
     ++ (limit_text (codes "semopm") l.sem_opm ++ limit_text (codes "shmmax") l.shm_max)
+
+-- how many lines the heading and the limits are
+abbrev pub head_lines : Limits → ℕ
+head_lines l = if are_alike l then 8 else 10
 
 -- the heading, with the version of the text
 unfoldable pub heading_text : List ℕ
@@ -58,4 +72,5 @@ row_text (Answered client place turn rule) =
 abbrev pub text_of : Limits → List Credentials → List JournalRow → List ℕ
 text_of limits clients rows =
     heading_text
-    ++ (message_limits limits ++ (other_limits limits ++ (clients_text 0 clients ++ flat_map row_text rows)))
+    ++ (slot_limits limits
+    ++ (message_limits limits ++ (other_limits limits ++ (clients_text 0 clients ++ flat_map row_text rows))))

@@ -244,12 +244,17 @@ read_row read line =
 abbrev pub is_client : Read → List ℕ → Bool
 is_client read line = starts_with nat_eq line (codes "client ") && (length read.rows == 0)
 
--- a line by its number, from 1: the heading, 7 limits, then clients and rows
+-- a limit's line, before any client
+abbrev pub is_limit : Read → List ℕ → Bool
+is_limit read line = starts_with nat_eq line (codes "limit ") && (length read.clients == 0)
+
+-- a line by its number, from 1: the heading, 7 limits or more, then clients and rows
 unfoldable pub read_line : ℕ → Read → List ℕ → Option Read
 read_line number read line =
     if number == 1 then read_heading read line
     else (if nat_le number 8 then read_limit read line
-    else (if is_client read line then read_client read line else read_row read line))
+    else (if is_limit read line then read_limit read line
+    else (if is_client read line then read_client read line else read_row read line)))
 
 -- one more, as 64 bits count
 abbrev pub after : ℕ → ℕ

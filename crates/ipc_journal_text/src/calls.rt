@@ -88,11 +88,11 @@ pub fn print_call(text: &mut String, call: &Call) -> Result<(), Memory>
         }
         Call::Assume { creds } => {
             text.push_str("assume")?;
-            print_identity(text, creds)
+            print_identity(text, creds.get())
         }
         Call::Begin { pid, creds } => {
             write!(text, "begin {pid}")?;
-            print_identity(text, creds)
+            print_identity(text, creds.get())
         }
         Call::Fork { child, pid } => print_fork(text, *child, *pid),
         Call::Clone { child } => write!(text, "clone client:{child}"),

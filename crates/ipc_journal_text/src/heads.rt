@@ -10,7 +10,7 @@ ghost use Rattle.ipc_words.specs.Words.{words_of};
 use crate::errors::{Cause, Wanted};
 use crate::rows::{client_and_rest, two_fields, word_behind};
 use bitflags::Flags;
-use ipc_call::{Identity, Items};
+use ipc_call::{Boxed, Identity, Items};
 use ipc_creds::{Caps, Creds, GROUPS_MAX};
 use ipc_text::two_numbers;
 use ipc_words::{number, number_32, split_field, split_word};
@@ -99,7 +99,10 @@ fn ids_behind(words: &[u8]) -> Option<(Ids, &[u8])>
 
 /// The credentials of `effective UID:GID real UID:GID saved UID:GID groups GROUPS caps CAPS`, as a call hands them in.
 #[tactic(auto, unfolding(crate::specs::Reading::identity_words))]
-pub(crate) fn identity_of(alloc: Global, words: &[u8]) -> Result<Option<Identity>, AllocError>
+pub(crate) fn identity_of(
+    alloc: Global,
+    words: &[u8],
+) -> Result<Option<Boxed<Identity>>, AllocError>
     ensures { IfOk result (λ identity. identity ≡ identity_words (words_of words.now)) }
 {
     let Some((ids, words)) = ids_behind(words) else {
@@ -111,10 +114,11 @@ pub(crate) fn identity_of(alloc: Global, words: &[u8]) -> Result<Option<Identity
     let Some(caps) = caps_of(caps) else {
         return Ok(None);
     };
-    match groups_of(alloc, groups)? {
-        Some(groups) => Ok(Some(ids.identity(Items::new(groups), caps))),
-        None => Ok(None),
-    }
+    let Some(groups) = groups_of(alloc, groups)? else {
+        return Ok(None);
+    };
+    let identity = ids.identity(Items::new(groups), caps);
+    Ok(Some(Boxed::new(alloc, identity)?))
 }
 
 // `NAME UID:GID`

@@ -15,6 +15,6 @@ mod writing;
 
 pub use calls::print_call;
 pub use errors::{Unread, Wanted};
-pub use printing::{print_journal, print_row, print_rows};
+pub use printing::{head_lines, print_journal, print_row, print_rows};
 pub use reading::{Recorded, read_journal};
 pub use writing::write_journal;

@@ -1,7 +1,7 @@
 // A journal as text.
 
 ghost use Rattle.std.specs.Prelude.{◌≡◌, ◌++◌, ◌<◌, ◌≤◌, ◌^◌, OnOk, flat_map, length, string_bytes};
-ghost use Rattle.ipc_journal_text.specs.JournalText.{ending_text, heading_text, limit_text, message_limits, other_limits, row_text, text_of};
+ghost use Rattle.ipc_journal_text.specs.JournalText.{ending_text, head_lines as lines_before, heading_text, limit_text, message_limits, other_limits, row_text, slot_limits, text_of};
 
 use crate::calls::print_call;
 use crate::credentials::print_clients;
@@ -22,6 +22,7 @@ pub fn print_journal(
     ensures { OnOk result (string_bytes text.new ≡ string_bytes text.old ++ text_of limits.now clients.now rows.now) }
 {
     print_heading(text)?;
+    print_slot_limits(text, limits)?;
     print_message_limits(text, limits)?;
     print_other_limits(text, limits)?;
     print_clients(text, 0, clients)?;
@@ -35,11 +36,34 @@ fn print_heading(text: &mut String) -> Result<(), Memory>
     text.push_str("ipcsh journal 1\n")
 }
 
+/// How many lines stand before those of the clients: the heading and those of the limits.
+pub fn head_lines(limits: &Limits) -> u64
+    ensures lines { result ≡ lines_before limits.now }
+    ensures few { result ≤ 10 }
+{
+    if limits.queues == limits.sets && limits.sets == limits.segments {
+        8
+    } else {
+        10
+    }
+}
+
+#[tactic(auto, unfolding(crate::specs::JournalText::slot_limits))]
+fn print_slot_limits(text: &mut String, limits: &Limits) -> Result<(), Memory>
+    ensures { OnOk result (string_bytes text.new ≡ string_bytes text.old ++ slot_limits limits.now) }
+{
+    if limits.queues == limits.sets && limits.sets == limits.segments {
+        return print_limit(text, "slots", limits.queues);
+    }
+    print_limit(text, "queues", limits.queues)?;
+    print_limit(text, "sets", limits.sets)?;
+    print_limit(text, "segments", limits.segments)
+}
+
 #[tactic(auto, unfolding(crate::specs::JournalText::message_limits))]
 fn print_message_limits(text: &mut String, limits: &Limits) -> Result<(), Memory>
     ensures { OnOk result (string_bytes text.new ≡ string_bytes text.old ++ message_limits limits.now) }
 {
-    print_limit(text, "slots", limits.slots)?;
     print_limit(text, "first-seq", u32::from(limits.first_seq))?;
     print_limit(text, "msgmax", limits.msg_max)?;
     print_limit(text, "msgmnb", limits.msg_mnb)

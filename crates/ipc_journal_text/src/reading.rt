@@ -20,7 +20,7 @@ use std::alloc::{AllocError, Global};
 /// How many clients a namespace may have.
 const CLIENTS_MAX: usize = 4096;
 
-/// The line of the heading, and the last one of a limit.
+/// The line of the heading, and the last one of a limit where all kinds have as many slots.
 const HEADING: u64 = 1;
 
 const LAST_LIMIT: u64 = 8;
@@ -112,6 +112,9 @@ fn take_line(alloc: Global, read: &mut Recorded, number: u64, line: &[u8]) -> Re
         return take_heading(line);
     }
     if number <= LAST_LIMIT {
+        return take_limit(read, line);
+    }
+    if line.starts_with(b"limit ") && read.clients.is_empty() {
         return take_limit(read, line);
     }
     if line.starts_with(b"client ") && read.rows.is_empty() {

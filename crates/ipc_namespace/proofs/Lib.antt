@@ -13,3 +13,4 @@ pub mod Reserved
 pub mod Settling
 pub mod Signalling
 pub mod Starting
+pub mod Owing

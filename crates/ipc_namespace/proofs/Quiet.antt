@@ -20,8 +20,9 @@ use Rattle.ipc_model.proofs.Living.{living-kept}
 use Rattle.ipc_model.proofs.Turning.{event_quiet, turn_quiet}
 use Rattle.ipc_parked.specs.declared.touched.Touched.{Touched}
 use Rattle.ipc_parked.specs.declared.touched.Touched.TheVariants.{Anything, Nothing, Object}
-use Rattle.ipc_parked.specs.Touched.{Covers, is_touched}
+use Rattle.ipc_parked.specs.Touched.{is_touched}
 use Rattle.ipc_namespace.specs.Namespace.{is_grant, AreQuietBut}
+use Rattle.ipc_namespace.specs.Touching.{CoversWaiting}
 use Rattle.ipc_namespace.proofs.Own.{found-none, found-passes, others}
 use Rattle.ipc_namespace.proofs.Parked.{all-filter, all-found}
 
@@ -48,18 +49,19 @@ early true (Granted other old) answer new is = is
 early false d answer new is = is
 
 -- what isn't among those that were touched isn't touched
-covered : (s new : State) (client : ℕ) (call : Call) (touched : Touched) → Covers call touched → (ws : List Waiting) → AllByRecursion (λ w. is_ready s w ≡ false) ws
+covered : (s new : State) (client : ℕ) (call : Call) (touched : Touched) (ws : List Waiting)
+    → AllByRecursion (λ w. is_ready s w ≡ false → touches_place s client call w ≡ true → is_touched touched w ≡ true) ws → AllByRecursion (λ w. is_ready s w ≡ false) ws
     → AllByRecursion (λ w. touches_place s client call w ≡ false → is_ready new w ≡ false) ws → AreQuietIn (is_touched touched) new ws
-covered s new client call touched covers [] waits quiet = tt
-covered s new client call touched covers (w ∷ ws) waits quiet =
-    (λ off. quiet.0 (by off (touches_place s client call w) refl), covered s new client call touched covers ws waits.1 quiet.1)
+covered s new client call touched [] covers waits quiet = tt
+covered s new client call touched (w ∷ ws) covers waits quiet =
+    (λ off. quiet.0 (by off (touches_place s client call w) refl), covered s new client call touched ws covers.1 waits.1 quiet.1)
   where
     by : is_touched touched w ≡ false → (b : Bool) → touches_place s client call w ≡ b → b ≡ false
-    by off true on = absurd (false≢true (sym off ∙ covers s client w waits.0 on))
+    by off true on = absurd (false≢true (sym off ∙ covers.0 waits.0 on))
     by off false on = refl
 
 -- after a granted call, where no call was ready before it
-pub quiet-moved : (s : State) (client : ℕ) (call : Call) (touched : Touched) → Covers call touched → first_ready s ≡ None → is_waiting s client ≡ false → is_grant (outcome_of (decide_call s client call)) ≡ true
+pub quiet-moved : (s : State) (client : ℕ) (call : Call) (touched : Touched) → CoversWaiting s client call touched → first_ready s ≡ None → is_waiting s client ≡ false → is_grant (outcome_of (decide_call s client call)) ≡ true
     → AreQuietBut (is_touched touched) (moved_by s client call).state
 quiet-moved s client call touched covers none free granted = by (decide_call s client call) refl granted
   where
@@ -74,7 +76,8 @@ quiet-moved s client call touched covers none free granted = by (decide_call s c
         let left = filter stays s.parked in
         let left_waits = all-filter (λ w. is_ready s w ≡ false) stays s.parked waits in
         let lives = living-kept s new client call answer so s.parked waits (others-of client s.parked free) in
-        let quiet = covered s new client call touched covers left left_waits (event_quiet s new client call answer so left left_waits lives) in
+        let left_covers = all-filter (λ w. is_ready s w ≡ false → touches_place s client call w ≡ true → is_touched touched w ≡ true) stays s.parked covers in
+        let quiet = covered s new client call touched left left_covers left_waits (event_quiet s new client call answer so left left_waits lives) in
         let kept = filter stays new.parked in
         quiet-alike (is_touched touched) new kept kept (subst (λ ws. AreQuietIn (is_touched touched) new (filter stays ws)) (sym same) quiet)
 

@@ -7,7 +7,7 @@ use Rattle.ipc_call.specs.declared.calls.Kind.TheVariants as kinds
 use Rattle.ipc_call.specs.declared.calls.SemOper.{SemOper}
 use Rattle.ipc_call.specs.declared.perms.Perm.{Perm}
 use Rattle.ipc_call.specs.declared.replies.Waiting.{Waiting}
-use Rattle.ipc_ids.specs.Table.{Table}
+use Rattle.ipc_ids.specs.Table.{Table, id_in}
 use Rattle.ipc_objects.specs.declared.object.Object.{Object}
 use Rattle.ipc_model.specs.State.{Sems, State, process_at, waiting_of}
 use Rattle.ipc_model.specs.Gets.{object_of_key}
@@ -16,6 +16,12 @@ use Rattle.ipc_parked.specs.Parked.{sooner_of}
 
 abbrev pub key_in : {X : Type 0} → Table (Object X) → ℕ → Option (ℕ × Perm)
 key_in t key = option_map (λ found. (found.0, found.1.perm)) (object_of_key t key)
+
+-- the identifier of the object in a slot
+abbrev pub object_in : State → Kind → ℕ → Option ℕ
+object_in s kinds.Queue slot = id_in s.queues slot
+object_in s kinds.Sems slot = id_in s.sems.sets slot
+object_in s kinds.Segment slot = id_in s.shared.segments slot
 
 -- the identifier and the permissions of the object of a key; none for key 0
 abbrev pub object_with_key : State → Kind → ℕ → Option (ℕ × Perm)

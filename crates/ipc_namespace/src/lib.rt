@@ -16,5 +16,6 @@ mod reserving;
 mod segment_calls;
 mod semaphore_calls;
 mod signals;
+mod touching;
 
 pub use namespace::Namespace;

@@ -1,11 +1,12 @@
 // What can be looked at without a call: it is no event, and asks for no right.
 
-ghost use Rattle.std.specs.Prelude.{◌≡◌, ◌<◌, ◌≤◌, ℕ, false, true, length, IfNone, IfOk, IfSome, option_copied, option_map, slice_get};
+ghost use Rattle.std.specs.Prelude.{◌≡◌, ◌<◌, ◌≤◌, ℕ, false, true, length, IfNone, IfOk, IfSome, IsSome, None, option_copied, option_map, slice_get};
 ghost use Rattle.ipc_call.specs.declared.replies.Waiting.{Waiting as WaitingCall};
 ghost use Rattle.ipc_model.specs.Controls.{perm_of as perm_in, status_of as status_in};
 ghost use Rattle.ipc_model.specs.Semaphores.{values_at};
-ghost use Rattle.ipc_model.specs.State.{has_exited as exited_before, pid_at, process_at, runs, thread_at, waiting_of as waiting_in};
-ghost use Rattle.ipc_namespace.specs.Looking.{object_with_key, soonest, stopped_at as stopping_at};
+ghost use Rattle.ipc_model.specs.State.{has_exited as exited_before, has_pid, pid_at, process_at, runs, thread_at, waiting_of as waiting_in};
+ghost use Rattle.std.specs.List.{find};
+ghost use Rattle.ipc_namespace.specs.Looking.{object_in, object_with_key, soonest, stopped_at as stopping_at};
 ghost use Rattle.sem_undo.specs.Entries.{adj_of};
 ghost use Rattle.shm_seg.specs.Attachments.{attachment_at};
 
@@ -59,6 +60,14 @@ impl Namespace {
         }
     }
 
+    /// The first client that is a thread of the process of a pid.
+    pub fn with_pid(&self, pid: u32) -> Option<u32>
+        ensures first { option_map (thread_at self.now) result ≡ find (has_pid pid) self.now.threads }
+        ensures known { IfSome result (λ client. client < length self.now.clients) }
+    {
+        self.processes.with_pid(pid)
+    }
+
     /// The first client from this one on that is a thread of the process of a client whose thread hasn't ended: so all of them,
     /// one after another. It takes no memory, and the threads of other processes cost nothing.
     pub fn next_thread_of(&self, client: u32, from: u32) -> Option<u32>
@@ -93,6 +102,17 @@ impl Namespace {
         ensures { result ≡ soonest self.now.parked }
     {
         self.parked.soonest()
+    }
+
+    /// The identifier of the object in a slot, from 0.
+    pub fn object_at(&self, kind: Kind, slot: u16) -> Option<u32>
+        ensures { result ≡ object_in self.now kind slot }
+    {
+        match kind {
+            Kind::Queue => self.queues.id_at(slot),
+            Kind::Sems => self.sets.id_at(slot),
+            Kind::Segment => self.segments.id_at(slot),
+        }
     }
 
     /// The permissions of the object of an identifier.
@@ -151,6 +171,18 @@ impl Namespace {
         ensures { result ≡ adj_of self.now.sems.undo (process_at self.now client) id num }
     {
         self.sets.semadj(self.process_of(client), id, num)
+    }
+
+    /// The least number from this one on under which a client's process has something attached: so all of them, one after
+    /// another.
+    pub fn next_attachment(&self, client: u32, from: u32) -> Option<u32>
+        ensures none { IfNone result ((n : ℕ) → from ≤ n → attachment_at self.now.shared.attached (process_at self.now client) n ≡ None) }
+        ensures there { IfSome result (λ next. IsSome (attachment_at self.now.shared.attached (process_at self.now client) next)) }
+        ensures from { IfSome result (λ next. from ≤ next) }
+        ensures few { IfSome result (λ next. next < 4096) }
+        ensures least { IfSome result (λ next. (n : ℕ) → from ≤ n → n < next → attachment_at self.now.shared.attached (process_at self.now client) n ≡ None) }
+    {
+        self.segments.next_attachment(self.process_of(client), from)
     }
 
     /// What a client's process has attached under a number.

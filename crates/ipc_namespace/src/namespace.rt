@@ -8,8 +8,7 @@ ghost use Rattle.ipc_model.specs.Decide.{begins as call_begins, decide_alive as 
 ghost use Rattle.std.specs.List.{AllByRecursion, find};
 ghost use Rattle.ipc_parked.specs.Parked.{AreApart};
 ghost use Rattle.shm_seg.specs.Attachments.{attachment_at};
-ghost use Rattle.ipc_parked.specs.Touched.{Covers, is_touched};
-ghost use Rattle.ipc_parked.specs.declared.touched.Touched.{Touched as AnyTouched};
+ghost use Rattle.ipc_parked.specs.Touched.{is_touched};
 ghost use Rattle.ipc_model.specs.Step.{Moved as MovedTo, after, expire, is_ready, first_ready as first_that_is_ready, end_waiting, enter as enters, moved_by, settled, step, without};
 ghost use Rattle.ipc_namespace.specs.Namespace.{decide_made, is_grant, is_on_waiting as is_on_waiting_by, left_alive, left_made, sent_to as call_sent_to, stands, AreQuietBut};
 ghost use Rattle.ipc_model.specs.Decision.{without_answer};
@@ -86,9 +85,9 @@ impl Namespace {
             clients,
             processes,
             clock: 0,
-            queues: Queues::new(alloc, limits.slots, limits.first_seq),
-            sets: Sets::new(alloc, limits.slots, limits.first_seq),
-            segments: Segments::new(alloc, limits.slots, limits.first_seq),
+            queues: Queues::new(alloc, limits.queues, limits.first_seq),
+            sets: Sets::new(alloc, limits.sets, limits.first_seq),
+            segments: Segments::new(alloc, limits.segments, limits.first_seq),
             parked: Parked::new(alloc),
         })
     }
@@ -181,9 +180,10 @@ impl Namespace {
         ensures err { OnErr result (self.new ≡ self.old) }
         ensures none { OnErr result (ended.new.items ≡ []) }
     {
+        let touched = self.touched_by(client, call);
         let own = self.carry_out(client, place, call, ended)?;
         if is_granted(&own) {
-            self.settle(call, ended);
+            self.settle(touched, ended);
         }
         Ok(own)
     }
@@ -402,8 +402,8 @@ impl Namespace {
             Call::SetCreds { euid, egid, groups } => {
                 self.set_creds(client, *euid, *egid, groups)
             }
-            Call::Assume { creds } => self.assume(client, creds),
-            Call::Begin { pid, creds } => self.begin(client, *pid, creds),
+            Call::Assume { creds } => self.assume(client, creds.get()),
+            Call::Begin { pid, creds } => self.begin(client, *pid, creds.get()),
             Call::Fork { child, pid } => self.fork(client, *child, *pid),
             Call::Clone { child } => self.clone(client, *child),
             Call::Name { pid } => Ok(self.name(client, *pid)),
@@ -476,21 +476,18 @@ impl Namespace {
         parked
     }
 
-    /// Ends the waiting calls that can proceed after the grant of a call, the earliest first, until none can. There is room
+    /// Ends the waiting calls that can proceed after the grant of a call that touched these, the earliest first, until none can. There is room
     /// for each in the list of those that ended.
     #[inline(always)]
-    fn settle(&mut self, call: &Call, ended: &mut Vec<Completion>)
-        requires quiet { (touched : AnyTouched) → Covers call.now touched → AreQuietBut (is_touched touched) self.old }
+    fn settle(&mut self, touched: Touched, ended: &mut Vec<Completion>)
+        requires quiet { AreQuietBut (is_touched touched) self.old }
         requires room { vec_len ended.old + length self.old.parked ≤ vec_capacity ended.old }
         ensures state { self.new ≡ (settled self.old).state }
         ensures ended { ended.new.items ≡ ended.old.items ++ (settled self.old).ended }
         ensures few { vec_len ended.new ≤ vec_len ended.old + length self.old.parked }
     {
-        if self.parked.len() > 0 {
-            let touched = Touched::by(call);
-            if self.parked.may_be_touched(touched) {
-                self.settle_touched(touched, ended);
-            }
+        if self.parked.may_be_touched(touched) {
+            self.settle_touched(touched, ended);
         }
     }
 

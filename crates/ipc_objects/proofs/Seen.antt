@@ -4,11 +4,11 @@ use Rattle.std.specs.Prelude.{true, not, ◌&&◌, is_none, is_some, option_map,
 use Rattle.std.specs.FinMap as map
 use Rattle.std.proofs.lemmas.Bool.{cases_eq, false≢true}
 use Rattle.std.proofs.lemmas.Option.{none-some, same_Some}
-use Rattle.ipc_ids.specs.Table.{Table, empty_table, find_object, holds_at, id_at, ids_of, is_retired, is_usable, least_from, next_id, object_at, with_object, without_object}
+use Rattle.ipc_ids.specs.Table.{Table, empty_table, find_object, holds_at, id_at, id_in, ids_of, is_retired, is_usable, least_from, next_id, object_at, with_object, without_object}
 use Rattle.ipc_ids.proofs.Ids.{same_maps}
 use Rattle.ipc_ids.proofs.Least.{least_found}
 use Rattle.ipc_ids.proofs.Images.{get-image, image-empty, image-with, image-without, next_id-image}
-use Rattle.ipc_ids.proofs.Listed.{ids_of-image}
+use Rattle.ipc_ids.proofs.Listed.{id_in-image, ids_of-image}
 use Rattle.ipc_ids.proofs.Sound.{get-insert-other, get-insert-same}
 use Rattle.ipc_objects.specs.declared.object.Object.{Object}
 use Rattle.ipc_objects.specs.declared.object.Owner.{Owner}
@@ -106,6 +106,9 @@ module _ {X Y : Type 0} (f : X → Y) where
   module _ (t : Table (Object X)) where
     pub next_id-seen : next_id (all_seen f t) ≡ next_id t
     next_id-seen = next_id-image (seen f) t
+
+    pub id_in-seen : (slot : ℕ) → id_in (all_seen f t) slot ≡ id_in t slot
+    id_in-seen slot = id_in-image (seen f) t slot
 
     pub ids_of-seen : ids_of (all_seen f t) ≡ ids_of t
     ids_of-seen = ids_of-image (seen f) t

@@ -1,10 +1,11 @@
 -- The rows of deadlines: where one stands, what one more or less changes, and which is the first.
-use Rattle.std.proofs.Common.{◌≡◌, ◌≢◌, ℕ, zero, suc, ◌+◌, ◌<◌, ◌≤◌, Bool, true, false, cond, ◌&&◌, ◌||◌, eqb, List, [], ◌∷◌, ◌++◌, length, take, drop, remove, slice_get, refl, sym, ap, subst, ◌∙◌, ⊎_elim, inl, inr, Option, Some, None, arith}
+use Rattle.std.proofs.Common.{◌≡◌, ◌≢◌, ℕ, zero, suc, ◌+◌, ◌<◌, ◌≤◌, Bool, true, false, cond, ◌&&◌, ◌||◌, eqb, get_or, List, [], ◌∷◌, ◌++◌, length, take, drop, remove, slice_get, refl, sym, ap, subst, ◌∙◌, ⊎_elim, inl, inr, Option, Some, None, arith}
 use Rattle.std.specs.Prelude.{◌⊎◌, nat_lt}
+use Rattle.std.specs.List.Sorted.{IsPartitionPoint, IsPartitionedBy}
 use Rattle.std.specs.List.{AllByRecursion, insert}
 use Rattle.std.proofs.lemmas.Bool.{cases_Bool, cases_lt, true≢false, and_cases, and_from, and_parts, or_cases, or_from, or_left, or_parts, or_right, eqb-true, eqb-false, eq-eqb, ne_eqb, ltb-true, ltb-false, lt-ltb, le-ltb}
 use Rattle.ipc_parked.specs.declared.deadlines.Due.{Due}
-use Rattle.ipc_parked.specs.Deadlines.{AreSorted, IsFirstReached, IsIn, IsRank, IsSoonest, first_of, is_sooner, is_sooner_than, rows_at}
+use Rattle.ipc_parked.specs.Deadlines.{AreSorted, IsFirstReached, IsIn, IsRank, IsSoonest, first_of, is_sooner, rows_at}
 use Rattle.ipc_parked.proofs.Lists.{each_drop, each_from_parts, each_insert, each_map, each_push, each_remove}
 
 -- the order of two rows
@@ -79,31 +80,39 @@ one_sooner a b h apart =
     (and_cases (eqb b.deadline a.deadline) (nat_lt b.number a.number) parts.1))
     (cases_lt a.deadline b.deadline))
 
--- the search
-lower_all : (low row : Due) (rows : List Due) (i : ℕ) → AllByRecursion (λ later. is_sooner low later ≡ true) rows → is_sooner_than row (slice_get rows i) ≡ true → is_sooner low row ≡ true
-lower_all low row [] i all here = absurd (true≢false (sym here))
-lower_all low row (r ∷ rows) zero all here = sooner_through low r row all.0 here
-lower_all low row (r ∷ rows) (suc i) all here = lower_all low row rows i all.1 here
+-- the search: where a row is before another, so are those before it
+all_at : (P : Due → Type 0) (rows : List Due) (j : ℕ) (d : Due) → AllByRecursion P rows → j < length rows → P (get_or rows j d)
+all_at P [] j d all lt = absurd (omega (arith, lt))
+all_at P (r ∷ rows) zero d all lt = all.0
+all_at P (r ∷ rows) (suc j) d all lt = all_at P rows j d all.1 (omega (arith, lt))
 
-pub lower_half : (rows : List Due) (i : ℕ) (row : Due) (at : ℕ) → AreSorted rows → is_sooner_than row (slice_get rows i) ≡ true → at ≤ suc i → AllByRecursion (λ other. is_sooner other row ≡ true) (take at rows)
-lower_half [] i row at sorted here within = absurd (true≢false (sym here))
-lower_half (r ∷ rows) i row zero sorted here within = tt
-lower_half (r ∷ rows) zero row (suc zero) sorted here within = (here, tt)
-lower_half (r ∷ rows) zero row (suc (suc at)) sorted here within = absurd (omega (arith, within))
-lower_half (r ∷ rows) (suc i) row (suc at) sorted here within = (lower_all r row rows i sorted.0 here, lower_half rows i row at sorted.1 here (omega (arith, within)))
+pub sorted_parted : (rows : List Due) (row : Due) → AreSorted rows → IsPartitionedBy (λ other. is_sooner other row) rows
+sorted_parted [] row sorted i j d le lt here = absurd (omega (arith, lt))
+sorted_parted (r ∷ rows) row sorted zero zero d le lt here = here
+sorted_parted (r ∷ rows) row sorted zero (suc j) d le lt here =
+    sooner_through r (get_or rows j d) row (all_at (λ later. is_sooner r later ≡ true) rows j d sorted.0 (omega (arith, lt))) here
+sorted_parted (r ∷ rows) row sorted (suc i) zero d le lt here = absurd (omega (arith, le))
+sorted_parted (r ∷ rows) row sorted (suc i) (suc j) d le lt here = sorted_parted rows row sorted.1 i j d (omega (arith, le)) (omega (arith, lt)) here
 
-not_after : (r row f : Due) → is_sooner r row ≡ false → is_sooner r f ≡ true → is_sooner f row ≡ false
-not_after r row f here later =
-    ⊎_elim
-    (λ (is : is_sooner f row ≡ true). absurd (true≢false (sym (sooner_through r f row later is) ∙ here)))
-    (λ (is : is_sooner f row ≡ false). is)
-    (cases_Bool (is_sooner f row))
+-- and the rows are parted at its rank
+taken : (P : Due → Type 0) (rows : List Due) (at : ℕ) → at ≤ length rows → ((k : ℕ) (d : Due) → k < at → P (get_or rows k d)) → AllByRecursion P (take at rows)
+taken P [] zero within each = tt
+taken P (r ∷ rows) zero within each = tt
+taken P [] (suc at) within each = absurd (omega (arith, within))
+taken P (r ∷ rows) (suc at) within each = (each zero r (omega arith), taken P rows at (omega (arith, within)) (λ k d lt. each (suc k) d (omega (arith, lt))))
 
-pub upper_half : (rows : List Due) (i : ℕ) (row : Due) → AreSorted rows → i < length rows → is_sooner_than row (slice_get rows i) ≡ false → AllByRecursion (λ other. is_sooner other row ≡ false) (drop i rows)
-upper_half [] i row sorted within here = absurd (omega (arith, within))
-upper_half (r ∷ rows) zero row sorted within here =
-    (here, each_map (λ (f : Due). is_sooner r f ≡ true) (λ (f : Due). is_sooner f row ≡ false) rows (λ f later. not_after r row f here later) sorted.0)
-upper_half (r ∷ rows) (suc i) row sorted within here = upper_half rows i row sorted.1 (omega (arith, within)) here
+dropped : (P : Due → Type 0) (rows : List Due) (at : ℕ) → ((k : ℕ) (d : Due) → at ≤ k → k < length rows → P (get_or rows k d)) → AllByRecursion P (drop at rows)
+dropped P [] zero each = tt
+dropped P [] (suc at) each = tt
+dropped P (r ∷ rows) zero each = (each zero r (omega arith) (omega arith), dropped P rows zero (λ k d le lt. each (suc k) d (omega arith) (omega (arith, lt))))
+dropped P (r ∷ rows) (suc at) each = dropped P rows at (λ k d le lt. each (suc k) d (omega (arith, le)) (omega (arith, lt)))
+
+pub rank_parted : (rows : List Due) (row : Due) (at : ℕ) → at ≤ length rows → IsPartitionPoint (λ other. is_sooner other row ≡ true) (λ other. is_sooner other row ≡ false) rows at → IsRank rows row at
+rank_parted rows row at within point = record {
+  within = within;
+  below = taken (λ other. is_sooner other row ≡ true) rows at within (λ k d lt. point.0 k d (omega arith) lt);
+  above = dropped (λ other. is_sooner other row ≡ false) rows at (λ k d le lt. point.1 k d le lt);
+}
 
 -- rows of an arrival
 not_first : (k : ℕ) (r : Due) (rows : List Due) → rows_at k (r ∷ rows) ≡ [] → (eqb r.number k ≡ false) × (rows_at k rows ≡ [])

@@ -1,9 +1,12 @@
 -- The rows of waiting clients: where those of an object stand, and what a row more or less changes.
-use Rattle.std.proofs.Common.{◌≡◌, ℕ, zero, suc, ◌+◌, ◌<◌, ◌≤◌, Bool, true, false, cond, ◌&&◌, eqb, List, [], ◌∷◌, ◌++◌, length, take, drop, remove, slice_get, refl, sym, ap, ◌∙◌, ⊎_elim, Some, None, arith}
+use Rattle.std.proofs.Common.{◌≡◌, ℕ, zero, suc, ◌+◌, ◌<◌, ◌≤◌, Bool, true, false, cond, ◌&&◌, eqb, get_or, List, [], ◌∷◌, ◌++◌, length, take, drop, remove, slice_get, refl, sym, ap, ◌∙◌, ⊎_elim, Some, None, arith}
+use Rattle.std.specs.Prelude.{nat_lt}
+use Rattle.std.specs.List.Sorted.{IsPartitionPoint, IsPartitionedBy}
+use Rattle.std.proofs.lemmas.Bool.Decides.{nat_tests}
 use Rattle.std.specs.List.{AllByRecursion, insert}
 use Rattle.std.proofs.lemmas.Bool.{cases_Bool, true≢false, eqb-true, eqb-false, eq-eqb, ne_eqb, ltb-true, ltb-false}
 use Rattle.ipc_parked.specs.declared.waits.Wait.{Wait}
-use Rattle.ipc_parked.specs.Waits.{AreRising, IsPlace, NoneIs, client_if, clients_at, is_below, is_wait, without_first}
+use Rattle.ipc_parked.specs.Waits.{AreRising, IsPlace, NoneIs, client_if, clients_at, is_wait, without_first}
 
 -- lists
 pub all_map : (P Q : Wait → Type 0) (rows : List Wait) → ((row : Wait) → P row → Q row) → AllByRecursion P rows → AllByRecursion Q rows
@@ -22,25 +25,44 @@ all_remove P [] (suc i) all = tt
 all_remove P (row ∷ rows) zero all = all.1
 all_remove P (row ∷ rows) (suc i) all = (all.0, all_remove P rows i all.1)
 
--- the search: what the row in the middle tells of those before it, and of those from it on
-lower_all : (low bound : ℕ) (rows : List Wait) (i : ℕ) → AllByRecursion (λ r. low ≤ r.id) rows → is_below bound (slice_get rows i) ≡ true → low < bound
-lower_all low bound [] i all here = absurd (true≢false (sym here))
-lower_all low bound (row ∷ rows) zero all here = let first = all.0 in let lower = ltb-true row.id bound here in omega (arith, first, lower)
-lower_all low bound (row ∷ rows) (suc i) all here = lower_all low bound rows i all.1 here
+-- the search: where a row is below a bound, so are those before it
+all-at : (P : Wait → Type 0) (rows : List Wait) (j : ℕ) (d : Wait) → AllByRecursion P rows → j < length rows → P (get_or rows j d)
+all-at P [] j d all lt = absurd (omega (arith, lt))
+all-at P (row ∷ rows) zero d all lt = all.0
+all-at P (row ∷ rows) (suc j) d all lt = all-at P rows j d all.1 (omega (arith, lt))
 
-pub lower_half : (rows : List Wait) (i bound at : ℕ) → AreRising rows → is_below bound (slice_get rows i) ≡ true → at ≤ suc i → AllByRecursion (λ row. row.id < bound) (take at rows)
-lower_half [] i bound at rising here within = absurd (true≢false (sym here))
-lower_half (row ∷ rows) i bound zero rising here within = tt
-lower_half (row ∷ rows) zero bound (suc zero) rising here within = (ltb-true row.id bound here, tt)
-lower_half (row ∷ rows) zero bound (suc (suc at)) rising here within = absurd (omega (arith, within))
-lower_half (row ∷ rows) (suc i) bound (suc at) rising here within = (lower_all row.id bound rows i rising.0 here, lower_half rows i bound at rising.1 here (omega (arith, within)))
+rising-at : (rows : List Wait) (i j : ℕ) (d : Wait) → AreRising rows → i ≤ j → j < length rows → (get_or rows i d).id ≤ (get_or rows j d).id
+rising-at [] i j d rising le lt = absurd (omega (arith, lt))
+rising-at (row ∷ rows) zero zero d rising le lt = omega arith
+rising-at (row ∷ rows) zero (suc j) d rising le lt = all-at (λ later. row.id ≤ later.id) rows j d rising.0 (omega (arith, lt))
+rising-at (row ∷ rows) (suc i) zero d rising le lt = absurd (omega (arith, le))
+rising-at (row ∷ rows) (suc i) (suc j) d rising le lt = rising-at rows i j d rising.1 (omega (arith, le)) (omega (arith, lt))
 
-pub upper_half : (rows : List Wait) (i bound : ℕ) → AreRising rows → i < length rows → is_below bound (slice_get rows i) ≡ false → AllByRecursion (λ row. bound ≤ row.id) (drop i rows)
-upper_half [] i bound rising within here = absurd (omega (arith, within))
-upper_half (row ∷ rows) zero bound rising within here =
-    let first : bound ≤ row.id = ltb-false row.id bound here in
-    (first, all_map (λ (r : Wait). row.id ≤ r.id) (λ (r : Wait). bound ≤ r.id) rows (λ r h. omega (arith, first, h)) rising.0)
-upper_half (row ∷ rows) (suc i) bound rising within here = upper_half rows i bound rising.1 (omega (arith, within)) here
+pub rising-parted : (rows : List Wait) (bound : ℕ) → AreRising rows → IsPartitionedBy (λ row. nat_lt row.id bound) rows
+rising-parted rows bound rising i j d le lt below =
+    let order = rising-at rows i j d rising le lt in
+    let lower = ltb-true (get_or rows j d).id bound below in
+    grind (arith, nat_tests, order, lower)
+
+-- and the rows are parted at its place
+taken : (P : Wait → Type 0) (rows : List Wait) (at : ℕ) → at ≤ length rows → ((k : ℕ) (d : Wait) → k < at → P (get_or rows k d)) → AllByRecursion P (take at rows)
+taken P [] zero within each = tt
+taken P (row ∷ rows) zero within each = tt
+taken P [] (suc at) within each = absurd (omega (arith, within))
+taken P (row ∷ rows) (suc at) within each = (each zero row (omega arith), taken P rows at (omega (arith, within)) (λ k d lt. each (suc k) d (omega (arith, lt))))
+
+dropped : (P : Wait → Type 0) (rows : List Wait) (at : ℕ) → ((k : ℕ) (d : Wait) → at ≤ k → k < length rows → P (get_or rows k d)) → AllByRecursion P (drop at rows)
+dropped P [] zero each = tt
+dropped P [] (suc at) each = tt
+dropped P (row ∷ rows) zero each = (each zero row (omega arith) (omega arith), dropped P rows zero (λ k d le lt. each (suc k) d (omega arith) (omega (arith, lt))))
+dropped P (row ∷ rows) (suc at) each = dropped P rows at (λ k d le lt. each (suc k) d (omega (arith, le)) (omega (arith, lt)))
+
+pub place-parted : (rows : List Wait) (bound at : ℕ) → at ≤ length rows → IsPartitionPoint (λ row. nat_lt row.id bound ≡ true) (λ row. nat_lt row.id bound ≡ false) rows at → IsPlace rows bound at
+place-parted rows bound at within point = record {
+  within = within;
+  below = taken (λ row. row.id < bound) rows at within (λ k d lt. ltb-true (get_or rows k d).id bound (point.0 k d (omega arith) lt));
+  above = dropped (λ row. bound ≤ row.id) rows at (λ k d le lt. ltb-false (get_or rows k d).id bound (point.1 k d le lt));
+}
 
 further : {row : Wait} {rows : List Wait} {bound at : ℕ} → IsPlace (row ∷ rows) bound (suc at) → IsPlace rows bound at
 further {row} {rows} {bound} {at} place = record {

@@ -35,11 +35,6 @@ dues_at number (e ∷ es) = (if e.1.number == number then dues_of e.0 e.1.number
 abbrev pub AreDues : List Due → List (ℕ × Stay) → Type 0
 AreDues rows es = (number : ℕ) → rows_at number rows ≡ dues_at number es
 
--- there is a row, before this one
-abbrev pub is_sooner_than : Due → Option Due → Bool
-is_sooner_than row None = false
-is_sooner_than row (Some other) = is_sooner other row
-
 -- how many rows are before this one
 pub record IsRank (rows : List Due) (row : Due) (at : ℕ) : Type 0 where
   pub within : at ≤ length rows

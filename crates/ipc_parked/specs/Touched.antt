@@ -17,3 +17,8 @@ is_touched Anything w = true
 -- whatever the state in which a client's call is granted: each call that waits on an object that it touches is among them
 abbrev pub Covers : Call → Touched → Type 0
 Covers call touched = (s : State) (client : ℕ) (w : Waiting) → is_ready s w ≡ false → touches_place s client call w ≡ true → is_touched touched w ≡ true
+
+-- what one of two touches, or more
+abbrev pub both : Touched → Touched → Touched
+both Nothing other = other
+both one other = Anything

@@ -1,5 +1,5 @@
 -- The clients that wait on the objects of a kind, by identifier.
-use Rattle.std.specs.Prelude.{◌≡◌, ℕ, ◌<◌, ◌≤◌, ◌==◌, ◌&&◌, ◌%◌, Bool, true, false, nat_lt, List, [], ◌∷◌, length, map, filter, take, drop, slice_get, slice_index_or, Option, Some, None, if◌then◌else◌}
+use Rattle.std.specs.Prelude.{◌≡◌, ℕ, ◌<◌, ◌≤◌, ◌==◌, ◌&&◌, ◌%◌, Bool, true, false, List, [], ◌∷◌, length, map, filter, take, drop, slice_get, slice_index_or, Option, Some, None, if◌then◌else◌}
 use Rattle.std.specs.List.{AllByRecursion}
 use Rattle.ipc_parked.specs.declared.waits.Wait.{Wait}
 
@@ -35,11 +35,6 @@ pub record IsPlace (rows : List Wait) (bound : ℕ) (at : ℕ) : Type 0 where
   pub within : at ≤ length rows
   pub below : AllByRecursion (λ row. row.id < bound) (take at rows)
   pub above : AllByRecursion (λ row. bound ≤ row.id) (drop at rows)
-
--- there is a row, of an object below a bound
-abbrev pub is_below : ℕ → Option Wait → Bool
-is_below bound None = false
-is_below bound (Some row) = nat_lt row.id bound
 
 -- there is a row, of this client on this object
 abbrev pub is_wait : ℕ → ℕ → Option Wait → Bool

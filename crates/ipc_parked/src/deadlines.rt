@@ -8,7 +8,6 @@ ghost use Rattle.ipc_parked.specs.Deadlines.{
   IsSoonest,
   first_of as first_of_two,
   is_sooner,
-  is_sooner_than,
   rows_at,
 };
 
@@ -135,26 +134,10 @@ fn place_of(rows: &[Due], row: Due) -> usize
     requires { AreSorted rows.now }
     ensures { IsRank rows.now row result }
 {
-    let mut low = 0;
-    let mut size = rows.len();
-    while size > 0 {
-        let half = size / 2;
-        if is_sooner_at(rows, low + half, row) {
-            low += size - half;
-        }
-        size = half;
-    }
-    low
+    rows.partition_point(|other| is_before(*other, row))
 }
 
-/// Whether the row at this place is before another.
-fn is_sooner_at(rows: &[Due], at: usize, row: Due) -> bool
-    requires { at < length rows.now }
-    ensures { result ≡ is_sooner_than row (slice_get rows.now at) }
-{
-    is_before(rows[at], row)
-}
-
+/// Whether one row is before another.
 fn is_before(a: Due, b: Due) -> bool
     ensures { result ≡ is_sooner a b }
 {

@@ -3,7 +3,7 @@
 ghost use Rattle.std.specs.Prelude.{◌≡◌, [], false, filter, slice_get};
 ghost use Rattle.std.specs.Option.{option_map};
 ghost use Rattle.ipc_parked.specs.Parked.{waiting};
-ghost use Rattle.ipc_parked.specs.Touched.{Covers, is_touched};
+ghost use Rattle.ipc_parked.specs.Touched.{Covers, both, is_touched};
 
 use crate::parked::Parked;
 use ipc_call::{Call, Kind};
@@ -20,8 +20,8 @@ pub enum Touched {
 }
 
 impl Touched {
-    /// What the grant of the call touches. Of exit and kill, which may undo something on
-    /// many sets, it isn't found out on which.
+    /// What the grant of the call touches, whatever the state. Of exit and kill, which may undo something on many sets, it
+    /// isn't found out on which.
     pub fn by(call: &Call) -> Touched
         ensures { Covers call.now result }
     {
@@ -43,6 +43,16 @@ impl Touched {
             },
             Call::Exit | Call::Kill { .. } => Touched::Anything,
             _ => Touched::Nothing,
+        }
+    }
+
+    /// What both touch, or more.
+    pub fn and(self, other: Touched) -> Touched
+        ensures { result ≡ both self other }
+    {
+        match self {
+            Touched::Nothing => other,
+            _ => Touched::Anything,
         }
     }
 }

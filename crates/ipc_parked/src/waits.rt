@@ -7,7 +7,6 @@ ghost use Rattle.ipc_parked.specs.Waits.{
   IsPlace,
   client_if,
   clients_at,
-  is_below,
   is_wait,
   mark_at,
   without_first,
@@ -132,16 +131,7 @@ fn place_of(rows: &[Wait], bound: u64) -> usize
     requires { AreRising rows.now }
     ensures { IsPlace rows.now bound result }
 {
-    let mut low = 0;
-    let mut size = rows.len();
-    while size > 0 {
-        let half = size / 2;
-        if is_below_at(rows, low + half, bound) {
-            low += size - half;
-        }
-        size = half;
-    }
-    low
+    rows.partition_point(|row| u64::from(row.id) < bound)
 }
 
 /// The first row of a client on an object.
@@ -156,14 +146,6 @@ fn first_of(rows: &[Wait], id: u32, client: u32) -> Option<usize>
         }
     }
     None
-}
-
-/// Whether the row at this place is of an object below a bound.
-fn is_below_at(rows: &[Wait], at: usize, bound: u64) -> bool
-    requires { at < length rows.now }
-    ensures { result ≡ is_below bound (slice_get rows.now at) }
-{
-    u64::from(rows[at].id) < bound
 }
 
 /// Whether the row at this place is that of a client on an object.

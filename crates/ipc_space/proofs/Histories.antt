@@ -10,7 +10,7 @@ use Rattle.ipc_model.proofs.Keeping.{Follows-step}
 use Rattle.ipc_history.specs.History.{AreLegalFrom, History, IsLegal, IsLegalAt, ReplyTo, answered_row, rows_by, rows_from, rows_of, run, run_from, replies_by, replies_to_ended, reply_to_own, with_event}
 use Rattle.ipc_space.specs.Spaces.{IsOfHistory, events_in, history_in}
 
-run_from-push : (s : State) (es : List Event) (e : Event) → run_from s (es ++ e ∷ []) ≡ (step (run_from s es) e).state
+pub run_from-push : (s : State) (es : List Event) (e : Event) → run_from s (es ++ e ∷ []) ≡ (step (run_from s es) e).state
 run_from-push s [] e = refl
 run_from-push s (x ∷ es) e = run_from-push (step s x).state es e
 

@@ -2,6 +2,7 @@ pub mod Alone
 pub mod Answering
 pub mod Balance
 pub mod Copies
+pub mod Exits
 pub mod Fronts
 pub mod Histories
 pub mod Longest

@@ -8,6 +8,7 @@ mod copying;
 pub mod laws;
 mod ledger;
 mod looking;
+mod opening;
 mod replaying;
 mod space;
 

@@ -11,7 +11,7 @@ use crate::grammar::options_of;
 use crate::lists::two_numbers;
 use crate::segments::segment_call_of;
 use bitflags::Flags;
-use ipc_call::{Call, Identity, Items};
+use ipc_call::{Boxed, Call, Identity, Items};
 use ipc_creds::Creds;
 use ipc_words::{first_two, number_32, one_word, split_word, two_words};
 use std::alloc::{AllocError, Global};
@@ -128,7 +128,7 @@ fn begin_of(alloc: Global, words: &[u8]) -> Result<Option<Call>, AllocError>
 }
 
 // EUID EGID [groups=G,G,..] [caps=C,C,..] [saved=SUID:SGID]
-fn identity_of(alloc: Global, words: &[u8]) -> Result<Option<Identity>, AllocError>
+fn identity_of(alloc: Global, words: &[u8]) -> Result<Option<Boxed<Identity>>, AllocError>
     ensures { IfOk result (λ creds. creds ≡ option_map identity_in (identity_words (words_of words.now))) }
 {
     let Some((euid, egid, options)) = first_two(words) else {
@@ -143,12 +143,12 @@ fn identity_of(alloc: Global, words: &[u8]) -> Result<Option<Identity>, AllocErr
     }
 }
 
-fn as_identity(alloc: Global, creds: &Creds) -> Result<Identity, AllocError>
+fn as_identity(alloc: Global, creds: &Creds) -> Result<Boxed<Identity>, AllocError>
     ensures { IfOk result (λ identity. identity ≡ identity_in creds.now) }
 {
     let (ruid, rgid) = creds.real();
     let (suid, sgid) = creds.saved();
-    Ok(Identity {
+    let identity = Identity {
         euid: creds.euid(),
         egid: creds.egid(),
         groups: Items::new(Vec::from_slice(alloc, creds.groups())?),
@@ -157,5 +157,6 @@ fn as_identity(alloc: Global, creds: &Creds) -> Result<Identity, AllocError>
         suid,
         rgid,
         sgid,
-    })
+    };
+    Boxed::new(alloc, identity)
 }

@@ -14,6 +14,9 @@ pub fn limit_named(word: &[u8]) -> Option<Limit>
 {
     match word {
         b"slots" => Some(Limit::Slots),
+        b"queues" => Some(Limit::Queues),
+        b"sets" => Some(Limit::Sets),
+        b"segments" => Some(Limit::Segments),
         b"first-seq" => Some(Limit::FirstSeq),
         b"msgmax" => Some(Limit::MsgMax),
         b"msgmnb" => Some(Limit::MsgMnb),

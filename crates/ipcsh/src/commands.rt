@@ -103,6 +103,7 @@ impl Session {
             return Ok(None);
         }
         self.start(alloc)?;
+        self.tell_entering(client, &call, listener);
         match self.apply(client, call) {
             Ok(effects) => {
                 self.print_effects(client, &effects, rows)?;

@@ -2,6 +2,7 @@
 
 ghost use Rattle.std.specs.Prelude.{◌≡◌};
 
+use ipc_call::Call;
 use ipc_space::{Effects, Space};
 use ipc_text::{Command, Line, Reason};
 
@@ -16,6 +17,10 @@ pub trait Listener {
 
     /// A bad line.
     fn bad(&mut self, number: u64, line: &Line<'_>, reason: Reason);
+
+    /// A call of this client is entered next, in the namespace as it is now. Where memory is refused it isn't, and nothing
+    /// is answered.
+    fn entering(&mut self, space: &Space, client: u32, call: &Call);
 
     /// A call of this client was entered as the latest event, whose rows have been printed.
     fn answered(&mut self, space: &mut Space, client: u32, effects: &Effects)
@@ -36,6 +41,8 @@ impl Listener for () {
     fn calls(&mut self, _number: u64, _client: u32, _text: &[u8], _command: &Command) {}
 
     fn bad(&mut self, _number: u64, _line: &Line<'_>, _reason: Reason) {}
+
+    fn entering(&mut self, _space: &Space, _client: u32, _call: &Call) {}
 
     fn answered(&mut self, _space: &mut Space, _client: u32, _effects: &Effects) {}
 

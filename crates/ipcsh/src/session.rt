@@ -195,6 +195,13 @@ impl Session {
         }
     }
 
+    /// Lets a listener hear of the call of a client that is entered next.
+    pub(crate) fn tell_entering<L: Listener>(&self, client: u32, call: &Call, listener: &mut L) {
+        if let Some(space) = &self.space {
+            listener.entering(space, client, call);
+        }
+    }
+
     /// Lets a listener hear what an event of a client did.
     pub(crate) fn tell_effects<L: Listener>(
         &mut self,

@@ -1,6 +1,6 @@
 // What the program tells of the lines of its script on standard error.
 
-use ipc_call::Memory;
+use ipc_call::{Call, Memory};
 use ipc_hints::Hints;
 use ipc_space::{Effects, Space};
 use ipc_text::{Command, Line, Reason};
@@ -73,6 +73,8 @@ impl<P: Eprint> Listener for Explainer<'_, P> {
             self.keep(whole, &hint);
         }
     }
+
+    fn entering(&mut self, _space: &Space, _client: u32, _call: &Call) {}
 
     fn answered(&mut self, _space: &mut Space, _client: u32, _effects: &Effects) {}
 

@@ -1,5 +1,6 @@
 // What is told of the bad lines of a script on standard error.
 
+use ipc_call::Call;
 use ipc_space::{Effects, Space};
 use ipc_text::{Command, Line, Reason, print_bad};
 use ipcsh::Listener;
@@ -24,6 +25,8 @@ impl<P: Eprint> Listener for Teller<'_, P> {
             let _ = self.to.eprint(row.as_str());
         }
     }
+
+    fn entering(&mut self, _space: &Space, _client: u32, _call: &Call) {}
 
     fn answered(&mut self, _space: &mut Space, _client: u32, _effects: &Effects) {}
 

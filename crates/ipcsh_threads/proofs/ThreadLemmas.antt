@@ -1,5 +1,5 @@
 -- How the threads of a script end.
-use Rattle.std.proofs.Common.{◌≡◌, ℕ, Bool, true, List, [], ◌++◌, Option, sym, ap, subst, ◌∙◌, inr, append_assoc, append-nil}
+use Rattle.std.proofs.Common.{◌≡◌, ℕ, Bool, true, false, List, [], ◌++◌, Option, refl, sym, ap, subst, ◌∙◌, inr, append_assoc, append-nil}
 use Rattle.std.specs.Prelude.{Result, Err, string_bytes}
 use Rattle.std.specs.Io.KnownBytes.{Appends}
 use Rattle.std.proofs.KnownBytes.{Appends-trans}
@@ -39,6 +39,23 @@ module _ (r0 r1 : Option (List ℕ)) (text : List ℕ) (script : Script) (read :
       read = read;
       prints = prints e some ends;
       written = Appends-trans w0 w1 w2 (string_bytes script.rows) (string_bytes e.rows) wrote more;
+      lines = h.lines;
+      bad = h.bad;
+    },
+  )
+
+  pub without_jobs : (w0 w1 : Option (List ℕ)) → script.has_jobs ≡ false → Appends w0 w1 (string_bytes script.rows) → WritesThreads (transfer r0 r1 w0 w1) (record { lines = script.lines; bad = script.bad; events = 0 })
+  without_jobs w0 w1 none wrote = (
+    text,
+    string_bytes script.rows,
+    record {
+      read = read;
+      prints = (
+        [],
+        h.rows ∙ sym (append-nil (planned (lines_of text)).rows),
+        subst (λ (b : Bool). GoesOn b (setup_in (planned (lines_of text))) [] 0) (sym none ∙ h.has_jobs) (refl, refl),
+      );
+      written = wrote;
       lines = h.lines;
       bad = h.bad;
     },

@@ -20,7 +20,7 @@ ghost use Rattle.std.specs.Prelude.{
   option_copied,
   option_map,
 };
-ghost use Rattle.ipc_ids.specs.Table.{empty_table, find_object, ids_of, next_id as id_of_next};
+ghost use Rattle.ipc_ids.specs.Table.{empty_table, find_object, id_in, ids_of, next_id as id_of_next};
 ghost use Rattle.ipc_ids.specs.Table.{with_object, without_object};
 ghost use Rattle.ipc_model.specs.Controls.{perm_in, with_settings};
 ghost use Rattle.ipc_model.specs.Gets.{object_of_key};
@@ -128,6 +128,13 @@ impl Queues {
         ensures { result ≡ perm_in (queues_of self.now) id }
     {
         self.objects.perm(id)
+    }
+
+    /// The identifier of the queue in a slot.
+    pub fn id_at(&self, slot: u16) -> Option<u32>
+        ensures { result ≡ id_in (queues_of self.now) slot }
+    {
+        self.objects.id_at(slot)
     }
 
     /// The identifiers of the queues, by rising slot. Memory comes where a growth was refused.

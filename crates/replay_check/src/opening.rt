@@ -13,7 +13,9 @@ pub fn limits() -> Limits
     ensures { IsTrue (are_in_range result) }
 {
     Limits {
-        slots: 6,
+        queues: 6,
+        sets: 6,
+        segments: 6,
         first_seq: 0,
         msg_max: 3,
         msg_mnb: 8,

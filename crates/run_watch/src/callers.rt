@@ -2,7 +2,7 @@
 
 use crate::lines::name_in;
 use client_rights::Client;
-use ipc_call::{Kind, Memory, Status};
+use ipc_call::{Call, Kind, Memory, Status};
 use ipc_live::{Object, Use};
 use ipc_space::{Effects, Space};
 use ipc_text::{Command, Line, Reason};
@@ -121,6 +121,8 @@ impl Listener for Names {
     fn calls(&mut self, _number: u64, _client: u32, _text: &[u8], _command: &Command) {}
 
     fn bad(&mut self, _number: u64, _line: &Line<'_>, _reason: Reason) {}
+
+    fn entering(&mut self, _space: &Space, _client: u32, _call: &Call) {}
 
     fn answered(&mut self, _space: &mut Space, _client: u32, _effects: &Effects) {}
 

@@ -249,6 +249,8 @@ impl Listener for Watcher {
 
     fn bad(&mut self, _number: u64, _line: &Line<'_>, _reason: Reason) {}
 
+    fn entering(&mut self, _space: &Space, _client: u32, _call: &ipc_call::Call) {}
+
     fn answered(&mut self, space: &mut Space, client: u32, effects: &Effects) {
         if self.enter(space, client, effects).is_err() {
             self.has_failed = true;

@@ -2,6 +2,7 @@ pub mod Exiting
 pub mod Granting
 pub mod Leaving
 pub mod Lowering
+pub mod Owing
 pub mod Ranging
 pub mod Renewing
 pub mod Reserving

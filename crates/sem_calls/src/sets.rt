@@ -1,19 +1,20 @@
 //! The semaphore sets of a namespace.
 
-ghost use Rattle.std.specs.Prelude.{◌≡◌, ◌≤◌, ℕ, true, IfOk, IfErr, IsSome, None, Some, option_copied, option_map};
+ghost use Rattle.std.specs.Prelude.{◌≡◌, ◌<◌, ◌≤◌, ◌^◌, ℕ, false, true, IfNone, IfOk, IfErr, IfSome, IsSome, None, Some, option_copied, option_map};
 ghost use Rattle.std.specs.FinMap as finite;
-ghost use Rattle.ipc_ids.specs.Table.{empty_table, ids_of};
+ghost use Rattle.ipc_ids.specs.Table.{empty_table, id_in, ids_of};
 ghost use Rattle.ipc_model.specs.Controls.{perm_in, with_new_owner, without_set};
 ghost use Rattle.ipc_model.specs.Decision.{Refused as RefusedBy};
 ghost use Rattle.ipc_model.specs.Gets.{object_of_key};
 ghost use Rattle.ipc_model.specs.Plan.{Plan, decision};
 ghost use Rattle.ipc_model.specs.Semaphores.{set_at, values_at};
 ghost use Rattle.ipc_model.specs.State.{SemSet, Sems};
+ghost use Rattle.ipc_model.specs.Touched.{owes};
 ghost use Rattle.ipc_objects.specs.Objects.{changed};
 ghost use Rattle.ipc_objects.specs.declared.object.Object.{Object as Entry};
 ghost use Rattle.ipc_perm.specs.Access.{Permission, denial};
 ghost use Rattle.object_calls.specs.Permitted.{permitted};
-ghost use Rattle.sem_undo.specs.Entries.{adj_of, nothing_undone};
+ghost use Rattle.sem_undo.specs.Entries.{HasEntry, adj_of, nothing_undone};
 ghost use Rattle.sem_calls.specs.WithRows.{row_at, sems_of};
 
 use crate::set::Set;
@@ -90,6 +91,13 @@ impl Sets {
         self.sets.perm(id)
     }
 
+    /// The identifier of the set in a slot.
+    pub fn id_at(&self, slot: u16) -> Option<u32>
+        ensures { result ≡ id_in self.now.sets slot }
+    {
+        self.sets.id_at(slot)
+    }
+
     /// The identifiers of the sets, by rising slot. The error comes only where an allocation fails.
     pub fn ids(&self) -> Result<Vec<u32>, Memory>
         ensures { IfOk result (λ ids. ids.items ≡ ids_of self.now.sets) }
@@ -113,6 +121,17 @@ impl Sets {
         ensures { result ≡ adj_of (sems_of self.now).undo process id num }
     {
         self.undo.adj(process, id, num)
+    }
+
+    /// The least set from this one on of which the process has a semadj, and so the only ones to which its end adds something.
+    pub fn next_owed(&self, process: u64, from: u64) -> Option<u32>
+        ensures none { IfNone result ((id : ℕ) → from ≤ id → owes (sems_of self.now) process id ≡ false) }
+        ensures there { IfSome result (λ next. HasEntry (sems_of self.now).undo process next) }
+        ensures from { IfSome result (λ next. from ≤ next) }
+        ensures fits { IfSome result (λ next. next < 2 ^ 32) }
+        ensures least { IfSome result (λ next. (id : ℕ) → from ≤ id → id < next → owes (sems_of self.now) process id ≡ false) }
+    {
+        self.undo.next_set(process, from)
     }
 
     /// Sets the owner and the mode of the set of an identifier, which there is, at a time in seconds (IPC_SET of

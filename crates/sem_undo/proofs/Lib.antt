@@ -4,6 +4,7 @@ pub mod Clears
 pub mod Entries
 pub mod Keys
 pub mod Noted
+pub mod Owed
 pub mod Places
 pub mod Takes
 pub mod Values

@@ -1,5 +1,5 @@
 -- What exit undoes: entries by client, set and semaphore number (semop(2), SEM_UNDO).
-use Rattle.std.specs.Prelude.{ℕ, ◌==◌, ◌&&◌, ℤ, pos, Bool, not, unwrap_or, if◌then◌else◌}
+use Rattle.std.specs.Prelude.{◌≢◌, ℕ, ◌==◌, ◌&&◌, ℤ, pos, Bool, not, unwrap_or, if◌then◌else◌}
 use Rattle.std.specs.declared.cmp.Ordering.{Ordering}
 use Rattle.std.specs.Ordering.{int_eq, nat_cmp, ordering_then}
 use Rattle.std.specs.FinMap as finite
@@ -41,6 +41,10 @@ row_len u client set = unwrap_or (finite.get u.rows (record { client = client; s
 abbrev pub adj_of : Entries → ℕ → ℕ → ℕ → ℤ
 adj_of entries client set num =
     unwrap_or (finite.get entries (record { client = client; set = set; num = num })) (pos 0)
+
+-- a semadj of the client at the set isn't 0
+abbrev pub HasEntry : Entries → ℕ → ℕ → Type 0
+HasEntry entries client set = (num : ℕ) × (adj_of entries client set num ≢ pos 0)
 
 -- 0 is as good as no entry
 abbrev pub with_adj : Entries → Adjusted → ℤ → Entries

@@ -1,10 +1,11 @@
 -- The rows that entries are kept in.
-use Rattle.std.specs.Prelude.{◌≡◌, ◌≤◌, ◌==◌, nat_lt, ℕ, ◌+◌, ◌-◌, ℤ, pos, Bool, true, if◌then◌else◌}
+use Rattle.std.specs.Prelude.{◌≡◌, ◌≤◌, ◌==◌, nat_lt, ℕ, ◌+◌, ◌-◌, ℤ, pos, Bool, true, not, if◌then◌else◌}
 use Rattle.std.specs.Prelude.{List, [], ◌∷◌, ◌++◌, length, replicate, slice_set, slice_index_or}
 use Rattle.std.specs.Prelude.{Option, None, Some, option_map, unwrap_or}
 use Rattle.std.specs.FinMap as finite
 use Rattle.std.specs.Global.{Vec}
-use Rattle.std.specs.Ordering.{eq_by_cmp}
+use Rattle.std.specs.List.{list_any}
+use Rattle.std.specs.Ordering.{eq_by_cmp, int_eq}
 use Rattle.client_map.specs.declared.map.Key.{Key}
 use Rattle.client_map.specs.Keys.{key, key_cmp}
 use Rattle.sem_undo.specs.declared.rows.Rows.{Rows}
@@ -86,3 +87,7 @@ zeroed row = option_map (λ r. replicate (length r) (pos 0)) row
 
 abbrev pub removed : Option (List ℤ) → Option (List ℤ)
 removed row = None
+
+-- a semadj of a row isn't 0
+abbrev pub is_owed : List ℤ → Bool
+is_owed row = list_any (λ adj. not (int_eq adj (pos 0))) row

@@ -1,10 +1,10 @@
 //! Rows of semadj by client and set.
 
 ghost use Rattle.std.specs.FinMap as finite;
-ghost use Rattle.std.specs.Prelude.{◌≡◌, ◌<◌, ◌≤◌, ◌^◌, ℕ, length, pos, replicate, true};
+ghost use Rattle.std.specs.Prelude.{◌≡◌, ◌<◌, ◌≤◌, ◌^◌, ℕ, length, pos, replicate, false, true};
 ghost use Rattle.std.specs.Prelude.{if◌then◌else◌, slice_set, IfNone, IfOk, IfSome, OnErr, OnOk};
 ghost use Rattle.client_map.specs.Keys.{key};
-ghost use Rattle.sem_undo.specs.Rows.{each_at, grown, is_before, is_here, removed, row_at, row_of, zeroed, zeroed_at, IsNoted};
+ghost use Rattle.sem_undo.specs.Rows.{each_at, grown, is_before, is_here, is_owed, removed, row_at, row_of, zeroed, zeroed_at, IsNoted};
 
 use client_map::{ClientMap, narrow};
 use ipc_call::Memory;
@@ -164,6 +164,35 @@ impl Rows {
         }
     }
 
+    /// The least set from this one on where a semadj of a client isn't 0.
+    pub(crate) fn next_owed(&self, client: u64, from: u64) -> Option<u32>
+        requires noted { IsNoted self.now }
+        ensures none { IfNone result ((s : ℕ) → from ≤ s → is_owed (row_at self.now client s) ≡ false) }
+        ensures there { IfSome result (λ next. is_owed (row_at self.now client next) ≡ true) }
+        ensures from { IfSome result (λ next. from ≤ next) }
+        ensures fits { IfSome result (λ next. next < 2 ^ 32) }
+        ensures least { IfSome result (λ next. (s : ℕ) → from ≤ s → s < next → is_owed (row_at self.now client s) ≡ false) }
+    {
+        let mut next = self.next_row(client, from);
+        while let Some(set) = next {
+            if is_owed_in(self.row(client, set)) {
+                return Some(set);
+            }
+            next = self.next_row(client, u64::from(set) + 1);
+        }
+        None
+    }
+
+    /// The least set from this one on where a client has a row.
+    fn next_row(&self, client: u64, from: u64) -> Option<u32>
+        requires noted { IsNoted self.now }
+        ensures none { (s : ℕ) → from ≤ s → is_before result s ≡ true → row_of self.now client s ≡ None }
+        ensures from { IfSome result (λ next. from ≤ next) }
+        ensures fits { IfSome result (λ next. next < 2 ^ 32) }
+    {
+        narrow(self.rows.first_from(client, from))
+    }
+
     /// Takes out the row of a client at the least set where it has one.
     pub(crate) fn take_first(&mut self, client: u64) -> Option<(u32, Vec<i32>)>
         requires noted { IsNoted self.old }
@@ -222,4 +251,11 @@ fn zero_all(row: &mut Vec<i32>)
     ensures { row.new.items ≡ replicate (length row.old.items) (pos 0) }
 {
     row.fill(0);
+}
+
+/// Whether a semadj of a row isn't 0.
+fn is_owed_in(row: &[i32]) -> bool
+    ensures { result ≡ is_owed row.now }
+{
+    row.iter().any(|adj| *adj != 0)
 }

@@ -1,10 +1,10 @@
 //! The semadj of all clients.
 
-ghost use Rattle.std.specs.Prelude.{◌≡◌, ◌==◌, ◌<◌, ◌≤ℤ◌, ◌-ℤ◌, neg_ℤ, nat_lt, ℕ, length, not};
+ghost use Rattle.std.specs.Prelude.{◌≡◌, ◌==◌, ◌<◌, ◌≤◌, ◌^◌, ◌≤ℤ◌, ◌-ℤ◌, neg_ℤ, nat_lt, ℕ, length, not};
 ghost use Rattle.std.specs.Prelude.{if◌then◌else◌, pos, true, IfNone, IfSome, OnErr, OnOk};
 ghost use Rattle.std.specs.FinMap as finite;
 ghost use Rattle.sem_undo.specs.Entries.{adj_of, cleared, nothing_undone, row_len};
-ghost use Rattle.sem_undo.specs.Entries.{with_adj, without_client, without_row};
+ghost use Rattle.sem_undo.specs.Entries.{HasEntry, with_adj, without_client, without_row};
 ghost use Rattle.sem_undo.specs.Rows.{adj_in};
 
 use crate::rows::Rows;
@@ -139,6 +139,18 @@ impl Undo {
         }) }
     {
         self.rows.take_first(client)
+    }
+
+    /// The least set from this one on where a client has an entry.
+    pub fn next_set(&self, client: u64, from: u64) -> Option<u32>
+        ensures none { IfNone result ((set num : ℕ) → from ≤ set → adj_of self.now.entries client set num ≡ pos 0) }
+        ensures there { IfSome result (λ next. HasEntry self.now.entries client next) }
+        ensures from { IfSome result (λ next. from ≤ next) }
+        ensures fits { IfSome result (λ next. next < 2 ^ 32) }
+        ensures least { IfSome result (λ next. (set num : ℕ) → from ≤ set → set < next
+            → adj_of self.now.entries client set num ≡ pos 0) }
+    {
+        self.rows.next_owed(client, from)
     }
 
     /// Sets a semadj for which the client has a row.

@@ -1,7 +1,7 @@
 //! The shared memory segments of a namespace.
 
-ghost use Rattle.std.specs.Prelude.{◌≡◌, ◌≤◌, IfOk, IfErr, IsSome, None, Some, option_copied, option_map};
-ghost use Rattle.ipc_ids.specs.Table.{empty_table, ids_of};
+ghost use Rattle.std.specs.Prelude.{◌≡◌, ◌<◌, ◌≤◌, ℕ, IfNone, IfOk, IfErr, IfSome, IsSome, None, Some, option_copied, option_map};
+ghost use Rattle.ipc_ids.specs.Table.{empty_table, id_in, ids_of};
 ghost use Rattle.ipc_model.specs.Controls.{marked, perm_in, with_new_owner, without_segment};
 ghost use Rattle.ipc_model.specs.Decision.{Refused as RefusedBy};
 ghost use Rattle.ipc_model.specs.Gets.{object_of_key};
@@ -71,6 +71,17 @@ impl Segments {
         self.attached.get(process, att)
     }
 
+    /// The least number from this one on under which a process has something attached.
+    pub fn next_attachment(&self, process: u64, from: u32) -> Option<u32>
+        ensures none { IfNone result ((n : ℕ) → from ≤ n → attachment_at self.now.attached process n ≡ None) }
+        ensures there { IfSome result (λ next. IsSome (attachment_at self.now.attached process next)) }
+        ensures from { IfSome result (λ next. from ≤ next) }
+        ensures few { IfSome result (λ next. next < 4096) }
+        ensures least { IfSome result (λ next. (n : ℕ) → from ≤ n → n < next → attachment_at self.now.attached process n ≡ None) }
+    {
+        self.attached.first_from(process, from)
+    }
+
     /// The segment of an identifier.
     pub fn get(&self, id: u32) -> Option<&Object<Segment>>
         ensures { option_copied result ≡ segment_at self.now id }
@@ -99,6 +110,13 @@ impl Segments {
         ensures { result ≡ perm_in self.now.segments id }
     {
         self.segments.perm(id)
+    }
+
+    /// The identifier of the segment in a slot.
+    pub fn id_at(&self, slot: u16) -> Option<u32>
+        ensures { result ≡ id_in self.now.segments slot }
+    {
+        self.segments.id_at(slot)
     }
 
     /// The identifiers of the segments, by rising slot. The error comes only where an allocation fails.

@@ -1,6 +1,6 @@
 //! Who has which segment attached.
 
-ghost use Rattle.std.specs.Prelude.{◌≡◌, ◌==◌, ◌<◌, ◌+◌, ◌^◌, ℕ, None, IfNone, IfSome, IsSome, OnErr, OnOk};
+ghost use Rattle.std.specs.Prelude.{◌≡◌, ◌==◌, ◌<◌, ◌≤◌, ◌+◌, ◌^◌, ℕ, None, IfNone, IfSome, IsSome, OnErr, OnOk};
 ghost use Rattle.std.specs.Prelude.{if◌then◌else◌};
 ghost use Rattle.shm_seg.specs.Attachments.{attach_count, attachment_at, first_number, IsCopied, IsPut};
 ghost use Rattle.shm_seg.specs.Attachments.{free_number as least_free, none_attached};
@@ -163,6 +163,18 @@ impl Attachments {
         ensures least { IfSome result (λ next. (n : ℕ) → number < n → n < next → attachment_at self.now client n ≡ None) }
     {
         narrow(self.attached.next(client, number as u64))
+    }
+
+    /// The least number from this one on under which a client has something attached; None where there is none. The time is
+    /// logarithmic in the attachments.
+    pub fn first_from(&self, client: u64, number: u32) -> Option<u32>
+        ensures none { IfNone result ((n : ℕ) → number ≤ n → attachment_at self.now client n ≡ None) }
+        ensures there { IfSome result (λ first. IsSome (attachment_at self.now client first)) }
+        ensures from { IfSome result (λ first. number ≤ first) }
+        ensures few { IfSome result (λ first. first < 4096) }
+        ensures least { IfSome result (λ first. (n : ℕ) → number ≤ n → n < first → attachment_at self.now client n ≡ None) }
+    {
+        narrow(self.attached.first_from(client, u64::from(number)))
     }
 
     /// The least number under which a client has something attached; None where it has no attachment. The time is

@@ -167,7 +167,7 @@ fn a_get_asks_its_bits_of_the_group(rt: HostRuntime) -> Result<(), Fail> {
 #[test]
 fn a_private_key_makes_a_queue_each_time(rt: HostRuntime) -> Result<(), Fail> {
     let limits = Limits {
-        slots: 2,
+        queues: 2,
         first_seq: 65535,
         ..Limits::default()
     };

@@ -2,8 +2,8 @@
 
 use crate::numbers::Numbers;
 use ipc_call::{
-    Call, IPC_CREAT, IPC_NOWAIT, Identity, Items, Kind, MSG_EXCEPT, MSG_NOERROR, Memory, Row,
-    SEM_UNDO, SHM_RDONLY, SemOper,
+    Boxed, Call, IPC_CREAT, IPC_NOWAIT, Identity, Items, Kind, MSG_EXCEPT, MSG_NOERROR, Memory,
+    Row, SEM_UNDO, SHM_RDONLY, SemOper,
 };
 use std::alloc::Global;
 
@@ -297,9 +297,9 @@ pub fn any_process_call(
 }
 
 /// Credentials: few users and groups, at times all capabilities, at times too many groups.
-fn any_identity(alloc: Global, numbers: &mut Numbers) -> Result<Identity, Memory> {
+fn any_identity(alloc: Global, numbers: &mut Numbers) -> Result<Boxed<Identity>, Memory> {
     let (user, group) = (numbers.below(4) * 100, numbers.below(4) * 10);
-    Ok(Identity {
+    let identity = Identity {
         euid: user,
         egid: group,
         groups: any_groups(alloc, numbers)?,
@@ -308,5 +308,6 @@ fn any_identity(alloc: Global, numbers: &mut Numbers) -> Result<Identity, Memory
         suid: numbers.below(4) * 100,
         rgid: group,
         sgid: group,
-    })
+    };
+    Boxed::new(alloc, identity)
 }

@@ -50,3 +50,8 @@ pub fn answer_in(reply: Reply) -> Option<Answer> {
         _ => None,
     }
 }
+
+/// Whether an event's own call was granted.
+pub fn is_granted(own: &Option<Reply>) -> bool {
+    matches!(own, Some(Reply::Entered { outcome: Ok(_), .. }))
+}

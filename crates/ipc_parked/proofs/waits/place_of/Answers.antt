@@ -1,25 +1,12 @@
-use Rattle.std.proofs.Common.{◌≡◌, ℕ, ◌+◌, ◌-◌, ◌/◌, ◌≤◌, ◌∙◌, sym, subst, drop, arith}
-use Rattle.std.specs.List.{AllByRecursion}
-use Rattle.ipc_parked.proofs.Rows.{lower_half, upper_half}
+use Rattle.std.proofs.Common.{rules}
+use Rattle.std.specs.Prelude.{nat_lt}
+use Rattle.std.proofs.lemmas.List.Sorted.{IsPartitionPoint-from_clause}
+use Rattle.ipc_parked.proofs.Rows.{place-parted, rising-parted}
 use Rattle.ipc_parked.proofs.waits.place_of.Goals as goal
 
-pub loop-size-preserved-then-is_below_at : goal.loop-size-preserved-then-is_below_at
-loop-size-preserved-then-is_below_at c =
-    let inv = c.loop-size.invariant in
-    let low = c.loop-size.low in
-    let size = c.loop-size.size in
-    let same : low + size ≡ low + (size - size / 2) + size / 2 = omega arith in
-    record {
-      within = omega (arith, inv.within);
-      below = lower_half c.args.rows.now (low + size / 2) c.args.bound (low + (size - size / 2)) c.requires (sym c.is_below_at.ensures ∙ c.if-is_below_at.true) (omega arith);
-      above = subst (λ (n : ℕ). AllByRecursion (λ row. c.args.bound ≤ row.id) (drop n c.args.rows.now)) same inv.above;
-    }
-
-pub loop-size-preserved : goal.loop-size-preserved
-loop-size-preserved c =
-    let inv = c.loop-size.invariant in
-    record {
-      within = omega (arith, inv.within);
-      below = inv.below;
-      above = upper_half c.args.rows.now _ _ c.requires (omega (arith, inv.within, c.loop-size-test.true)) (sym c.is_below_at.ensures ∙ c.if-is_below_at.false);
-    }
+pub returns : goal.returns
+returns c =
+    let rows = c.args.rows.now in
+    let bound = c.args.bound in
+    let point = IsPartitionPoint-from_clause (λ row. nat_lt row.id bound) _ _ c.partition_point.ensures.partitioned (rising-parted rows bound c.requires) (λ a r q k. search rules) in
+    place-parted rows bound c.partition_point.result c.partition_point.ensures.bound point

@@ -4,6 +4,18 @@ use Rattle.std.specs.Prelude.{codes}
 use Rattle.ipc_text.specs.Settings.{limit_named}
 use Rattle.ipc_text.proofs.settings.limit_named.Goals as goal
 
+pub returns-in-queues : goal.returns-in-queues
+unfolding limit_named
+returns-in-queues c =
+    let e : c.args.word.now ≡ codes "queues" = text_from_reads c.args.word.now (codes "queues") (omega arith) (search rules) in
+    rw e refl
+
+pub returns-in-segments : goal.returns-in-segments
+unfolding limit_named
+returns-in-segments c =
+    let e : c.args.word.now ≡ codes "segments" = text_from_reads c.args.word.now (codes "segments") (omega arith) (search rules) in
+    rw e refl
+
 pub returns-in-msgmax : goal.returns-in-msgmax
 unfolding limit_named
 returns-in-msgmax c =

@@ -9,7 +9,7 @@ loop-key-init g c = record {
   finite = tt;
   within = omega arith;
   taken = λ n l. absurd (omega arith);
-  walk = walk_from c.args.client c.self.inside.tree.entries _ c.args.self.now c.self.view_is c.range-key-items.ensures.ordered (c.into_iter-key-iterator.ensures.into_iter_gives ∙ c.range-key-items.ensures.between tt);
+  walk = walk_from c.args.client c.self.inside.tree.entries _ c.args.self.now c.self.view_is c.range-key-items.ensures.ordered 0 (c.into_iter-key-iterator.ensures.into_iter_gives ∙ c.range-key-items.ensures.between tt);
 }
 
 pub returns-then-number-limit-clause-free : goal.returns-then-number-limit-clause-free

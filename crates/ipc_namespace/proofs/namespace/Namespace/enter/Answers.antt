@@ -11,6 +11,7 @@ use Rattle.ipc_namespace.specs.Namespace.{is_grant, AreQuietBut}
 use Rattle.ipc_namespace.proofs.Parked.{list_any-filter}
 use Rattle.ipc_namespace.proofs.Quiet.{quiet-moved}
 use Rattle.ipc_namespace.proofs.Settling.{entered-granted, entered-still, quiet-expire}
+use Rattle.ipc_namespace.proofs.Owing.{covers-left}
 use Rattle.ipc_namespace.proofs.namespace.Namespace.enter.Goals as goal
 use Rattle.ipc_namespace.proofs.namespace.Namespace.enter.Goals.{then-is_granted, else-is_granted}
 
@@ -21,7 +22,9 @@ settle-requires-clause-quiet c =
     let client = c.args.client in
     let granted : is_grant (outcome_of (decide_call t client c.args.call.now)) ≡ true = ap is_grant (sym c.in_ok-own.ensures.own) ∙ sym c.is_granted.ensures ∙ c.if-is_granted.true in
     let free : is_waiting t client ≡ false = list_any-filter (λ w. w.client == client) (λ w. is_none (expired s w)) s.parked c.requires.free in
-    λ touched covers. subst (λ (u : State). AreQuietBut (is_touched touched) u) (sym c.in_ok-own.ensures.state)
+    let touched = c.touched_by-touched.result in
+    let covers = covers-left s client c.args.call.now touched (λ w. is_none (expired s w)) c.requires.quiet c.touched_by-touched.ensures in
+    subst (λ (u : State). AreQuietBut (is_touched touched) u) (sym c.in_ok-own.ensures.state)
     (quiet-moved t client c.args.call.now touched covers (quiet-expire s c.requires.quiet) free granted)
 
 pub returns-clause-ok : goal.returns-clause-ok

@@ -9,8 +9,8 @@ use Rattle.ipc_namespace.proofs.namespace.Namespace.settle.Goals.{Else-may_be_to
 -- none can proceed
 still : (c : Else-may_be_touched) → settled c.args.self.now ≡ record { state = c.args.self.now; ended = [] }
 still c =
-    let touched = is_touched c.by-touched.result in
-    settled-untouched touched c.args.self.now (c.requires.quiet c.by-touched.result c.by-touched.ensures)
+    let touched = is_touched c.args.touched in
+    settled-untouched touched c.args.self.now c.requires.quiet
     (subst (λ (s : State). filter touched s.parked ≡ []) c.self.view_is (c.may_be_touched.ensures c.if-may_be_touched.false))
 
 pub returns-else-may_be_touched-clause-state : goal.returns-else-may_be_touched-clause-state
