@@ -1,10 +1,11 @@
 # Proofs and times.
 
-programs='ipcsh_cli ipcwho ipcsh_explain ipcsh_journal ipc_bench thread_bench member_bench journal_parts ipcsh_c'
+programs='ipcsh_cli ipcwho ipcsh_explain ipcsh_journal ipc_bench clients_bench thread_bench member_bench journal_parts ipcsh_c'
 
 check_bench() {
     attempt bench measures
     attempt 'bench threads' measures_threads
+    attempt 'memory of begin and exit' begins_in_flat_memory
     ! command -v valgrind >/dev/null || attempt 'bench instructions' counts_instructions
     ! command -v valgrind >/dev/null || ! command -v cc >/dev/null || attempt 'bench c' counts_calls_from_c
 }
@@ -12,12 +13,12 @@ check_bench() {
 # The instructions of docs/SPEED.md are those that valgrind counts, within a fifth, since they differ between environments.
 # Those of more than 64 objects, bytes or the like take long, and aren't counted here.
 counts_instructions() {
-    built ipc_bench && built member_bench && built ipcsh_cli || return 1
+    built ipc_bench && built clients_bench && built member_bench && built ipcsh_cli || return 1
     ./bench instructions 64 >"$scratch/out" || return 1
     why='docs/SPEED.md has other figures, or less than ten of them:'
     awk -f lib/instructions.awk "$scratch/out" docs/SPEED.md >"$scratch/shown"
     [ ! -s "$scratch/shown" ] || return 1
-    waiting_costs_little "$scratch/out"
+    waiting_costs_little "$scratch/out" && clients_cost_little "$scratch/out"
 }
 
 # So are those of docs/C.md.
@@ -40,6 +41,27 @@ waiting_costs_little() {
             if (fine != 2) print fine + 0 " kinds of calls"
         }' "$1" >"$scratch/shown"
     [ ! -s "$scratch/shown" ]
+}
+
+# Nor do 4,094 clients more that have ended or wait elsewhere.
+clients_cost_little() {
+    why='of 4,096 clients a call takes more than 1.1 times the instructions of one of 2, or less than five were counted:'
+    awk '
+        /^Space::apply.* (2|4096) clients / { name = substr($0, 1, 35); of[name, $(NF - 2)] = $NF; names[name] }
+        END {
+            for (name in names) if (of[name, 4096] > 0 && of[name, 4096] <= 1.1 * of[name, 2]) fine++; else print name, of[name, 2], of[name, 4096]
+            if (fine != 5) print fine + 0 " kinds of calls"
+        }' "$1" >"$scratch/shown"
+    [ ! -s "$scratch/shown" ]
+}
+
+# A client of 4,096 begins and exits 100,000 times in the memory in which it does so 1,000 times: its journal isn't kept.
+begins_in_flat_memory() {
+    built clients_bench || return 1
+    program=$(program_of clients_bench)
+    least=$(least_memory "$program" 1000 begin 4096)
+    why="100,000 times begin and exit don't fit into the $least KiB in which 1,000 just do"
+    fits_in "$least" "$program" 100000 begin 4096
 }
 
 measures() {

@@ -37,27 +37,37 @@ def any_line(dice):
     name, ident = dice.choice(kernel.NAMES), dice.choice("0001")
     return dice.choice([
         f"clock {dice.randrange(40)}",
-        f"{name} semtimedop {ident} {dice.randrange(9)} 0:-{dice.randrange(1, 4)} 1:1:010000",
+        f"{name} semtimedop {ident} {dice.randrange(9)} 0:{dice.choice(['-3', '-1', '0', '1'])} 1:1:010000",
         f"{name} setcreds {dice.choice('123')}00 {dice.choice('123')}0 groups={dice.choice(['-', '10', '10,20', '4,4,4'])}",
         f"{name} interrupt {dice.randrange(1, 7)}",
         f"{name} set q {ident} 100 10 0666 {dice.choice(['10', '50000'])}",
-        f"{name} msgsnd {ident} {dice.choice(['-1', '0', '7'])} x:00ff7f 0",
+        f"{name} set {dice.choice('sm')} {ident} 200 20 0666",
+        f"{name} msgsnd {ident} {dice.choice(['-1', '0', '7', '7', '7'])} {dice.choice(['x:00ff7f', 't:' + 'y' * 19])} 0",
         f"{name} setval {ident} 0 {dice.choice(['-1', '32768'])}",
         f"{name} ipcrm -q {ident} -M 6",
-        f"{name} exit",
+        f"{name} {dice.choice(['exit', 'begin 7 100 10', 'begin 8 200 20'])}",
         f"{name} {kernel.any_process_call(dice, ident)}",
-        f"{name} name {dice.randrange(9)}",
+        f"{name} {dice.choice(['begin 0 100 10', f'fork {dice.choice(kernel.NAMES)} 0'])}",
+        f"{name} name {dice.randrange(12)}",
         f"{name} interrupt {dice.choice(kernel.NAMES)}",
         f"{name} assume {dice.choice('123')}00 {dice.choice('123')}0 groups=10,20 caps=SYS_ADMIN saved=100:10",
     ])
+
+
+def any_attachment(dice):
+    """A client attaches a segment, and makes a call of what it has attached."""
+    name, number = dice.choice(kernel.NAMES), dice.choice("0001")
+    call = dice.choice([f"shmdt {number}", f"shmread {number} 0 {dice.randrange(20)}", f"shmwrite {number} 4 t:abcd"])
+    return [f"{name} shmat {dice.choice('0001')} {dice.choice(['0', '0', '010000'])}", f"{name} {call}"]
 
 
 def any_script(dice):
     """A script of all kinds of calls, with limits, times and waits that end by them."""
     lines = kernel.any_script(dice).decode().splitlines()
     head = len(kernel.HEAD.splitlines())
-    for _ in range(14):
-        lines.insert(dice.randrange(head, len(lines)), any_line(dice))
+    for _ in range(16):
+        at = dice.randrange(head, len(lines))
+        lines[at:at] = dice.choice([kernel.any_life, any_attachment] + [lambda dice: [any_line(dice)]] * 8)(dice)
     return "".join(f"{it}\n" for it in [f"limit {it}" for it in LIMITS if dice.random() < 0.15] + lines)
 
 

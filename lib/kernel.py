@@ -275,6 +275,8 @@ class Kernel:
         self.root = Client.alone(program, "root", 0, 0, 0, {"caps": "IPC_OWNER,SYS_ADMIN"})
         self.numbers, self.former = {it.ids[0]: it.number for it in self.clients.values()}, []
         self.place, self.clock, self.began = 0, 0, time.monotonic()
+        # Of which process each client was a thread at each place.
+        self.threads_at = {}
         # When each moment of the script comes, in seconds from the start.
         self.step, self.times = step, {it: at * step for at, it in enumerate(sorted({0, *moments}))} if moments else {}
 
@@ -291,6 +293,7 @@ class Kernel:
         if client.call:
             return [f"{self.place}.0 {name} still waits"]
         own = self.own_row(client, call)
+        self.threads_at[self.place] = {it.name: it.number for it in self.clients.values()}
         rows = [f"{self.place}.0 {name} {own or 'waits'}", *sorted(f"{self.place}.+ {it}" for it in self.settled(client))]
         if own is None:
             client.call = call
@@ -346,10 +349,12 @@ class Kernel:
         client.ask("exec")
         if client.answer() != ["0", "0"]:
             raise Stuck(f"client {client.name} can't exec")
-        for it in self.threads(client.number):
-            if it is not client:
-                it.gone()
+        # The thread that is left has the number of the process, whichever called (execve(2)).
         client.ids = client.ids[0], client.ids[0]
+        if os.listdir(f"/proc/{client.ids[0]}/task") != [str(client.ids[0])]:
+            raise Stuck(f"other threads are left after an exec of client {client.name}")
+        for it in self.threads(client.number):
+            it.has_ended = it is not client
         return "ok"
 
     def exit(self, client):
@@ -520,10 +525,10 @@ class Script:
 
 
 def rows_on_kernel(program, text, bad, step=STEPS[0]):
-    """The kernel's rows of a script without its bad lines."""
+    """The kernel's rows of a script without its bad lines, and the numbers of the clients' processes at each place."""
     script, rows = Script(text, bad), []
     if not script.calls:
-        return rows
+        return rows, {}
     kernel = Kernel(program, script.limits, script.clients, script.moments(), step)
     try:
         for now, client, call in script.calls:
@@ -531,7 +536,7 @@ def rows_on_kernel(program, text, bad, step=STEPS[0]):
             rows += kernel.make(client, call)
     finally:
         kernel.end()
-    return rows
+    return rows, kernel.threads_at
 
 
 def comparable(output):
@@ -556,16 +561,17 @@ def placed(row):
     return int(place), rest[0] == "+", rest
 
 
-def without_last(rows, pids):
-    """The rows, where of clients whose calls one event ended the lowest stands for who sent or received last: it may be any of them."""
+def without_last(rows, threads_at):
+    """The rows, where of processes whose calls one event ended the lowest stands for who sent or received last: it may be any of them."""
     lowest, ended, shown = {}, {}, []
     for row in sorted(rows, key=placed):
         place, name = row.split(" ", 2)[:2]
+        pid = threads_at.get(int(place.partition(".")[0]), {}).get(name, 0)
         if place.endswith("+"):
-            ended.setdefault(place, []).append(pids[name])
+            ended.setdefault(place, []).append(pid)
             lowest.update(dict.fromkeys(ended[place], min(ended[place])))
         else:
-            lowest.pop(pids[name], None)
+            lowest.pop(pid, None)
         shown.append(re.sub(r"( l[sr]pid )(\d+)", lambda it: it[1] + str(lowest.get(int(it[2]), it[2])), row))
     return shown
 
@@ -594,10 +600,10 @@ def difference(task):
     """How a script differs: the text, and what ipcsh prints for it."""
     program, text, output = task
     own, bad = comparable(output)
-    pids = {name: number for number, name in enumerate(Script(text, bad).clients, 1)}
     for step in STEPS:
         try:
-            found = Difference(without_last(own, pids), without_last(rows_on_kernel(program, text, bad, step), pids))
+            rows, threads_at = rows_on_kernel(program, text, bad, step)
+            found = Difference(without_last(own, threads_at), without_last(rows, threads_at))
         except (Stuck, OSError) as why:
             found = Difference([], [], str(why))
         if not found.is_one() or b" semtimedop " not in text:
@@ -708,9 +714,18 @@ def any_interrupt(dice, _):
 
 def any_process_call(dice, _):
     """Calls on processes and threads. A client that has ended comes again by each of three."""
-    child, number = dice.choice(NAMES), dice.choice("123456789")
-    begins = [f"fork {child} {number}"] * 3 + [f"clone {child}"] * 3 + [f"begin {number} 200 20 groups=10", f"begin {number} 100 10"]
-    return dice.choice([*begins, "exit", "exit", "exit", "exec", f"kill {number}"])
+    child, number = dice.choice(NAMES), dice.choice("12345678")
+    begins = [f"fork {child} {number}", f"clone {child}", f"begin {number} 200 20 groups=10", f"begin {number} 100 10"]
+    return dice.choice([*begins, "exit", "exec", "exec", f"kill {number}", f"kill {number}", f"interrupt {child}"])
+
+
+def any_life(dice):
+    """A client ends, and comes again as a process or a thread of another, which may end it while it waits."""
+    name, child = dice.sample(NAMES, 2)
+    begins = dice.choice([f"clone {child}", f"fork {child} {dice.choice('6789')}"])
+    waits = dice.choice(["semop 0 0:-3", "semop 0 1:-1", "msgrcv 0 40 3 0"])
+    ends = dice.choice(["exec", f"kill {dice.choice('12345')}"])
+    return [f"{child} exit", f"{name} {begins}"] + dice.choice([[], [f"{child} {waits}", f"{name} {ends}"]])
 
 
 def any_setcreds(dice, _):
@@ -728,6 +743,8 @@ def any_script(dice):
     ways += [any_command, *dice.choice([[any_interrupt], [any_setcreds], [any_interrupt] + [any_process_call] * 5])]
     lines = [HEAD.rstrip()] + [f"{dice.choice(NAMES)} {any_get(dice)}" for _ in range(4)]
     for _ in range(40):
+        if any_process_call in ways and dice.random() < 0.2:
+            lines += any_life(dice)
         call = any_get(dice) if dice.random() < 0.12 else dice.choice(ways)(dice, dice.choice("0001"))
         lines.append(f"{dice.choice(NAMES)} {call}")
     return "".join(f"{it}\n" for it in lines).encode()
@@ -763,7 +780,8 @@ def kernel_random(client, program, seed, count):
 
 def run(client, script, output):
     _, bad = comparable(pathlib.Path(output).read_bytes())
-    print("\n".join(rows_on_kernel(client, pathlib.Path(script).read_bytes(), bad)))
+    rows, _ = rows_on_kernel(client, pathlib.Path(script).read_bytes(), bad)
+    print("\n".join(rows))
     return 0
 
 

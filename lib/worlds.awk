@@ -2,7 +2,7 @@
 # F/1.without up to F/N.with and F/N.without. Both scripts of a pair begin alike. Then eve makes the same calls in both, and
 # between these, in the first alone, the others call at objects that are hidden from her: she has no right on them, as none
 # of the users and groups that she may become, no attachment and nothing there that her exit would undo. eve alone moves the
-# clock. She forks and clones into kid and tom, who call as others do then. With -v all=1 the others call at any object, so that she can notice.
+# clock. She forks and clones into kid and tom, or they begin as other processes, and they call as others do then. With -v all=1 the others call at any object, so that she can notice.
 
 function below(n) { return int(rand() * n) }
 function one_of(list,  parts) { return parts[1 + below(split(list, parts, " "))] }
@@ -111,6 +111,12 @@ function eves_call(  which, k) {
     else say(below(20) ? "eve getall " object("s") : "eve exit")
 }
 
+# A client begins as another process.
+function begin(client, pid, creds) {
+    say(client " exit")
+    say(client " begin " pid " " creds)
+}
+
 # At the start a thread of hers may take on a user to whom more is open than to her.
 function assume(client) { say(client " assume " one_of("200 300 400") " 20" (below(2) ? "" : " caps=IPC_OWNER")) }
 
@@ -122,9 +128,9 @@ function eves_life(  which) {
     else if (which < 6) say("eve clone tom")
     else if (which == 6) say("eve exec")
     else if (which == 7) say("eve name " 20 + below(3))
-    else if (which < 10) say("eve kill " one_of("1 2 6 6 7 8 9 20 21"))
+    else if (which < 10) say("eve kill " one_of("1 2 6 6 7 8 9 20 21 30 31 40"))
     else if (which == 10) say("eve interrupt " one_of("kid tom fay bob"))
-    else say("eve interrupt " one_of("1 6 8 9 20 21"))
+    else say("eve interrupt " one_of("1 6 8 9 20 21 30 31 40"))
 }
 
 # A call of eve, which may move the clock on. The others pass a time that doesn't.
@@ -156,8 +162,13 @@ function pair(n,  i, client, k) {
     join("fay", 150, 15, " groups=20")
     join("kid", 100, 10)
     join("tom", 100, 10)
+    if (below(2)) begin("eve", 40, "100 10 saved=150:15")
     for (i = 0; i < 2; i++) {
         client = i ? "kid" : "tom"
+        if (!below(4)) {
+            begin(client, 30 + i, one_of("200 300 150") " 20")
+            continue
+        }
         say(client " exit")
         if (!below(3)) continue
         say(i ? "eve fork kid 8" : "eve clone tom")

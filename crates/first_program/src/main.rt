@@ -62,8 +62,8 @@ fn talk(rt: &HostRuntime, space: &mut Space) -> io::Result<()> {
 fn main(rt: HostRuntime) -> io::Result<()> {
     let alloc = rt.alloc();
     let mut clients = Vec::new(alloc);
-    clients.push(Creds::new(100, 10, Vec::new(alloc), Caps::empty()))?;
-    clients.push(Creds::new(200, 20, Vec::new(alloc), Caps::empty()))?;
+    clients.push(Creds::new(100, 10, &[], Caps::empty()))?;
+    clients.push(Creds::new(200, 20, &[], Caps::empty()))?;
     let mut space = Space::start(Limits::default(), clients)?;
     talk(&rt, &mut space)
 }

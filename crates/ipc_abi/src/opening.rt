@@ -72,13 +72,13 @@ impl RawClient {
     }
 
     /// The credentials.
-    pub fn creds(&self, alloc: Global) -> Result<Creds, Memory>
+    pub fn creds(&self) -> Creds
         requires { IsValid self.now }
-        ensures { IfOk result (λ creds. creds ≡ creds_in self.now) }
+        ensures { result ≡ creds_in self.now }
     {
-        let groups = Vec::from_slice(alloc, &self.groups[..self.ngroups as usize])?;
+        let groups = &self.groups[..self.ngroups as usize];
         let caps = Caps::from_bits_retain(self.caps as u8);
-        Ok(Creds::new(self.uid, self.gid, groups, caps))
+        Creds::new(self.uid, self.gid, groups, caps)
     }
 }
 
@@ -89,7 +89,7 @@ pub fn creds_of(alloc: Global, clients: &[RawClient]) -> Result<Vec<Creds>, Memo
 {
     let mut all = Vec::with_capacity(alloc, clients.len())?;
     for client in clients {
-        all.push(client.creds(alloc)?)?;
+        all.push(client.creds())?;
     }
     Ok(all)
 }

@@ -1,22 +1,23 @@
 //! The credentials of a client.
 
-ghost use Rattle.std.specs.Prelude.{◌≡◌, ◌≤◌, ◌==◌, IfOk, IfSome, length, option_map, vec_len};
+ghost use Rattle.std.specs.Prelude.{◌≡◌, ◌≤◌, ◌==◌, IfOk, IfSome, length, option_map};
 ghost use Rattle.std.specs.List.{list_any};
 ghost use Rattle.ipc_creds.specs.Credentials.{became, executed, is_in_group, own_groups, own_users};
 
 use crate::caps::Caps;
+use arrayvec::ArrayVec;
 use std::alloc::{AllocError, Global};
 use std::marker::Model;
 
 /// How many supplementary groups a client may have at most. Linux's NGROUPS_MAX is 65536.
 pub const GROUPS_MAX: usize = 32;
 
-/// The credentials of a client (credentials(7)).
+/// The credentials of a client (credentials(7)). They take no memory of their own: there is room for all groups in the value.
 #[derive(Debug, Drop)]
 pub struct Creds {
     euid: u32,
     egid: u32,
-    groups: Vec<u32>,
+    groups: ArrayVec<u32, GROUPS_MAX>,
     caps: Caps,
     ruid: u32,
     suid: u32,
@@ -25,26 +26,27 @@ pub struct Creds {
 }
 
 impl Model for Creds {
-    ghost use Rattle.std.specs.Prelude.{◌≤◌, vec_len};
+    ghost use Rattle.std.specs.Prelude.{◌≤◌};
+    ghost use Rattle.arrayvec.specs.ArrayVec.{array_vec_len};
     ghost use Rattle.ipc_creds.specs.Credentials.{Credentials, groups_max};
 
     ghost Value = { Credentials };
 
     ghost view = { λ c. record { euid = c.euid; egid = c.egid; groups = c.groups.items; caps = c.caps.0; ruid = c.ruid; suid = c.suid; rgid = c.rgid; sgid = c.sgid } };
 
-    ghost invariant = { λ c. vec_len c.groups ≤ groups_max };
+    ghost invariant = { λ c. array_vec_len c.groups ≤ groups_max };
 }
 
 impl Creds {
     /// Credentials of these parts; the real and the saved user and group are the effective ones.
-    pub fn new(euid: u32, egid: u32, groups: Vec<u32>, caps: Caps) -> Creds
-        requires { vec_len groups ≤ GROUPS_MAX }
-        ensures { result ≡ record { euid = euid; egid = egid; groups = groups.items; caps = caps.0; ruid = euid; suid = euid; rgid = egid; sgid = egid } }
+    pub fn new(euid: u32, egid: u32, groups: &[u32], caps: Caps) -> Creds
+        requires { length groups.now ≤ GROUPS_MAX }
+        ensures { result ≡ record { euid = euid; egid = egid; groups = groups.now; caps = caps.0; ruid = euid; suid = euid; rgid = egid; sgid = egid } }
     {
         Creds {
             euid,
             egid,
-            groups,
+            groups: held(groups),
             caps,
             ruid: euid,
             suid: euid,
@@ -76,14 +78,14 @@ impl Creds {
     }
 
     /// The same with another effective user and group, and other supplementary groups where some are given.
-    pub fn take_on(&mut self, euid: u32, egid: u32, groups: Option<Vec<u32>>)
-        requires few { IfSome groups (λ groups. vec_len groups ≤ GROUPS_MAX) }
-        ensures { self.new ≡ became euid egid (option_map (λ groups. groups.items) groups) self.old }
+    pub fn take_on(&mut self, euid: u32, egid: u32, groups: Option<&[u32]>)
+        requires few { IfSome groups (λ groups. length groups.now ≤ GROUPS_MAX) }
+        ensures { self.new ≡ became euid egid (option_map (λ groups. groups.now) groups.entry) self.old }
     {
         self.euid = euid;
         self.egid = egid;
         if let Some(groups) = groups {
-            self.groups = groups;
+            self.groups = held(groups);
         }
     }
 
@@ -148,12 +150,12 @@ impl Creds {
     pub fn in_group(&self, gid: u32) -> bool
         ensures { result ≡ is_in_group self.now gid }
     {
-        gid == self.egid() || self.groups.contains(&gid)
+        gid == self.egid() || self.groups().contains(&gid)
     }
 
-    /// A copy. The error comes only where an allocation fails.
-    pub fn copy(&self) -> Result<Creds, AllocError>
-        ensures { IfOk result (λ copied. copied ≡ self.now) }
+    /// A copy.
+    pub fn copy(&self) -> Creds
+        ensures { result ≡ self.now }
     {
         let Creds {
             euid,
@@ -165,27 +167,36 @@ impl Creds {
             rgid,
             sgid,
         } = self;
-        let groups = Vec::from_slice(*groups.allocator(), groups.as_slice())?;
-        Ok(Creds {
+        Creds {
             euid: *euid,
             egid: *egid,
-            groups,
+            groups: held(groups.as_slice()),
             caps: *caps,
             ruid: *ruid,
             suid: *suid,
             rgid: *rgid,
             sgid: *sgid,
-        })
+        }
     }
 }
 
-/// Copies of credentials, in their order. The error comes only where an allocation fails.
+/// The groups in a list with room for all that a client may have.
+fn held(groups: &[u32]) -> ArrayVec<u32, GROUPS_MAX>
+    requires { length groups.now ≤ GROUPS_MAX }
+    ensures { result.items ≡ groups.now }
+{
+    let mut held = ArrayVec::new();
+    held.try_extend_from_slice(groups).unwrap();
+    held
+}
+
+/// Copies of credentials, in their order. The error comes only where the allocation of the list fails.
 pub fn copies(alloc: Global, clients: &[Creds]) -> Result<Vec<Creds>, AllocError>
     ensures { IfOk result (λ copied. copied.items ≡ clients.now) }
 {
     let mut copied = Vec::with_capacity(alloc, clients.len())?;
     for creds in clients {
-        copied.push(creds.copy()?)?;
+        copied.push(creds.copy())?;
     }
     Ok(copied)
 }

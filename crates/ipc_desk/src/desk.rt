@@ -105,7 +105,7 @@ fn creds_of(alloc: Global, users: &[User]) -> Result<Vec<Creds>, Memory>
 {
     let mut clients = Vec::with_capacity(alloc, users.len())?;
     for user in users {
-        clients.push(Creds::new(user.uid, user.gid, Vec::new(alloc), user.caps))?;
+        clients.push(Creds::new(user.uid, user.gid, &[], user.caps))?;
     }
     Ok(clients)
 }

@@ -87,6 +87,14 @@ impl Journal {
         self.given
     }
 
+    /// For how many more rows it has room, so that all its rows, those that were handed out too, stay fewer than 2^64.
+    pub fn room(&self) -> usize
+        ensures { result ≡ self.now.room }
+    {
+        let (capacity, len) = (self.rows.capacity(), self.rows.len());
+        (capacity - len).min(usize::MAX - self.given as usize - len)
+    }
+
     /// The rows that weren't handed out, oldest first: all, where none were.
     pub fn entries(&self) -> &[JournalRow]
         ensures kept { result.now ≡ drop self.now.given self.now.rows }

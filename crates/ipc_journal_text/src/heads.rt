@@ -1,6 +1,6 @@
 // The clients of a journal, read from their lines.
 
-ghost use Rattle.std.specs.Prelude.{◌≡◌, ◌≤◌, IfOk, codes, option_map, vec_len};
+ghost use Rattle.std.specs.Prelude.{◌≡◌, ◌≤◌, IfOk, codes, length, option_map};
 ghost use Rattle.ipc_journal_text.specs.Gives.{Gives, ids_shown};
 ghost use Rattle.ipc_journal_text.specs.Reading.{caps_of as caps_word, client_of as client_words, credentials, identity_by, identity_words, ids_behind as behind_ids, ids_of as ids_words, lists_of as lists_words, pair_behind as behind_pair};
 ghost use Rattle.ipc_text.specs.Calls.{new_groups};
@@ -31,7 +31,7 @@ pub(crate) fn client_of(alloc: Global, line: &[u8]) -> Result<Creds, Cause>
         return Err(Cause::Wanted(Wanted::Client));
     };
     match caps_of(caps) {
-        Some(caps) if groups.len() <= GROUPS_MAX => Ok(ids.with(groups, caps)),
+        Some(caps) if groups.len() <= GROUPS_MAX => Ok(ids.with(groups.as_slice(), caps)),
         _ => Err(Cause::Wanted(Wanted::Client)),
     }
 }
@@ -46,9 +46,9 @@ pub(crate) struct Ids {
 
 impl Ids {
     /// The credentials of these, with supplementary groups and capabilities.
-    fn with(self, groups: Vec<u32>, caps: Caps) -> Creds
-        requires { vec_len groups ≤ GROUPS_MAX }
-        ensures { result ≡ credentials (ids_shown self) groups.items caps.0 }
+    fn with(self, groups: &[u32], caps: Caps) -> Creds
+        requires { length groups.now ≤ GROUPS_MAX }
+        ensures { result ≡ credentials (ids_shown self) groups.now caps.0 }
     {
         let mut creds = Creds::new(self.real.0, self.real.1, groups, caps).with_saved(
             self.saved.0,

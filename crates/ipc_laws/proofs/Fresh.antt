@@ -35,7 +35,7 @@ quiet-from : (s : State) (es : List Event) → AreNotReady s → AreNotReady (ru
 quiet-from s [] quiet = quiet
 quiet-from s (e ∷ es) quiet = quiet-from (step s e).state es (not_ready-of (step s e).state (quiet-settled (moved_by (begun s e.now) e.client e.call).state))
 
-quiet-run : (h : History) → AreNotReady (run h)
+pub quiet-run : (h : History) → AreNotReady (run h)
 quiet-run h = quiet-from (opening h.limits h.clients) h.events tt
 
 -- a call that waits is of a client whose thread hasn't ended

@@ -9,6 +9,7 @@ mod Own
 mod Pairs
 mod Parts
 mod Queues
+mod Remaining
 mod Runs
 mod Searches
 mod Seen

@@ -1,10 +1,9 @@
 -- The calls on segments, and exit, on the segments with their attachments and on their blur.
-use Rattle.std.proofs.Common.{◌≡◌, ◌≢◌, ◌≤◌, ℕ, zero, suc, ◌+◌, ◌-◌, Bool, true, false, cond, List, [], ◌∷◌, ◌++◌, length, refl, sym, ap, arith, subst, ◌∙◌, Option, Some, None}
-use Rattle.std.specs.Prelude.{◌==◌, nat_le, not, ◌&&◌, option_map, option_and_then, unwrap_or, replicate, take, drop}
+use Rattle.std.proofs.Common.{◌≡◌, ◌≢◌, ℕ, zero, suc, ◌+◌, Bool, true, false, cond, List, [], ◌∷◌, length, refl, sym, ap, subst, ◌∙◌, Option, Some, None}
+use Rattle.std.specs.Prelude.{◌==◌, nat_le, not, ◌&&◌, option_map, option_and_then, unwrap_or, replicate}
 use Rattle.std.specs.FinMap as finite
 use Rattle.std.proofs.lemmas.Bool.{and_parts, false≢true}
-use Rattle.std.proofs.lemmas.Bool.Decides.{nat_tests}
-use Rattle.std.proofs.lemmas.List.{length-append, length-replicate, length-take-le, length-drop}
+use Rattle.std.proofs.lemmas.List.{length-replicate}
 use Rattle.std.proofs.lemmas.Option.{none-some, same_Some}
 use Rattle.ipc_call.specs.declared.limits.Limits.{Limits}
 use Rattle.ipc_call.specs.declared.perms.Perm.{Perm}
@@ -25,6 +24,7 @@ use Rattle.ipc_model.specs.Gets.{Get, get_segment, getting_segment}
 use Rattle.ipc_model.specs.Controls.{marked, without_segment}
 use Rattle.ipc_model.specs.Segments.{after_detaches, after_fork, attach, attached_by, behind, copied, copied_from, detach, detached, detached_by, detached_from, left_segment, read_bytes, segment_at, wanted_to_attach, with_attached, noted, with_bytes, with_copy, without_number, write_bytes, attachment_to}
 use Rattle.ipc_model.proofs.Granting.{Grants, grants-check, grants-found, grants-grant, grants-passes}
+use Rattle.ipc_model.proofs.Lasting.{written-long}
 use Rattle.ipc_laws.specs.Worlds.{all_masked, blank, blank_segment, blur_shared, has_attached, hides_segment, is_closed, is_hidden_in, masked}
 use Rattle.ipc_laws.proofs.Attached.{attached-apart, attached-left, attached-other, attached-there, detached-fewer}
 use Rattle.ipc_laws.proofs.Closed.{denied-permission}
@@ -38,18 +38,6 @@ blank-same x y same mark by = λ i. record { bytes = replicate (same i) 0; is_ma
 
 pub segment-twice : (x : Segment) → blank_segment (blank_segment x) ≡ blank_segment x
 segment-twice x = blank-same (blank_segment x) x (length-replicate (length x.bytes) 0) refl refl
-
-written-long : (offset : ℕ) (new old : List ℕ) → lies_within offset (length new) old ≡ true → length (overwritten offset new old) ≡ length old
-written-long offset new old fits =
-    let within : offset + length new ≤ length old = grind (arith, nat_tests) in
-    let front = length-take-le offset old (omega (arith, within)) in
-    let back = length-drop (offset + length new) old in
-    let middle = length-append (take offset old) new in
-    let whole = length-append (take offset old ++ new) (drop (offset + length new) old) in
-    whole ∙ sum (length (take offset old)) (length new) (length (drop (offset + length new) old)) (length (take offset old ++ new)) (length old) offset front middle back within
-  where
-    sum : (x y z xy n k : ℕ) → x ≡ k → xy ≡ x + y → z ≡ n - (k + y) → k + y ≤ n → xy + z ≡ n
-    sum x y z xy n k front middle back within = omega (arith, front, middle, back, within)
 
 -- the segment behind an attachment, and the attachment
 behind-parts : (a : Shared) (client number : ℕ) (of : Attachment) (segment : Object Segment) → behind a client number ≡ Some (of, segment) → (attachment_at a.attached client number ≡ Some of) × (segment_at a of.segment ≡ Some segment)

@@ -274,7 +274,7 @@ not-changing (Kill p) can = absurd (true≢false (sym can))
 not-changing Exit can = absurd (true≢false (sym can))
 not-changing call can = refl
 
-abbrev CanWait : List Waiting → Type 0
+abbrev pub CanWait : List Waiting → Type 0
 CanWait ws = AllByRecursion (λ w. can_wait w.call ≡ true) ws
 
 lives-turn : (k : ℕ) (s : State) (who : ℕ) (d : Decision State) → IfGranted (λ answer new. Lives k s new) d → Lives k s (ended_by s who d).state
@@ -298,7 +298,7 @@ lives-moved k s who call (Refused rule) lives = (λ p closed. closed, refl)
 lives-moved k s who call Waits lives = (λ p closed. closed, refl)
 lives-moved k s who call (Granted answer new) lives = lives
 
-can-moved : (s : State) (who : ℕ) (call : Call) (d : Decision State) → (proceeds d ≡ false → can_wait call ≡ true) → Keeps s d → CanWait s.parked → CanWait (moved_as s who call d).state.parked
+pub can-moved : (s : State) (who : ℕ) (call : Call) (d : Decision State) → (proceeds d ≡ false → can_wait call ≡ true) → Keeps s d → CanWait s.parked → CanWait (moved_as s who call d).state.parked
 can-moved s who call (Refused rule) can keeps are = are
 can-moved s who call Waits can keeps are = all-push (λ w. can_wait w.call ≡ true) s.parked (waiting_as s who call) are (ap (λ at. is_some at) (at-as call) ∙ can refl)
 can-moved s who call (Granted answer new) can keeps are =

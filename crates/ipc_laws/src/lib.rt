@@ -2,10 +2,11 @@
 //! that does nothing: what it ensures is the law.
 #![tactic(auto)]
 
-ghost use Rattle.std.specs.Prelude.{◌≡◌, ℕ, List, Some, Ok};
+ghost use Rattle.std.specs.Prelude.{◌≡◌, ℕ, false, List, length, Some, Ok, IsSome};
 ghost use Rattle.ipc_call.specs.declared.replies.Answer.{Answer as AnswerOf};
 ghost use Rattle.ipc_model.specs.Fresh.{IsFresh, begun_by};
-ghost use Rattle.ipc_model.specs.State.{State};
+ghost use Rattle.ipc_model.specs.Segments.{ends_segments, segment_at};
+ghost use Rattle.ipc_model.specs.State.{Object, Segment, State};
 ghost use Rattle.ipc_model.specs.Step.{Event, step};
 ghost use Rattle.ipc_model.specs.Tidy.{IsTidy};
 ghost use Rattle.ipc_history.specs.Waits.{AreInTime, AreOfThreads};
@@ -56,4 +57,14 @@ pub fn new_processes_are_fresh()
     ensures { (h : History) (e : Event) (child pid : ℕ) (answer : AnswerOf) → IsLegal (with_event h e)
         → begun_by e.client e.call ≡ Some (child, pid) → (next_step h e).own ≡ Some (Ok answer)
         → IsFresh (run h) (next_step h e).state e.client e.call child pid }
+{}
+
+/// A segment ends by an IPC_RMID of segments, a shmdt, an exec, a kill or an exit alone: after any other call each that was there
+/// is there, whatever the call ends or lets proceed. No event changes how many bytes a segment has. So whoever keeps memory for
+/// segments looks for ended ones after these calls alone, and never resizes it.
+pub fn segments_end_by_few_calls()
+    ensures stay { (h : History) (e : Event) (id : ℕ) → ends_segments e.call ≡ false → IsSome (segment_at (run h).shared id)
+        → IsSome (segment_at (next_step h e).state.shared id) }
+    ensures sizes { (h : History) (e : Event) (id : ℕ) (before now : Object Segment) → segment_at (run h).shared id ≡ Some before
+        → segment_at (next_step h e).state.shared id ≡ Some now → length now.contents.bytes ≡ length before.contents.bytes }
 {}

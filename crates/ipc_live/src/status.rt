@@ -30,7 +30,7 @@ pub fn process_of(alloc: Global, pid: u32, text: &[u8]) -> Result<Process, BadLi
     );
     let groups = groups_of(alloc, groups)?;
     let name = name_of(alloc, name)?;
-    let creds = Creds::new(euid, egid, groups, caps);
+    let creds = Creds::new(euid, egid, groups.as_slice(), caps);
     Ok(Process { pid, name, creds })
 }
 

@@ -277,7 +277,7 @@ Ends-shared : (s : State) (p : Plan Shared) → Ends (λ answer u. Leads s.share
 Ends-shared s p ends = Ends-part s (λ shared. record s { shared = shared }) (λ u. Leads s.shared u) (λ u leads. (refl, Follows-shared s u leads)) p ends
 
 -- the segment behind an attachment is there
-behind-there : (a : Shared) (client number : ℕ) (of : Attachment) (segment : Object Segment) → behind a client number ≡ Some (of, segment) → segment_at a of.segment ≡ Some segment
+pub behind-there : (a : Shared) (client number : ℕ) (of : Attachment) (segment : Object Segment) → behind a client number ≡ Some (of, segment) → segment_at a of.segment ≡ Some segment
 behind-there a client number of segment is = by (attachment_at a.attached client number) is
   where
     there : (x : Attachment) (o : Option (Object Segment)) → segment_at a x.segment ≡ o → option_map {U = Attachment × Object Segment} (λ segment. (x, segment)) o ≡ Some (of, segment) → segment_at a of.segment ≡ Some segment

@@ -7,6 +7,7 @@ pub mod Filing
 pub mod Granting
 pub mod Growing
 pub mod Keeping
+pub mod Lasting
 pub mod Late
 pub mod Leading
 pub mod Living

@@ -2,9 +2,11 @@
 -- offsets in the place of mapped memory, is the project's own). shmat: the segment is there; the caller may read it,
 -- and alter it without SHM_RDONLY; it has a number free. The others: the caller has the attachment; a write asks that
 -- it isn't read-only; a read or write is all within the segment.
-use Rattle.std.specs.Prelude.{◌≡◌, ◌<◌, ℕ, zero, suc, ◌+◌, ◌==◌, true, not, ◌&&◌, List, length, Option, Some, None, option_and_then, option_map, if◌then◌else◌}
+use Rattle.std.specs.Prelude.{◌≡◌, ◌<◌, ℕ, zero, suc, ◌+◌, ◌==◌, Bool, true, false, not, ◌&&◌, List, length, Option, Some, None, option_and_then, option_map, if◌then◌else◌}
 use Rattle.std.specs.FinMap as finite
 use Rattle.ipc_call.specs.Flags.{has_flag, shm_rdonly}
+use Rattle.ipc_call.specs.declared.calls.Call.TheVariants.{Exec, Exit, IpcRmid, Kill, ShmDt}
+use Rattle.ipc_call.specs.declared.calls.Kind.TheVariants as kinds
 use Rattle.ipc_call.specs.declared.rules.Rule.TheVariants.{BadId, NotAttached, OutOfSegment, TooManyAttached}
 use Rattle.ipc_call.specs.declared.replies.Answer.TheVariants.{Attached as AttachedAnswer, Bytes, Done}
 use Rattle.ipc_perm.specs.declared.access.Want.{Want}
@@ -14,7 +16,7 @@ use Rattle.ipc_objects.specs.Objects.{changed, with_contents}
 use Rattle.shm_seg.specs.declared.attachments.Attachment.{Attachment}
 use Rattle.shm_seg.specs.Attachments.{attach_count, attachment_at, free_number, shmseg, with_attachment, without_attachment}
 use Rattle.shm_seg.specs.Segments.{lies_within, overwritten, part_of}
-use Rattle.ipc_model.specs.State.{Caller, Object, Segment, Shared}
+use Rattle.ipc_model.specs.State.{Call, Caller, Object, Segment, Shared}
 use Rattle.ipc_model.specs.Plan.{Needs, Passes, Plan, Grant, found, ◌⨾◌}
 
 abbrev pub segment_at : Shared → ℕ → Option (Object Segment)
@@ -132,3 +134,12 @@ write_bytes shared who number offset new = found (behind shared who.process numb
 pub record AreAttached (shared : Shared) : Type 0 where
   pub each : (id : ℕ) (segment : Object Segment) → segment_at shared id ≡ Some segment
       → segment.contents.is_marked ≡ true → 0 < attach_count shared.attached id
+
+-- a call that may end a segment: IPC_RMID of one, and those by which attachments go
+abbrev pub ends_segments : Call → Bool
+ends_segments (ShmDt att) = true
+ends_segments (IpcRmid kinds.Segment id) = true
+ends_segments (Kill pid) = true
+ends_segments Exec = true
+ends_segments Exit = true
+ends_segments call = false

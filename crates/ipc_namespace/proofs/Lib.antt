@@ -1,11 +1,13 @@
 pub mod Calling
 pub mod Earliest
+pub mod Entering
 pub mod Endings
 pub mod Expiring
 pub mod Held
 pub mod Killing
 pub mod Leaving
 pub mod Moving
+pub mod OnSets
 pub mod Own
 pub mod Parked
 pub mod Quiet
@@ -14,3 +16,4 @@ pub mod Settling
 pub mod Signalling
 pub mod Starting
 pub mod Owing
+pub mod Wanting

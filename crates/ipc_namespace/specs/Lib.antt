@@ -1,3 +1,4 @@
 pub mod Looking
 pub mod Namespace
 pub mod Touching
+pub mod Wanting

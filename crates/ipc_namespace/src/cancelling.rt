@@ -143,7 +143,7 @@ impl Namespace {
     }
 
     /// Whose call came first and waits: the client's that was found before, or this one's.
-    fn earlier(&self, found: Option<u32>, client: u32) -> Option<u32>
+    pub(super) fn earlier(&self, found: Option<u32>, client: u32) -> Option<u32>
         requires { IfSome found (λ other. waits self.now other ≡ true) }
         ensures { result ≡ earliest_of self.now (λ c. is_found found c || c == client) }
     {

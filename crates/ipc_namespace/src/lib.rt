@@ -11,10 +11,12 @@ mod listings;
 mod looking;
 mod message_calls;
 mod namespace;
+mod owed;
 mod process_calls;
 mod reserving;
 mod segment_calls;
 mod semaphore_calls;
+mod several;
 mod signals;
 mod touching;
 

@@ -12,6 +12,7 @@ ghost use Rattle.ipc_parked.specs.Touched.{is_touched};
 ghost use Rattle.ipc_model.specs.Step.{Moved as MovedTo, after, expire, is_ready, first_ready as first_that_is_ready, end_waiting, enter as enters, moved_by, settled, step, without};
 ghost use Rattle.ipc_namespace.specs.Namespace.{decide_made, is_grant, is_on_waiting as is_on_waiting_by, left_alive, left_made, sent_to as call_sent_to, stands, AreQuietBut};
 ghost use Rattle.ipc_model.specs.Decision.{without_answer};
+ghost use Rattle.ipc_namespace.specs.Wanting.{may_want_memory};
 
 use crate::callers::caller_of;
 use crate::reserving::{release_in, reserve_in, reserve_row, sent_to};
@@ -126,8 +127,8 @@ impl Namespace {
     /// made to wait, and the waiting calls that can proceed end. The client has no call that waits, and no waiting call is
     /// ready: so only a call that is granted ends others than by their deadline. The answer is the outcome of the event's
     /// own call, None where that waits; the waiting calls that ended stand in their order in `ended`, an empty list with
-    /// room for each that waits and for the event's own. The error comes only where an allocation fails, and then nothing
-    /// has changed.
+    /// room for each that waits and for the event's own. The error comes only where an allocation fails, or 2^64 processes
+    /// have come, and then nothing has changed.
     pub fn serve(
         &mut self,
         client: u32,
@@ -148,7 +149,9 @@ impl Namespace {
         ensures limits { self.new.limits ≡ self.old.limits }
         ensures clients { length self.new.clients ≡ length self.old.clients }
         ensures err { OnErr result (self.new ≡ self.old) }
+        ensures memory { OnErr result (may_want_memory self.old call.now ≡ true) }
         ensures none { OnErr result (ended.new.items ≡ []) }
+        ensures room { vec_capacity ended.old ≤ vec_capacity ended.new }
     {
         let clock = self.clock;
         self.clock = clock.max(now);
@@ -177,10 +180,14 @@ impl Namespace {
         requires space { length self.old.parked < vec_capacity ended.old }
         ensures ok { IfOk result (λ own. after (expire self.old).ended (enters (expire self.old).state client call.now) ≡ record { state = self.new; own = own; ended = ended.new.items }) }
         ensures few { OnOk result (vec_len ended.new ≤ length self.old.parked) }
+        ensures space { vec_capacity ended.old ≤ vec_capacity ended.new }
         ensures err { OnErr result (self.new ≡ self.old) }
+        ensures memory { OnErr result (may_want_memory self.old call.now ≡ true) }
         ensures none { OnErr result (ended.new.items ≡ []) }
     {
-        let touched = self.touched_by(client, call);
+        let Some(touched) = self.touched_by(client, call) else {
+            return self.enter_several(client, place, call, ended);
+        };
         let own = self.carry_out(client, place, call, ended)?;
         if is_granted(&own) {
             self.settle(touched, ended);
@@ -192,7 +199,7 @@ impl Namespace {
     /// nothing has changed: so calls that take memory are served before those end whose deadline is reached, which
     /// doesn't matter to them.
     #[inline(always)]
-    fn carry_out(
+    pub(super) fn carry_out(
         &mut self,
         client: u32,
         place: u64,
@@ -209,8 +216,9 @@ impl Namespace {
         ensures ended { OnOk result (ended.new.items ≡ (expire self.old).ended ++ (moved_by (expire self.old).state client call.now).ended) }
         ensures few { IfOk result (λ own. IfSome own (λ _. vec_len ended.new + length self.new.parked ≡ length self.old.parked)) }
         ensures less { OnOk result (vec_len ended.new ≤ length self.old.parked) }
-        ensures space { OnOk result (vec_capacity ended.old ≤ vec_capacity ended.new) }
+        ensures space { vec_capacity ended.old ≤ vec_capacity ended.new }
         ensures err { OnErr result (self.new ≡ self.old) }
+        ensures memory { OnErr result (may_want_memory self.old call.now ≡ true) }
         ensures none { OnErr result (ended.new.items ≡ []) }
     {
         if self.is_over(client, call) {
@@ -250,6 +258,7 @@ impl Namespace {
         ensures own { IfOk result (λ own. own ≡ outcome_of (decide_made self.old client call.now)) }
         ensures state { OnOk result (self.new ≡ left_made self.old client call.now) }
         ensures err { OnErr result (self.new ≡ self.old) }
+        ensures memory { OnErr result (may_want_memory self.old call.now ≡ true) }
     {
         match self.grant_or_refuse(client, call)? {
             Some(outcome) => Ok(Some(outcome)),
@@ -338,6 +347,7 @@ impl Namespace {
         ensures own { IfOk result (λ own. own ≡ outcome_of (decision_alive self.old client call.now)) }
         ensures state { OnOk result (self.new ≡ left_by self.old (decision_alive self.old client call.now)) }
         ensures err { OnErr result (self.new ≡ self.old) }
+        ensures memory { OnErr result (may_want_memory self.old call.now ≡ true) }
     {
         match call {
             Call::MsgSnd {
@@ -377,6 +387,7 @@ impl Namespace {
         ensures own { IfOk result (λ own. own ≡ outcome_of (decision_alive self.old client call.now)) }
         ensures state { OnOk result (self.new ≡ left_by self.old (decision_alive self.old client call.now)) }
         ensures err { OnErr result (self.new ≡ self.old) }
+        ensures memory { OnErr result (may_want_memory self.old call.now ≡ true) }
     {
         let outcome = match call {
             Call::MsgGet { key, flags } => {
@@ -400,12 +411,12 @@ impl Namespace {
             Call::IpcStat { kind, id } => self.stat(client, *kind, *id),
             Call::Listing { kind } => self.list(client, *kind),
             Call::SetCreds { euid, egid, groups } => {
-                self.set_creds(client, *euid, *egid, groups)
+                Ok(self.set_creds(client, *euid, *egid, groups))
             }
-            Call::Assume { creds } => self.assume(client, creds.get()),
+            Call::Assume { creds } => Ok(self.assume(client, creds.get())),
             Call::Begin { pid, creds } => self.begin(client, *pid, creds.get()),
             Call::Fork { child, pid } => self.fork(client, *child, *pid),
-            Call::Clone { child } => self.clone(client, *child),
+            Call::Clone { child } => Ok(self.clone(client, *child)),
             Call::Name { pid } => Ok(self.name(client, *pid)),
             Call::Exit => Ok(self.exit(client)),
             _ => unreachable!(),
@@ -485,6 +496,7 @@ impl Namespace {
         ensures state { self.new ≡ (settled self.old).state }
         ensures ended { ended.new.items ≡ ended.old.items ++ (settled self.old).ended }
         ensures few { vec_len ended.new ≤ vec_len ended.old + length self.old.parked }
+        ensures space { vec_capacity ended.old ≤ vec_capacity ended.new }
     {
         if self.parked.may_be_touched(touched) {
             self.settle_touched(touched, ended);
@@ -499,6 +511,7 @@ impl Namespace {
         ensures state { self.new ≡ (settled self.old).state }
         ensures ended { ended.new.items ≡ ended.old.items ++ (settled self.old).ended }
         ensures few { vec_len ended.new ≤ vec_len ended.old + length self.old.parked }
+        ensures space { vec_capacity ended.old ≤ vec_capacity ended.new }
     {
         while let Some(completion) = self.complete_first(touched) {
             ended.push(completion).unwrap();
@@ -524,7 +537,7 @@ impl Namespace {
     /// Tries the client's waiting call. Where it no longer waits it leaves the list, refused or carried out. It takes no
     /// memory: what it needs was made when it began to wait.
     #[tactic(auto, unfolding(ipc_model::specs::Decide::part_plan))]
-    fn try_waiting(&mut self, client: u32) -> Option<Completion>
+    pub(super) fn try_waiting(&mut self, client: u32) -> Option<Completion>
         requires { waits self.old client ≡ true }
         ensures ready { IfSome (waiting_of self.old client) (λ w. is_some result ≡ is_ready self.old w) }
         ensures ended { IfSome (waiting_of self.old client) (λ w. IfSome result (λ ended. end_waiting self.old w ≡ record { state = self.new; ended = ended ∷ [] })) }
@@ -664,7 +677,7 @@ fn deadline_after(now: u64, call: &Call) -> Option<u64>
 }
 
 /// Whether a call ended so that it was granted.
-fn is_granted(own: &Option<Outcome>) -> bool
+pub(super) fn is_granted(own: &Option<Outcome>) -> bool
     ensures { result ≡ is_grant own.now }
 {
     matches!(own, Some(Ok(_)))

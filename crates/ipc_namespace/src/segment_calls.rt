@@ -4,6 +4,7 @@ ghost use Rattle.std.specs.Prelude.{◌≡◌, ◌<◌, true, length, IfOk, OnOk
 ghost use Rattle.ipc_model.specs.Decision.{left_by, outcome_of};
 ghost use Rattle.ipc_model.specs.Decide.{decide_alive as decision_on};
 ghost use Rattle.ipc_namespace.specs.Namespace.{is_on_segments};
+ghost use Rattle.ipc_namespace.specs.Wanting.{takes_memory};
 
 use crate::callers::caller_of;
 use crate::namespace::Namespace;
@@ -20,6 +21,7 @@ impl Namespace {
         ensures state { OnOk result (self.new ≡ left_by self.old (decision_on self.old client call.now)) }
         ensures parked { self.new.parked ≡ self.old.parked }
         ensures err { OnErr result (self.new ≡ self.old) }
+        ensures memory { OnErr result (takes_memory call.now ≡ true) }
     {
         let who = caller_of(&self.clients, self.processes.threads(), client, self.clock);
         match call {

@@ -7,6 +7,7 @@ ghost use Rattle.ipc_model.specs.Plan.{decision};
 ghost use Rattle.ipc_model.specs.Decision.{left_by, outcome_of};
 ghost use Rattle.ipc_model.specs.Decide.{decide_alive as decision_on, get_waiting, waits_for};
 ghost use Rattle.ipc_namespace.specs.Namespace.{is_awaited, is_on_sets};
+ghost use Rattle.ipc_namespace.specs.Wanting.{takes_memory};
 
 use crate::callers::{caller_of, process_in};
 use crate::namespace::Namespace;
@@ -111,6 +112,7 @@ impl Namespace {
         ensures state { OnOk result (self.new ≡ left_by self.old (decision_on self.old client call.now)) }
         ensures parked { self.new.parked ≡ self.old.parked }
         ensures err { OnErr result (self.new ≡ self.old) }
+        ensures memory { OnErr result (takes_memory call.now ≡ true) }
     {
         let who = caller_of(&self.clients, self.processes.threads(), client, self.clock);
         match call {

@@ -14,17 +14,13 @@ use Rattle.ipc_model.specs.Step.{is_ready}
 use Rattle.ipc_model.specs.Touched.{touches_place}
 use Rattle.ipc_model.proofs.Turning.{msgget-touches, semget-touches}
 use Rattle.ipc_parked.specs.declared.parked.Arrival.{Arrival}
-use Rattle.ipc_parked.specs.declared.touched.Touched.TheVariants.{Anything, Nothing, Object}
+use Rattle.ipc_parked.specs.declared.touched.Touched.TheVariants.{Nothing, Object}
 use Rattle.ipc_parked.specs.Parked.{clients_on, entry_of, on_object, waiting}
 use Rattle.ipc_parked.specs.Touched.{is_touched}
 
 pub filter-none : (ws : List Waiting) → filter (λ w. false) ws ≡ []
 filter-none [] = refl
 filter-none (w ∷ ws) = filter-none ws
-
-pub filter-all : (ws : List Waiting) → filter (λ w. true) ws ≡ ws
-filter-all [] = refl
-filter-all (w ∷ ws) = ap (λ (vs : List Waiting). w ∷ vs) (filter-all ws)
 
 pub waiting-on : (kind : Kind) (id : ℕ) (es : List (ℕ × Arrival)) → waiting (on_object kind id es) ≡ filter (λ w. waits_on kind id w.call) (waiting es)
 waiting-on kind id [] = refl
@@ -40,9 +36,6 @@ client_at touched ws i = option_map (λ w. w.client) (slice_get (filter touched 
 
 pub client-none : (ws : List Waiting) (i : ℕ) → client_at (is_touched Nothing) ws i ≡ None
 client-none ws i = ap (λ (vs : List Waiting). option_map (λ w. w.client) (slice_get vs i)) (filter-none ws)
-
-pub client-all : (ws : List Waiting) (i : ℕ) → client_at (is_touched Anything) ws i ≡ option_map (λ w. w.client) (slice_get ws i)
-client-all ws i = ap (λ (vs : List Waiting). option_map (λ w. w.client) (slice_get vs i)) (filter-all ws)
 
 clients-at : (es : List (ℕ × Arrival)) (i : ℕ) → slice_get (map (λ e. e.0) es) i ≡ option_map (λ w. w.client) (slice_get (waiting es) i)
 clients-at [] i = refl

@@ -9,5 +9,5 @@ mod parked;
 mod touched;
 mod waits;
 
-pub use parked::{Arrival, Parked, waits_at, waits_on};
+pub use parked::{Arrival, Parked, waits_on};
 pub use touched::Touched;

@@ -124,14 +124,6 @@ impl Parked {
         Some(&stay.arrival)
     }
 
-    /// The place of the event that brought the client's call, which waits. Takes no memory.
-    pub fn place_of(&self, client: u32) -> u64
-        requires { is_there client self.now ≡ true }
-        ensures { option_map (λ a. a.place) (arrival_of client self.now) ≡ Some result }
-    {
-        self.arrivals.get(client).unwrap().arrival.place
-    }
-
     /// The client's call, which waits. Takes no memory.
     pub fn call_of(&self, client: u32) -> &Call
         requires { is_there client self.now ≡ true }
@@ -150,7 +142,7 @@ impl Parked {
 
     /// The call at an index, from 0, in order of arrival among those that wait on the object of this kind and
     /// identifier, with its client. Those that wait elsewhere cost nothing. Takes no memory.
-    pub fn nth_on(&self, kind: Kind, id: u32, index: usize) -> Option<(u32, &Arrival)>
+    fn nth_on(&self, kind: Kind, id: u32, index: usize) -> Option<(u32, &Arrival)>
         ensures { option_map {U = WaitingCall} (λ found. entry_of (found.0, found.1.now)) result ≡ slice_get (waiting (those_on_object kind id self.now)) index }
     {
         let client = self.client_on(kind, id, index)?;
@@ -216,21 +208,6 @@ impl Parked {
     {
         let row = self.deadlines.first_reached(clock)?;
         Some(row.client)
-    }
-
-    /// The client of the earliest waiting call that passes the test, which is asked of those that wait and no
-    /// other. Takes no memory but what the test takes.
-    pub fn earliest<F: Fn(u32, &Call) -> bool>(&self, test: F) -> Option<u32>
-        requires { MayAsk (F.pre test) self.now }
-        ensures { Picks (Answers (F.post test)) self.now result }
-    {
-        for index in 0..self.len() {
-            let (client, arrival) = self.nth(index)?;
-            if test(client, &arrival.call) {
-                return Some(client);
-            }
-        }
-        None
     }
 
     /// The client of the earliest call that waits on the object of this kind and identifier and passes the
@@ -335,7 +312,7 @@ fn remove_deadline(deadlines: &mut Deadlines, deadline: Option<u64>, number: u64
 
 /// The kind and identifier of the object at which the call may wait: msgsnd and msgrcv at their queue (msgop(2)), semop
 /// and semtimedop at their set (semop(2)).
-pub fn waits_at(call: &Call) -> Option<(Kind, u32)>
+fn waits_at(call: &Call) -> Option<(Kind, u32)>
     ensures { result ≡ call_waits_at call.now }
 {
     match call {

@@ -1,9 +1,9 @@
 // The waiting calls that the grant of a call touches: no other can have become ready by it.
 
-ghost use Rattle.std.specs.Prelude.{◌≡◌, [], false, filter, slice_get};
+ghost use Rattle.std.specs.Prelude.{◌≡◌, [], true, false, filter, slice_get, IfNone, IfSome};
 ghost use Rattle.std.specs.Option.{option_map};
 ghost use Rattle.ipc_parked.specs.Parked.{waiting};
-ghost use Rattle.ipc_parked.specs.Touched.{Covers, both, is_touched};
+ghost use Rattle.ipc_parked.specs.Touched.{Covers, is_touched, may_end};
 
 use crate::parked::Parked;
 use ipc_call::{Call, Kind};
@@ -15,44 +15,33 @@ pub enum Touched {
     Nothing,
     /// On this object.
     Object { kind: Kind, id: u32 },
-    /// On any object.
-    Anything,
 }
 
 impl Touched {
-    /// What the grant of the call touches, whatever the state. Of exit and kill, which may undo something on many sets, it
-    /// isn't found out on which.
-    pub fn by(call: &Call) -> Touched
-        ensures { Covers call.now result }
+    /// What the grant of the call touches, whatever the state. None for exit and kill, which may undo something on several
+    /// sets.
+    pub fn by(call: &Call) -> Option<Touched>
+        ensures covers { IfSome result (λ touched. Covers call.now touched) }
+        ensures none { IfNone result (may_end call.now ≡ true) }
     {
         match call {
-            Call::MsgSnd { id, .. } | Call::MsgRcv { id, .. } => Touched::Object {
+            Call::MsgSnd { id, .. } | Call::MsgRcv { id, .. } => Some(Touched::Object {
                 kind: Kind::Queue,
                 id: *id,
-            },
+            }),
             Call::SemOp { id, .. }
             | Call::SemTimedOp { id, .. }
             | Call::SetVal { id, .. }
-            | Call::SetAll { id, .. } => Touched::Object {
+            | Call::SetAll { id, .. } => Some(Touched::Object {
                 kind: Kind::Sems,
                 id: *id,
-            },
-            Call::IpcSet { kind, id, .. } | Call::IpcRmid { kind, id } => Touched::Object {
+            }),
+            Call::IpcSet { kind, id, .. } | Call::IpcRmid { kind, id } => Some(Touched::Object {
                 kind: *kind,
                 id: *id,
-            },
-            Call::Exit | Call::Kill { .. } => Touched::Anything,
-            _ => Touched::Nothing,
-        }
-    }
-
-    /// What both touch, or more.
-    pub fn and(self, other: Touched) -> Touched
-        ensures { result ≡ both self other }
-    {
-        match self {
-            Touched::Nothing => other,
-            _ => Touched::Anything,
+            }),
+            Call::Exit | Call::Kill { .. } => None,
+            _ => Some(Touched::Nothing),
         }
     }
 }
@@ -68,7 +57,6 @@ impl Parked {
         match touched {
             Touched::Nothing => false,
             Touched::Object { kind, id } => self.may_wait_on(kind, id),
-            Touched::Anything => true,
         }
     }
 
@@ -80,10 +68,6 @@ impl Parked {
         match touched {
             Touched::Nothing => None,
             Touched::Object { kind, id } => self.client_on(kind, id, index),
-            Touched::Anything => {
-                let (client, _) = self.nth(index)?;
-                Some(client)
-            }
         }
     }
 }

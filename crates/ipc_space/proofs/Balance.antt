@@ -271,7 +271,7 @@ caller-apart h e place legal =
     in-told e.client told ∙ ap (map reply_of) (none_of (filter (λ (t : ReplyTo). t.client == e.client) told) few)
 
 -- and none but clients of the namespace
-abbrev NoneWait : ℕ → State → Type 0
+abbrev pub NoneWait : ℕ → State → Type 0
 NoneWait n s = (r : ℕ) → n ≤ r → waits_of r s.parked ≡ 0
 
 none-step : (n : ℕ) (s : State) (e : Event) → e.client < n → IsLegalAt s e → AreApart s.parked → NoneWait n s → (r : ℕ) → n ≤ r → waits_of r (step s e).state.parked + (own_told r e.client (step s e).own + ends_of r (step s e).ended) ≡ 0
@@ -280,7 +280,7 @@ none-step n s e known legal apart none r above =
     let other = ap {B = ℕ} (λ b. cond b 1 0) (ne_eqb e.client r (λ same. absurd (omega (arith, same, known, above)))) in
     let was = none r above in omega (arith, even, other, was)
 
-none-run : (s : State) (es : List Event) → AreLegalFrom s es → AreApart s.parked → NoneWait (length s.clients) s → NoneWait (length s.clients) (run_from s es)
+pub none-run : (s : State) (es : List Event) → AreLegalFrom s es → AreApart s.parked → NoneWait (length s.clients) s → NoneWait (length s.clients) (run_from s es)
 none-run s [] legal apart none = none
 none-run s (e ∷ es) legal apart none =
     let same = (Follows-step s e).clients in

@@ -2,12 +2,16 @@ pub mod Alone
 pub mod Answering
 pub mod Balance
 pub mod Copies
+pub mod Entering
 pub mod Exits
+pub mod Few
 pub mod Fronts
 pub mod Histories
 pub mod Longest
+pub mod Numbers
 pub mod Once
 pub mod Parting
 pub mod Permitted
 pub mod Quiet
+pub mod Served
 pub mod Waited

@@ -47,7 +47,8 @@ own_reply place own = option_map (λ outcome. Entered place 0 outcome) own
 abbrev pub other_replies : ℕ → List Completion → List (ℕ × Reply)
 other_replies place ended = map (λ reply. (reply.client, reply_of reply)) (replies_to_ended place 1 ended)
 
--- a history, and how many rows of its journal, the oldest, were handed out
+-- a history; how many rows of its journal, the oldest, were handed out; and for how many more there is room
 pub record Parts : Type 0 where
   pub history : History
   pub given : ℕ
+  pub room : ℕ

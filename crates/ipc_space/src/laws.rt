@@ -20,8 +20,8 @@ ghost use Rattle.ipc_model.specs.Segments.{AreAttached};
 ghost use Rattle.ipc_history.specs.Waits.{AreNotReady, ArePermitted, WaitOnce};
 
 pub use ipc_laws::{
-    new_processes_are_fresh, processes_are_tidy, settling_reads_deadlines, two_worlds,
-    waiting_calls_are_in_time, waiting_calls_are_of_threads,
+    new_processes_are_fresh, processes_are_tidy, segments_end_by_few_calls,
+    settling_reads_deadlines, two_worlds, waiting_calls_are_in_time, waiting_calls_are_of_threads,
 };
 
 /// No identifier is given to two objects of one kind: of the objects of a kind that the events of a history
@@ -88,4 +88,15 @@ pub fn an_event_tells_each_client_once()
 /// An event whose own call waits ends no call but those whose deadline it reaches.
 pub fn a_call_that_waits_ends_no_other()
     ensures { (h : History) (e : Event) → (next_step h e).own ≡ None → (next_step h e).ended ≡ (expire (at_time (run h) e.now)).ended }
+{}
+
+/// No more calls wait than there are clients, after every legal history: so an event's rows are at most two more than the clients.
+pub fn no_more_calls_wait_than_clients()
+    ensures { (h : History) → IsLegal h → length (run h).parked ≤ length h.clients }
+{}
+
+/// After every history the serial number of the process that comes next is at most the number of the clients and of the events:
+/// each client has one at the start, and an event makes one process at most.
+pub fn processes_are_few()
+    ensures { (h : History) → (run h).next ≤ length h.clients + length h.events }
 {}

@@ -16,7 +16,8 @@ impl Ledger {
         requires limits { IsTrue (are_in_range limits) }
         requires some { 1 ≤ vec_len clients }
         requires few { vec_len clients ≤ 4096 }
-        ensures { IfOk result (λ ledger. ledger ≡ record { history = record { limits = limits; clients = clients.items; events = exits live (vec_len clients - live) }; given = 0 }) }
+        ensures history { IfOk result (λ ledger. ledger.history ≡ record { limits = limits; clients = clients.items; events = exits live (vec_len clients - live) }) }
+        ensures given { IfOk result (λ ledger. ledger.given ≡ 0) }
     {
         let count = clients.len() as u32;
         let mut ledger = Ledger::start(limits, clients)?;

@@ -131,7 +131,8 @@ impl Space {
 
     /// The same namespace, of whose journal nothing was handed out yet, and can be from now on.
     pub fn into_ledger(self) -> Ledger
-        ensures { result ≡ record { history = self; given = 0 } }
+        ensures history { result.history ≡ self }
+        ensures given { result.given ≡ 0 }
     {
         let Space { ledger } = self;
         ledger

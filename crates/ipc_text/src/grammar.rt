@@ -67,7 +67,7 @@ pub(crate) fn options_of(
     let Some(((suid, sgid), words)) = saved_of((uid, gid), words) else {
         return Ok(None);
     };
-    let creds = Creds::new(uid, gid, groups, caps).with_saved(suid, sgid);
+    let creds = Creds::new(uid, gid, groups.as_slice(), caps).with_saved(suid, sgid);
     match split_word(words) {
         None => Ok(Some(creds)),
         Some(_) => Ok(None),

@@ -11,7 +11,7 @@ use Rattle.ipc_call.specs.declared.replies.Status.{Status}
 use Rattle.ipc_call.specs.declared.replies.Status.TheVariants as statuses
 use Rattle.ipc_wire.specs.declared.told.Head.{Head}
 use Rattle.ipc_wire.specs.declared.told.Hindrance.{Hindrance}
-use Rattle.ipc_wire.specs.declared.told.Hindrance.TheVariants.{NoClientLeft, Memory}
+use Rattle.ipc_wire.specs.declared.told.Hindrance.TheVariants.{NoClientLeft, Memory, TooManyOfUser, TooManyForks}
 use Rattle.ipc_wire.specs.declared.told.Told.{Told}
 use Rattle.ipc_wire.specs.declared.told.Told.TheVariants.{Client, Token, Granted, Refused, Hindered, Nsems, At, Totals}
 
@@ -38,6 +38,8 @@ answer_head seq size (answers.Rows rows) = granted seq 9 0 0 0
 abbrev pub hindrance_head : ℕ → Hindrance → Head
 hindrance_head seq NoClientLeft = refused seq 11 42
 hindrance_head seq Memory = refused seq 12 43
+hindrance_head seq TooManyOfUser = refused seq 11 44
+hindrance_head seq TooManyForks = refused seq 11 45
 
 abbrev pub head_of : ℕ → Told → Head
 head_of seq (Client client) = granted seq 10 client 0 0

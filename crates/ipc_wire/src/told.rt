@@ -45,6 +45,10 @@ pub enum Hindrance {
     NoClientLeft,
     /// An allocation failed (ENOMEM).
     Memory,
+    /// The user has as many clients as one may have (EAGAIN).
+    TooManyOfUser,
+    /// As many forks are announced as may be, in all or by the user (EAGAIN).
+    TooManyForks,
 }
 
 /// The words of a reply: the number of its request, the number of the error (errno(3)) and the code of the rule where it
@@ -106,6 +110,8 @@ fn hindered(seq: u32, hindrance: Hindrance) -> Head
     match hindrance {
         Hindrance::NoClientLeft => refused(seq, 11, 42),
         Hindrance::Memory => refused(seq, 12, 43),
+        Hindrance::TooManyOfUser => refused(seq, 11, 44),
+        Hindrance::TooManyForks => refused(seq, 11, 45),
     }
 }
 

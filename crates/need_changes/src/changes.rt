@@ -84,7 +84,7 @@ fn granting(
     let mut changes = Vec::new(alloc);
     let mut rest = tried;
     while let Some((change, others)) = rest.split_first() {
-        if grants(alloc, creds, perm, want, change)? {
+        if grants(creds, perm, want, change) {
             changes.push(*change)?;
         }
         rest = others;
@@ -104,7 +104,7 @@ fn granting_control(
     let mut changes = Vec::new(alloc);
     let mut rest = tried;
     while let Some((change, others)) = rest.split_first() {
-        if grants_control(alloc, creds, perm, change)? {
+        if grants_control(creds, perm, change) {
             changes.push(*change)?;
         }
         rest = others;

@@ -1,6 +1,6 @@
 //! A change that is made, and decided.
 
-ghost use Rattle.std.specs.Prelude.{◌≡◌, ◌<◌, IfOk};
+ghost use Rattle.std.specs.Prelude.{◌≡◌, ◌<◌};
 ghost use Rattle.ipc_creds.specs.Credentials.{acting_as as acting_as_in};
 ghost use Rattle.ipc_perm.specs.Access.{class_of, is_allowed as is_allowed_in};
 ghost use Rattle.need_changes.specs.Changes.{creds_with, grants as grants_in, grants_control as grants_control_in, perm_with, placed, want_with, wanted_bits, widened as widened_in, with_capability};
@@ -11,35 +11,23 @@ use bitflags::Flags;
 use ipc_creds::{Caps, Creds};
 use ipc_perm::{Mode, Perm, Verdict, Want, decide, may_control};
 use perm_words::{Standing, stands};
-use std::alloc::{AllocError, Global};
 
 /// Whether the change allows the permissions.
-pub(crate) fn grants(
-    alloc: Global,
-    creds: &Creds,
-    perm: &Perm,
-    want: Want,
-    change: &Change,
-) -> Result<bool, AllocError>
-    ensures { IfOk result (λ granted. granted ≡ grants_in creds.now perm.now want change.now) }
+pub(crate) fn grants(creds: &Creds, perm: &Perm, want: Want, change: &Change) -> bool
+    ensures { result ≡ grants_in creds.now perm.now want change.now }
 {
-    let caller = caller_with(alloc, creds, change)?;
+    let caller = caller_with(creds, change);
     let object = object_with(perm, change);
-    Ok(is_allowed(decide(&caller, &object, call_with(want, change))))
+    is_allowed(decide(&caller, &object, call_with(want, change)))
 }
 
 /// Whether the change allows control.
-pub(crate) fn grants_control(
-    alloc: Global,
-    creds: &Creds,
-    perm: &Perm,
-    change: &Change,
-) -> Result<bool, AllocError>
-    ensures { IfOk result (λ granted. granted ≡ grants_control_in creds.now perm.now change.now) }
+pub(crate) fn grants_control(creds: &Creds, perm: &Perm, change: &Change) -> bool
+    ensures { result ≡ grants_control_in creds.now perm.now change.now }
 {
-    let caller = caller_with(alloc, creds, change)?;
+    let caller = caller_with(creds, change);
     let object = object_with(perm, change);
-    Ok(is_allowed(may_control(&caller, &object)))
+    is_allowed(may_control(&caller, &object))
 }
 
 fn is_allowed(verdict: Verdict) -> bool
@@ -49,31 +37,35 @@ fn is_allowed(verdict: Verdict) -> bool
 }
 
 /// The caller with the change.
-fn caller_with(alloc: Global, creds: &Creds, change: &Change) -> Result<Creds, AllocError>
-    ensures { IfOk result (λ caller. caller ≡ creds_with change.now creds.now) }
+fn caller_with(creds: &Creds, change: &Change) -> Creds
+    ensures { result ≡ creds_with change.now creds.now }
 {
     match change {
         Change::User(uid) => acting_as(creds, *uid, creds.egid()),
         Change::Group(gid) => acting_as(creds, creds.euid(), *gid),
-        Change::IpcOwner => capable(alloc, creds, Caps::IPC_OWNER),
-        Change::SysAdmin => capable(alloc, creds, Caps::SYS_ADMIN),
+        Change::IpcOwner => capable(creds, Caps::IPC_OWNER),
+        Change::SysAdmin => capable(creds, Caps::SYS_ADMIN),
         Change::Asking(_) | Change::Mode(_) => creds.copy(),
     }
 }
 
-fn acting_as(creds: &Creds, uid: u32, gid: u32) -> Result<Creds, AllocError>
-    ensures { IfOk result (λ caller. caller ≡ acting_as_in creds.now uid gid) }
+fn acting_as(creds: &Creds, uid: u32, gid: u32) -> Creds
+    ensures { result ≡ acting_as_in creds.now uid gid }
 {
-    let mut caller = creds.copy()?;
+    let mut caller = creds.copy();
     caller.take_on(uid, gid, None);
-    Ok(caller)
+    caller
 }
 
-fn capable(alloc: Global, creds: &Creds, cap: Caps) -> Result<Creds, AllocError>
-    ensures { IfOk result (λ caller. caller ≡ with_capability cap.0 creds.now) }
+fn capable(creds: &Creds, cap: Caps) -> Creds
+    ensures { result ≡ with_capability cap.0 creds.now }
 {
-    let groups = Vec::from_slice(alloc, creds.groups())?;
-    Ok(Creds::new(creds.euid(), creds.egid(), groups, creds.caps().union(cap)))
+    Creds::new(
+        creds.euid(),
+        creds.egid(),
+        creds.groups(),
+        creds.caps().union(cap),
+    )
 }
 
 /// The object with the change.

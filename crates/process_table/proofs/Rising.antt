@@ -1,12 +1,12 @@
 -- The rows of an index: the place of one, and what a row more or less changes.
-use Rattle.std.proofs.Common.{◌≡◌, ℕ, zero, suc, ◌<◌, ◌≤◌, Bool, true, false, ◌&&◌, eqb, get_or, List, [], ◌∷◌, length, take, drop, remove, slice_get, refl, sym, ap, ◌∙◌, ⊎_elim, Option, Some, None, arith}
+use Rattle.std.proofs.Common.{◌≡◌, ℕ, zero, suc, ◌-◌, ◌<◌, ◌≤◌, Bool, true, false, ◌&&◌, eqb, get_or, List, [], ◌∷◌, length, take, drop, remove, slice_get, refl, sym, ap, ◌∙◌, ⊎_elim, Option, Some, None, arith}
 use Rattle.std.specs.Prelude.{◌||◌, nat_lt, not, IfNone, IfSome}
 use Rattle.std.specs.List.Sorted.{IsPartitionPoint, IsPartitionedBy}
 use Rattle.std.proofs.lemmas.Bool.Decides.{nat_tests}
 use Rattle.std.specs.List.{AllByRecursion, insert}
 use Rattle.std.proofs.lemmas.Bool.{cases_eq, true≢false, eqb-false, eq-eqb, ne_eqb, ltb-true, ltb-false, or_parts}
 use Rattle.std.proofs.lemmas.Option.{none-some, same_Some}
-use Rattle.process_table.specs.Rows.{AreRising, IsPlace, holds}
+use Rattle.process_table.specs.Rows.{AreRising, IsPlace, holds, is_below}
 
 pub all_map : (P Q : ℕ → Type 0) (rows : List ℕ) → ((row : ℕ) → P row → Q row) → AllByRecursion P rows → AllByRecursion Q rows
 all_map P Q [] f all = tt
@@ -218,3 +218,26 @@ module _ (rows : List ℕ) (bound at : ℕ) (rising : AreRising rows) (place : I
   pub found-least : (o : Option ℕ) → o ≡ slice_get rows at → IfSome o (λ next. (row : ℕ) → bound ≤ row → row < next → holds row rows ≡ false)
   found-least None is = tt
   found-least (Some next) is = next-least rows bound at next rising place (sym is)
+
+got : (rows : List ℕ) (at row d : ℕ) → slice_get rows at ≡ Some row → get_or rows at d ≡ row
+got [] at row d here = absurd (none-some row here)
+got (r ∷ rows) zero row d here = same_Some r row here
+got (r ∷ rows) (suc at) row d here = got rows at row d here
+
+-- where the last row is below a bound, all are
+ended : (rows : List ℕ) (bound last : ℕ) → AreRising rows → slice_get rows (length rows - 1) ≡ Some last → last < bound → IsPlace rows bound (length rows)
+ended rows bound last rising there low = record {
+  within = omega arith;
+  below = taken (λ row. row < bound) rows (length rows) (omega arith) (λ k d lt.
+      let order = rising-at rows k (length rows - 1) d rising (omega (arith, lt)) (omega (arith, lt)) in
+      let same = got rows (length rows - 1) last d there in
+      omega (arith, order, same, low));
+  above = dropped (λ row. bound ≤ row) rows (length rows) (λ k d le lt. absurd (omega (arith, le, lt)));
+}
+
+ended-by : (rows : List ℕ) (bound : ℕ) (last : Option ℕ) → AreRising rows → slice_get rows (length rows - 1) ≡ last → is_below bound last ≡ true → IsPlace rows bound (length rows)
+ended-by rows bound None rising there low = absurd (true≢false (sym low))
+ended-by rows bound (Some last) rising there low = ended rows bound last rising there (ltb-true last bound low)
+
+pub place-ended : (rows : List ℕ) (bound : ℕ) → AreRising rows → is_below bound (slice_get rows (length rows - 1)) ≡ true → IsPlace rows bound (length rows)
+place-ended rows bound rising low = ended-by rows bound (slice_get rows (length rows - 1)) rising refl low

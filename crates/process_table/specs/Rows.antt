@@ -1,5 +1,5 @@
 -- The index of the threads that haven't ended: rows that rise, each a pid with a client.
-use Rattle.std.specs.Prelude.{ℕ, ◌+◌, ◌*◌, ◌<◌, ◌≤◌, ◌==◌, Bool, List, [], ◌∷◌, length, take, drop}
+use Rattle.std.specs.Prelude.{ℕ, ◌+◌, ◌*◌, ◌<◌, ◌≤◌, ◌==◌, Bool, false, nat_lt, List, [], ◌∷◌, length, take, drop, Option, Some, None}
 use Rattle.std.specs.List.{AllByRecursion, list_any}
 
 -- the rows, and how many there is room for
@@ -25,3 +25,8 @@ pub record IsPlace (rows : List ℕ) (bound : ℕ) (at : ℕ) : Type 0 where
   pub within : at ≤ length rows
   pub below : AllByRecursion (λ row. row < bound) (take at rows)
   pub above : AllByRecursion (λ row. bound ≤ row) (drop at rows)
+
+-- there is a row, and it is below a bound
+abbrev pub is_below : ℕ → Option ℕ → Bool
+is_below bound None = false
+is_below bound (Some row) = nat_lt row bound

@@ -1,7 +1,7 @@
 // The rows of an index.
 
-ghost use Rattle.std.specs.Prelude.{◌≡◌, ℕ, ◌+◌, ◌<◌, ◌≤◌, [], ◌||◌, ◌&&◌, not, true, false, length, slice_get, IfNone, IfOk, IfSome, ◌==◌};
-ghost use Rattle.process_table.specs.Rows.{AreRising, IsPlace, holds};
+ghost use Rattle.std.specs.Prelude.{◌≡◌, ℕ, ◌+◌, ◌-◌, ◌<◌, ◌≤◌, [], ◌||◌, ◌&&◌, not, true, false, length, slice_get, IfNone, IfOk, IfSome, ◌==◌};
+ghost use Rattle.process_table.specs.Rows.{AreRising, IsPlace, holds, is_below};
 
 use ipc_call::Memory;
 use std::alloc::Global;
@@ -70,8 +70,29 @@ impl Rows {
     }
 }
 
-/// The number of rows below a bound.
+/// The number of rows below a bound. Where that is all of them, no search is made.
 fn place_of(rows: &[u64], bound: u64) -> usize
+    requires { AreRising rows.now }
+    ensures { IsPlace rows.now bound result }
+{
+    if ends_below(rows, bound) {
+        return rows.len();
+    }
+    search(rows, bound)
+}
+
+/// Whether the last row is below a bound.
+fn ends_below(rows: &[u64], bound: u64) -> bool
+    ensures { result ≡ is_below bound (slice_get rows.now (length rows.now - 1)) }
+{
+    match rows.last() {
+        None => false,
+        Some(row) => *row < bound,
+    }
+}
+
+/// The number of rows below a bound, by a search.
+fn search(rows: &[u64], bound: u64) -> usize
     requires { AreRising rows.now }
     ensures { IsPlace rows.now bound result }
 {

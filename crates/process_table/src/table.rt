@@ -1,6 +1,6 @@
 //! The clients' threads, and how processes begin and end.
 
-ghost use Rattle.std.specs.Prelude.{◌≡◌, ℕ, ◌+◌, ◌<◌, ◌≤◌, ◌^◌, true, false, length, map, slice_set, IfNone, IfOk, IfSome};
+ghost use Rattle.std.specs.Prelude.{◌≡◌, ℕ, ◌+◌, ◌<◌, ◌≤◌, ◌^◌, true, false, length, map, slice_set, IfNone, IfOk, IfSome, OnErr};
 ghost use Rattle.std.specs.List.{find, list_any};
 ghost use Rattle.std.specs.Option.{option_map};
 ghost use Rattle.ipc_model.specs.Processes.{ends, is_other, renamed};
@@ -58,6 +58,7 @@ impl ProcessTable {
     pub fn next(&self) -> Result<u64, Memory>
         ensures next { IfOk result (λ next. next ≡ self.now.next) }
         ensures more { IfOk result (λ next. next + 1 < 2 ^ 64) }
+        ensures last { OnErr result (2 ^ 64 ≤ self.now.next + 1) }
     {
         if self.next < u64::MAX {
             Ok(self.next)

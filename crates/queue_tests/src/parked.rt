@@ -1,7 +1,7 @@
 // Worked lists of calls that wait.
 
 use ipc_call::{Call, Items, Kind};
-use ipc_parked::{Arrival, Parked, waits_on};
+use ipc_parked::{Arrival, Parked, Touched, waits_on};
 use std::process::Abort;
 use std::test::Fail;
 use test_support::calls::receive;
@@ -17,8 +17,8 @@ enum Step {
     Finish(u32),
     /// The place of the event that brought the client's call.
     PlaceOf(u32),
-    /// The earliest of the clients from one to another.
-    Earliest(u32, u32),
+    /// The client at an index in order of arrival.
+    Nth(usize),
     /// The earliest that waits at a queue, of the clients from one on.
     AtQueue(u32, u32),
     /// The earliest that waits at a semaphore set.
@@ -63,21 +63,28 @@ fn at_object(parked: &Parked, kind: Kind, id: u32, least: u32) -> Option<u32> {
 }
 
 fn nth_at(parked: &Parked, kind: Kind, id: u32, index: usize) -> Option<u32> {
-    let (client, _) = parked.nth_on(kind, id, index)?;
+    parked.nth_touched(Touched::Object { kind, id }, index)
+}
+
+fn nth(parked: &Parked, index: usize) -> Option<u32> {
+    let (client, _) = parked.nth(index)?;
     Some(client)
+}
+
+fn place_of(parked: &Parked, client: u32) -> Option<u64> {
+    let arrival = parked.get(client)?;
+    Some(arrival.place)
 }
 
 /// What a step tells that changes nothing.
 fn seen(parked: &Parked, step: Step) -> Option<u64> {
     let client = match step {
-        Step::Earliest(least, most) => {
-            parked.earliest(|client, _| least <= client && client <= most)
-        }
+        Step::Nth(index) => nth(parked, index),
         Step::AtQueue(id, least) => at_object(parked, Kind::Queue, id, least),
         Step::AtSet(id) => at_object(parked, Kind::Sems, id, 0),
         Step::NthAtQueue(id, index) => nth_at(parked, Kind::Queue, id, index),
         Step::Due(clock) => parked.due(clock),
-        Step::PlaceOf(client) if parked.is_waiting(client) => return Some(parked.place_of(client)),
+        Step::PlaceOf(client) => return place_of(parked, client),
         _ => None,
     };
     client.map(u64::from)
@@ -106,7 +113,7 @@ fn follow(rt: &impl Abort, parked: &mut Parked, steps: &[(Step, Option<u64>)]) -
 fn what_is_left_keeps_its_order(rt: HostRuntime) -> Result<(), Fail> {
     let mut parked = Parked::new(rt.alloc());
     let steps = [
-        (Step::Earliest(0, u32::MAX), None),
+        (Step::Nth(0), None),
         (Step::Park(5, 2, 7), Some(1)),
         (Step::Park(0, 3, 8), Some(2)),
         (Step::Park(9, 6, 7), Some(3)),
@@ -115,10 +122,10 @@ fn what_is_left_keeps_its_order(rt: HostRuntime) -> Result<(), Fail> {
         (Step::PlaceOf(5), Some(2)),
         (Step::Finish(0), Some(2)),
         (Step::PlaceOf(0), None),
-        (Step::Earliest(0, u32::MAX), Some(5)),
+        (Step::Nth(0), Some(5)),
         (Step::Park(0, 7, 7), Some(3)),
         (Step::Finish(5), Some(2)),
-        (Step::Earliest(0, u32::MAX), Some(9)),
+        (Step::Nth(0), Some(9)),
         (Step::PlaceOf(0), Some(7)),
     ];
     follow(&rt, &mut parked, &steps)
@@ -131,8 +138,8 @@ fn the_earliest_that_passes_is_told(rt: HostRuntime) -> Result<(), Fail> {
         (Step::Park(5, 2, 7), Some(1)),
         (Step::Park(0, 3, 8), Some(2)),
         (Step::Park(9, 6, 8), Some(3)),
-        (Step::Earliest(0, 4), Some(0)),
-        (Step::Earliest(10, u32::MAX), None),
+        (Step::Nth(1), Some(0)),
+        (Step::Nth(3), None),
         (Step::AtQueue(8, 0), Some(0)),
         (Step::AtQueue(8, 4), Some(9)),
         (Step::AtQueue(9, 0), None),
@@ -179,7 +186,7 @@ fn calls_are_found_and_leave_without_memory(rt: HostRuntime) -> Result<(), Fail>
     follow(&rt, &mut parked, &steps)?;
     eprintln!(rt; "quiet begins")?;
     let steps = [
-        (Step::Earliest(0, 4), Some(3)),
+        (Step::Nth(1), Some(3)),
         (Step::AtQueue(7, 0), Some(5)),
         (Step::NthAtQueue(7, 1), Some(3)),
         (Step::PlaceOf(9), Some(6)),

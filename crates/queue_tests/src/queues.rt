@@ -94,8 +94,8 @@ fn check_gets(
 #[test]
 fn a_key_has_one_queue(rt: HostRuntime) {
     let alloc = rt.alloc();
-    let alice = user(alloc, 100, 10);
-    let bob = user(alloc, 200, 20);
+    let alice = user(100, 10);
+    let bob = user(200, 20);
     let alice = Caller::new(0, 0, 1, &alice, 5);
     let bob = Caller::new(1, 1, 2, &bob, 6);
     let mut queues = Queues::new(alloc, 2, 0);
@@ -164,7 +164,7 @@ fn check_message(
 #[test]
 fn a_message_goes_through_a_queue(rt: HostRuntime) -> Result<(), Fail> {
     let alloc = rt.alloc();
-    let creds = user(alloc, 100, 10);
+    let creds = user(100, 10);
     let who = Caller::new(4, 4, 5, &creds, 7);
     let mut queues = Queues::new(alloc, 1, 0);
     assert_eq!(rt; get(&mut queues, &who, 9, IPC_CREAT | 0o600), Some(Ok(0)));

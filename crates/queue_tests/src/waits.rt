@@ -3,7 +3,7 @@
 
 use indexmap::IndexMap;
 use ipc_call::{Call, Items, Kind};
-use ipc_parked::{Arrival, Parked, waits_on};
+use ipc_parked::{Arrival, Parked, Touched, waits_on};
 use std::alloc::{AllocError, Global};
 use std::process::Abort;
 use std::test::Fail;
@@ -45,16 +45,6 @@ impl Listed {
     fn on_object(&self, kind: Kind, id: u32, least: u32) -> Option<u32> {
         for (client, arrival) in self.arrivals.iter() {
             if waits_on(kind, id, &arrival.call) && least <= *client {
-                return Some(*client);
-            }
-        }
-        None
-    }
-
-    /// The earliest client from one on.
-    fn earliest(&self, least: u32) -> Option<u32> {
-        for (client, _) in self.arrivals.iter() {
-            if least <= *client {
                 return Some(*client);
             }
         }
@@ -161,7 +151,10 @@ impl Both {
         if !self.parked.is_waiting(client) {
             return false;
         }
-        let place = self.parked.place_of(client);
+        let place = match self.parked.get(client) {
+            None => return false,
+            Some(waiting) => waiting.place,
+        };
         let told = self.parked.call_of(client).copy();
         let call = self.parked.finish(client);
         match self.listed.arrivals.shift_remove(&client) {
@@ -202,11 +195,18 @@ impl Both {
         Ok(true)
     }
 
+    fn nth_on(&self, kind: Kind, id: u32, index: usize) -> Option<(u32, &Arrival)> {
+        let client = self
+            .parked
+            .nth_touched(Touched::Object { kind, id }, index)?;
+        Some((client, self.parked.get(client)?))
+    }
+
     /// What is told of the calls on an object.
     fn agree_on(&self, kind: Kind, id: u32) -> bool {
         for index in 0..9 {
             if !is_same(
-                self.parked.nth_on(kind, id, index),
+                self.nth_on(kind, id, index),
                 self.listed.nth_on(kind, id, index),
             ) {
                 return false;
@@ -225,12 +225,6 @@ impl Both {
     fn agree_on_all(&self) -> bool {
         for index in 0..9 {
             if !is_same(self.parked.nth(index), self.listed.nth(index)) {
-                return false;
-            }
-        }
-        for least in 0..=CLIENTS {
-            let found = self.parked.earliest(|client, _| least <= client);
-            if found != self.listed.earliest(least) {
                 return false;
             }
         }

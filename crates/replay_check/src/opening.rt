@@ -32,13 +32,13 @@ pub fn users(alloc: Global) -> io::Result<Vec<Creds>>
 {
     let mut users = Vec::new(alloc);
     for uid in [0, 100, 200] {
-        users.push(user(alloc, uid, 10))?;
+        users.push(user(uid, 10))?;
     }
     for (uid, caps) in [(0, Caps::SETUID), (100, Caps::SETGID), (200, Caps::empty())] {
-        users.push(Creds::new(uid, 10, Vec::new(alloc), caps).with_saved(300, 30))?;
+        users.push(Creds::new(uid, 10, &[], caps).with_saved(300, 30))?;
     }
     for caps in [Caps::IPC_OWNER, Caps::SYS_ADMIN] {
-        users.push(Creds::new(300, 30, Vec::new(alloc), caps))?;
+        users.push(Creds::new(300, 30, &[], caps))?;
     }
     if users.is_empty() || users.len() > 64 {
         return Err(failed());

@@ -86,7 +86,7 @@ fn clients_of(alloc: Global, space: &Space, names: Vec<String>) -> Result<Vec<Cl
         if let Some(creds) = space.creds_of(client) {
             clients.push(Client {
                 name,
-                creds: creds.copy()?,
+                creds: creds.copy(),
                 has_exited: space.has_exited(client),
             })?;
         }

@@ -123,8 +123,9 @@ impl Sets {
         Ok(())
     }
 
-    /// Whether the operations can be done, or by which rule they are refused (semop(2)). None where the call waits.
-    fn decide_semop(
+    /// Whether the operations can be done, or by which rule they are refused (semop(2)). None where the call waits. It takes
+    /// no memory.
+    pub fn decide_semop(
         &mut self,
         limits: &Limits,
         who: &Caller,

@@ -65,7 +65,7 @@ fn parted(
     let alloc = rt.alloc();
     let mut clients = Vec::new(alloc);
     for uid in [100, 200, 300] {
-        clients.push(user(alloc, uid, 10))?;
+        clients.push(user(uid, 10))?;
     }
     assert_eq!(rt; clients.len(), 3);
     let replayed = replay(limits, clients, rows)?;

@@ -20,10 +20,10 @@ const SUE: u32 = 3;
 /// Alice, eve, whose saved user is alice's, bob, and sue, who may become any user.
 fn users(alloc: Global, eve: u32) -> Result<Vec<Creds>, Fail> {
     let mut users = Vec::new(alloc);
-    users.push(user(alloc, 100, 10))?;
-    users.push(user(alloc, eve, 30).with_saved(100, 30))?;
-    users.push(user(alloc, 200, 20))?;
-    users.push(Creds::new(400, 40, Vec::new(alloc), Caps::SETUID))?;
+    users.push(user(100, 10))?;
+    users.push(user(eve, 30).with_saved(100, 30))?;
+    users.push(user(200, 20))?;
+    users.push(Creds::new(400, 40, &[], Caps::SETUID))?;
     Ok(users)
 }
 

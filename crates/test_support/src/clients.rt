@@ -8,8 +8,8 @@ use std::alloc::{AllocError, Global};
 use std::io;
 
 /// A client of this user and group.
-pub fn user(alloc: Global, uid: u32, gid: u32) -> Creds {
-    Creds::new(uid, gid, Vec::new(alloc), Caps::empty())
+pub fn user(uid: u32, gid: u32) -> Creds {
+    Creds::new(uid, gid, &[], Caps::empty())
 }
 
 /// So many clients of one user, 100, and its group, 10.
@@ -18,7 +18,7 @@ pub fn users(alloc: Global, count: usize) -> Result<Vec<Creds>, AllocError>
 {
     let mut users = Vec::new(alloc);
     for number in 0..count {
-        users.push(user(alloc, 100, 10))?;
+        users.push(user(100, 10))?;
     }
     Ok(users)
 }

@@ -8,7 +8,7 @@ use crate::passes::{all_posted, pass, put_back};
 use crate::services::{
     ended, has_passed, is_granted, joined, one_of, one_unjoined, served, service_for, waiting,
 };
-use ipc_call::{Call, IPC_CREAT, Items, Kind, SEM_UNDO};
+use ipc_call::{Boxed, Call, IPC_CREAT, Identity, Items, Kind, SEM_UNDO};
 use ipc_combiner::{Client, Idle, InFlight, Polled, Seen, Service, Unjoined};
 use std::alloc::{AllocError, Global};
 use std::process::Abort;
@@ -172,6 +172,84 @@ fn a_pass_of_calls_that_need_no_memory_takes_none(rt: HostRuntime) -> Result<(),
     let calls = quiet_calls(rt.alloc())?;
     let flights = all_posted(rt.alloc(), &service, idles, calls)?;
     quiet_pass(&rt, &service, flights, third, fourth)
+}
+
+/// The credentials that a process begins with, or that a thread assumes.
+fn identity(alloc: Global) -> Result<Boxed<Identity>, AllocError> {
+    let (uid, gid) = (100, 10);
+    let groups = Items::new(vec![in alloc; 20, 30]?);
+    let identity = Identity {
+        euid: uid,
+        egid: gid,
+        groups,
+        caps: 0,
+        ruid: uid,
+        suid: uid,
+        rgid: gid,
+        sgid: gid,
+    };
+    Boxed::new(alloc, identity)
+}
+
+/// What eight clients call, of whose threads the last one's, of client 6, has ended, as has that of client 8, which isn't among
+/// them. The thread of client 7 waits, until its process is killed.
+fn calls_on_processes(alloc: Global) -> Result<Vec<Call>, AllocError> {
+    let mut calls = Vec::new(alloc);
+    calls.push(Call::Begin {
+        pid: 70,
+        creds: identity(alloc)?,
+    })?;
+    calls.push(Call::Clone { child: 8 })?;
+    calls.push(Call::Assume {
+        creds: identity(alloc)?,
+    })?;
+    calls.push(Call::Name { pid: 60 })?;
+    calls.push(Call::Exec)?;
+    calls.push(Call::SetCreds {
+        euid: 100,
+        egid: 10,
+        groups: None,
+    })?;
+    calls.push(Call::Kill { pid: 8 })?;
+    Ok(calls)
+}
+
+/// The pass of those calls.
+fn pass_on_processes<R: Abort + AllocGlobal + Eprint>(
+    rt: &R,
+    service: &Service,
+    idles: Vec<Idle>,
+) -> Result<(), Fail>
+    requires { All (λ i. IsOf service.now.list i.joined) idles.items }
+{
+    let calls = calls_on_processes(rt.alloc())?;
+    let mut flights = all_posted(rt.alloc(), service, idles, calls)?;
+    eprintln!(rt; "quiet begins")?;
+    let passed = pass(service, &mut flights)?;
+    eprintln!(rt; "quiet ends")?;
+    assert!(rt; passed && flights.len() == 7);
+    check_granted(rt, service, flights);
+    Ok(())
+}
+
+#[test]
+fn calls_on_processes_take_no_memory(rt: HostRuntime) -> Result<(), Fail> {
+    let (service, clients) = service_for(&rt, 9)?;
+    let mut idles = joined(&rt, &service, clients)?;
+    let child = one_of(&rt, &service, &mut idles);
+    let waiter = one_of(&rt, &service, &mut idles);
+    let ended = one_of(&rt, &service, &mut idles);
+    let ended = all_granted(&rt, &service, ended, gets(rt.alloc(), 7)?);
+    let (_, reply) = served(&rt, &service, child, Call::Exit);
+    assert!(rt; is_granted(reply));
+    let waiter = waiting(&rt, &service, waiter, receive(0, 3));
+    let (ended, reply) = served(&rt, &service, ended, Call::Exit);
+    assert!(rt; is_granted(reply));
+    put_back(&service, &mut idles, ended)?;
+    pass_on_processes(&rt, &service, idles)?;
+    let (_, reply) = crate::services::ended(&rt, &service, waiter);
+    assert!(rt; !is_granted(reply));
+    Ok(())
 }
 
 /// A call, which is posted.

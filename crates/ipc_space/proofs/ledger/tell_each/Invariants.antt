@@ -13,5 +13,7 @@ invariant-loop-completion l = record {
   others : l.others.items ++ map (λ told. (told.client, reply_of told)) (replies_to_ended l.place l.turn (drain_items l.completion-iterator)) ≡ l.initial.others.items ++ map (λ told. (told.client, reply_of told)) (replies_to_ended l.place 1 (drain_items l.initial.completion-iterator));
   journal_room : length (drain_items l.completion-iterator) ≤ l.journal.room;
   room : vec_len l.others + length (drain_items l.completion-iterator) ≤ vec_capacity l.others;
+  entered : l.initial.journal.room + length (drain_items l.completion-iterator) ≤ l.journal.room + length (drain_items l.initial.completion-iterator);
+  kept : vec_capacity l.initial.others ≤ vec_capacity l.others;
   few : l.turn + length (drain_items l.completion-iterator) ≤ 4098;
 }

@@ -5,6 +5,7 @@ use Rattle.ipc_model.specs.Decision.{outcome_of}
 use Rattle.ipc_model.specs.Decide.{decide_alive as decide}
 use Rattle.ipc_namespace.specs.Namespace.{decide_made, left_made}
 use Rattle.ipc_namespace.proofs.Calling.{left-waits, waits-alive}
+use Rattle.ipc_namespace.proofs.Wanting.{on-err, waits-wants}
 use Rattle.ipc_namespace.proofs.namespace.Namespace.carry_out_alone.Goals as goal
 
 pub returns-in-None-clause-own : goal.returns-in-None-clause-own
@@ -25,3 +26,7 @@ wait-requires-clause-alive c =
     let waits = sym c.in_ok-outcome.ensures.own ∙ c.in-None.is in
     let same : c.grant_or_refuse.new.self ≡ s = c.in_ok-outcome.ensures.state ∙ left-waits s (decide s c.args.client c.args.call.now) waits in
     ap (λ (t : State). has_exited t c.args.client) same ∙ waits-alive s c.args.client c.args.call.now c.requires.may waits
+
+pub returns-in-None-clause-memory : goal.returns-in-None-clause-memory
+returns-in-None-clause-memory c =
+    on-err c.wait.result (waits-wants c.args.self.now c.args.client c.args.call.now (sym c.in_ok-outcome.ensures.own ∙ c.in-None.is))

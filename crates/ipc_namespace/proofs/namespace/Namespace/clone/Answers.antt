@@ -19,7 +19,7 @@ invariant_of-self c =
     let gone = ap (λ (s : State). has_exited s client) c.self.view_is ∙ ended in
     let is = ap (λ (t : Table). t.threads) c.clone.ensures in (
       (c.self.invariant.0.0, ap length is ∙ length-set n.processes.threads client _ ∙ c.self.invariant.0.1),
-      subst (λ k. AreParked k (waiting n.parked)) (sym (length-set n.clients.items client c.in_ok-self-inside.field-0)) c.self.invariant.1,
+      subst (λ k. AreParked k (waiting n.parked)) (sym (length-set n.clients.items client _)) c.self.invariant.1,
       c.self.invariant.2,
       subst (λ (ts : List Thread). AreHeld n.sets ts (waiting n.parked)) (sym is)
           (held-thread n.sets n.processes.threads client _ (waiting n.parked) (held-apart n.sets n.processes.threads client gone (waiting n.parked) c.self.invariant.3) c.self.invariant.3),

@@ -1,6 +1,7 @@
 use Rattle.std.proofs.Common.{◌++◌, [], ◌∷◌, sym, ap, ◌∙◌, arith, append_assoc}
 use Rattle.ipc_model.specs.Step.{Moved, settled}
-use Rattle.ipc_namespace.proofs.Quiet.{quiet-turn}
+use Rattle.ipc_parked.specs.Touched.{is_touched}
+use Rattle.ipc_namespace.proofs.Quiet.{of-touched, quiet-turn}
 use Rattle.ipc_namespace.proofs.Settling.{settled-turn}
 use Rattle.ipc_namespace.proofs.namespace.Namespace.settle_touched.Goals as goal
 
@@ -15,7 +16,8 @@ loop-completion-preserved c =
       state = inv.state ∙ ap (λ (m : Moved). m.state) turn;
       ended = inv.ended ∙ ap (λ (m : Moved). c.loop-completion.ended.items ++ m.ended) turn ∙ sym (append_assoc c.loop-completion.ended.items (e ∷ []) (settled new).ended)
           ∙ ap (λ es. es ++ (settled new).ended) (sym (let p = c.push.ensures.items in rw c.unwrap.ensures at p));
-      quiet = quiet-turn c.loop-completion.self new e c.args.touched inv.quiet c.in-Some.ensures.first;
+      quiet = quiet-turn c.loop-completion.self new e (is_touched c.args.touched) (of-touched c.args.touched) inv.quiet c.in-Some.ensures.first;
       room = omega (arith, pushed, c.in-Some.ensures.shorter, c.push.ensures.capacity, inv.room);
       few = omega (arith, pushed, c.in-Some.ensures.shorter, inv.few);
+      capacity = omega (arith, c.push.ensures.capacity, inv.capacity);
     }

@@ -12,6 +12,7 @@ invariant-loop-completion l = record {
   quiet : AreQuietBut (is_touched l.touched) l.self;
   room : vec_len l.ended + length l.self.parked ≤ vec_capacity l.ended;
   few : vec_len l.ended + length l.self.parked ≤ vec_len l.initial.ended + length l.initial.self.parked;
+  capacity : vec_capacity l.initial.ended ≤ vec_capacity l.ended;
 }
 
 abbrev pub decreases-loop-completion : goal.decreases-loop-completion

@@ -1,112 +1,97 @@
-use Rattle.std.proofs.Common.{◌≡◌, ℕ, ◌+◌, ◌<◌, None, [], ◌∷◌, ◌++◌, map, length, sym, ap, ◌∙◌, subst, arith}
+use Rattle.std.proofs.Common.{◌≡◌, ℕ, ◌+◌, ◌≤◌, List, [], ◌∷◌, ◌++◌, length, length-append, ap, sym, ◌∙◌, subst, arith}
+use Rattle.ipc_call.specs.declared.replies.JournalRow.{JournalRow}
 use Rattle.ipc_call.specs.declared.replies.JournalRow.TheVariants.{Called}
-use Rattle.ipc_model.specs.State.{State, is_waiting}
-use Rattle.ipc_model.specs.Step.{Event, Stepped, step}
-use Rattle.ipc_history.specs.History.{History, IsLegalAt, answered_row, next_step, rows_by, run, replies_to_ended, reply_to_own, with_event, IsLegal}
-use Rattle.ipc_history.specs.Waits.{AreNotReady}
-use Rattle.ipc_history.proofs.Runs.{tidy-run}
-use Rattle.ipc_model.proofs.Beginning.{next-attached}
-use Rattle.shm_seg.specs.Attachments.{attachment_at}
-use Rattle.ipc_call.specs.declared.limits.Limits.{Limits}
-use Rattle.ipc_space.specs.Spaces.{CanOpen, IsOfHistory, Parts, history_in, other_replies}
-use Rattle.ipc_space.proofs.Histories.{IsOfHistory-push, clients-reached, length-events_in, rows_by-entered}
-use Rattle.ipc_space.proofs.Permitted.{run_not_ready}
-use Rattle.ipc_space.proofs.ledger.Ledger.apply.Goals as goal
-use Rattle.ipc_space.proofs.ledger.Ledger.apply.Goals.{After-tell_others-others}
-use Rattle.ipc_space.proofs.Balance.{caller-apart}
+use Rattle.ipc_model.specs.Step.{Event, step}
+use Rattle.ipc_history.specs.History.{rows_of}
+use Rattle.ipc_space.specs.Spaces.{IsOfHistory, Parts, history_in, other_replies}
 use Rattle.ipc_space.specs.Telling.{replies_in}
+use Rattle.ipc_space.proofs.Entering.{apart_after, counted_before, event_after, few_before, fresh_before, is_after, known_before, legal_after, opens_after, quiet_before, room_after}
+use Rattle.ipc_space.proofs.Served.{others_told, rows_entered}
+use Rattle.ipc_space.proofs.ledger.Ledger.apply.Goals as goal
 
-event : (c : After-tell_others-others) → Event
-event c = record { client = c.args.client; now = c.args.now; call = c.args.call }
-
-stepped : (c : After-tell_others-others) → Stepped
-stepped c = record { state = c.serve-served.new.self; own = c.in-Ok-served.outcome; ended = c.serve-served.new.ended.items }
-
--- the history that it was
-was : (c : After-tell_others-others) → history_in c.self.inside.namespace.limits c.self.inside.opening.items c.self.inside.journal.rows ≡ c.args.self.now.history
-was c = ap (λ (p : Parts). p.history) c.self.view_is
-
--- the client is known, by the credentials at the start as by those now
-among : (clients now count : ℕ) → now ≡ clients → count < clients → count < now
-among clients now count same less = omega (arith, same, less)
-
-known : (c : After-tell_others-others) → c.args.client < length c.self.inside.namespace.clients
-known c =
+pub take_in-requires-clause-known : goal.take_in-requires-clause-known
+take_in-requires-clause-known c =
     let s = c.self.inside in
-    among (length s.opening.items) (length s.namespace.clients) c.args.client (clients-reached s.namespace s.opening.items s.journal.rows s.events c.self.invariant.0)
-    (subst (λ (h : History). c.args.client < length h.clients) (sym (was c)) c.requires.known)
+    known_before s.namespace s.opening.items s.journal.rows s.events c.self.invariant.0 c.args.self.now.history
+    (ap (λ (p : Parts). p.history) c.self.view_is) c.args.client c.requires.known
 
-legal : (c : After-tell_others-others) → IsLegalAt c.self.inside.namespace (event c)
-unfolding event
-legal c = record {
-  known = known c;
-  free = ap (λ (s : State). is_waiting s c.args.client) (c.self.invariant.0.state ∙ ap run (was c)) ∙ c.requires.free;
-}
-
-rows : (c : After-tell_others-others) → c.tell_others-others.new.journal.rows ≡ c.self.inside.journal.rows ++ rows_by (c.self.inside.events + 1) (event c) (stepped c)
-unfolding event stepped
-rows c =
-    let place = c.self.inside.events + 1 in
-    let own = map answered_row (reply_to_own c.args.client place c.in-Ok-served.outcome) in
-    let others = map answered_row (replies_to_ended place 1 c.serve-served.new.ended.items) in
-    let called : c.enter.new.self.rows ≡ c.self.inside.journal.rows ++ Called c.args.client c.args.now c.args.call ∷ [] =
-    c.enter.ensures.rows ∙ ap (λ r. r ++ Called c.args.client c.args.now c.args.call ∷ []) c.reserve.ensures.rows in
-    c.tell_others-others.ensures.rows ∙ ap (λ r. r ++ others) (c.tell_own-own.ensures.rows ∙ ap (λ r. r ++ own) called)
-    ∙ rows_by-entered c.self.inside.journal.rows place (event c) (stepped c)
-
-longer : (c : After-tell_others-others) → IsOfHistory c.serve-served.new.self c.self.inside.opening.items c.tell_others-others.new.journal.rows (c.self.inside.events + 1)
-    × (history_in c.serve-served.new.self.limits c.self.inside.opening.items c.tell_others-others.new.journal.rows ≡ with_event (history_in c.self.inside.namespace.limits c.self.inside.opening.items c.self.inside.journal.rows) (event c))
-unfolding event stepped
-longer c =
+pub take_in-requires-clause-fresh : goal.take_in-requires-clause-fresh
+take_in-requires-clause-fresh c =
     let s = c.self.inside in
-    let steps = c.in-Ok-served.ensures.ok in
-    IsOfHistory-push s.namespace s.opening.items s.journal.rows c.tell_others-others.new.journal.rows s.events (event c) (stepped c) c.self.invariant.0 (legal c) steps c.serve-served.ensures.limits (rows c)
+    fresh_before s.namespace s.opening.items s.journal.rows s.events c.self.invariant.0 c.args.self.now.history
+    (ap (λ (p : Parts). p.history) c.self.view_is)
 
-pub overflow_add-place : goal.overflow_add-place
-overflow_add-place c =
+pub take_in-requires-clause-quiet : goal.take_in-requires-clause-quiet
+take_in-requires-clause-quiet c =
     let s = c.self.inside in
-    omega (arith, c.self.invariant.0.counted, length-events_in s.journal.rows, c.in-Ok.ensures.fits, ap length c.reserve.ensures.rows)
+    quiet_before s.namespace s.opening.items s.journal.rows s.events c.self.invariant.0 c.args.self.now.history
+    (ap (λ (p : Parts). p.history) c.self.view_is)
 
-pub serve-served-requires-clause-quiet : goal.serve-served-requires-clause-quiet
-serve-served-requires-clause-quiet c = subst AreNotReady (sym c.self.invariant.0.state) (run_not_ready (history_in c.self.inside.namespace.limits c.self.inside.opening.items c.self.inside.journal.rows))
+pub take_in-requires-clause-counted : goal.take_in-requires-clause-counted
+take_in-requires-clause-counted c =
+    let s = c.self.inside in
+    counted_before s.namespace s.opening.items s.journal.rows s.events c.self.invariant.0 c.args.self.now.history
+    (ap (λ (p : Parts). p.history) c.self.view_is)
 
--- nothing is filed under the process that comes next
-pub serve-served-requires-clause-fresh : goal.serve-served-requires-clause-fresh
-serve-served-requires-clause-fresh c =
-    subst (λ (s : State). (number : ℕ) → attachment_at s.shared.attached s.next number ≡ None) (sym c.self.invariant.0.state)
-    (let h = history_in c.self.inside.namespace.limits c.self.inside.opening.items c.self.inside.journal.rows in next-attached (run h) (tidy-run h))
+pub take_in-requires-clause-ended_room : goal.take_in-requires-clause-ended_room
+take_in-requires-clause-ended_room c =
+    let s = c.self.inside in
+    let few = few_before s.namespace s.opening.items s.journal.rows s.events c.self.invariant.0 c.args.self.now.history
+    (ap (λ (p : Parts). p.history) c.self.view_is) in
+    omega (arith, few, c.self.invariant.4, s.opening.ok.0)
 
 pub invariant_of-self-2 : goal.invariant_of-self-2
-invariant_of-self-2 c = (
-  (longer (goal.at.invariant_of-self-2 c).After-tell_others-others).0,
-  c.tell_others-others.ensures.told,
-  c.tell_others-others.ensures.left,
-  subst (λ (l : Limits). CanOpen l c.self.inside.opening.items) (sym c.serve-served.ensures.limits) c.self.invariant.3,
-)
+invariant_of-self-2 c =
+    let s = c.self.inside in
+    let e : Event = record { client = c.args.client; now = c.args.now; call = c.args.call } in
+    let told = c.in-Ok.ensures in
+    let rows = rows_entered (s.events + 1) c.take_in.new.events told.counted (step s.namespace e) c.in-Ok.outcome told.own c.take_in.new.ended.items told.ended c.args.client c.args.now c.args.call s.journal.rows c.take_in.new.journal.rows c.tell-own.new.journal.rows told.rows c.tell-own.ensures.rows in (
+      subst (λ (n : ℕ). IsOfHistory c.take_in.new.namespace s.opening.items c.tell-own.new.journal.rows n) (sym told.counted)
+          (is_after s.namespace s.opening.items s.journal.rows s.events c.self.invariant.0 c.args.self.now.history (ap (λ (p : Parts). p.history) c.self.view_is)
+          c.take_in.new.namespace c.tell-own.new.journal.rows e c.requires.known c.requires.free told.state rows),
+      c.tell-own.ensures.told,
+      c.give_away-others.ensures.none,
+      opens_after s.namespace s.opening.items s.journal.rows s.events c.self.invariant.0 c.args.self.now.history (ap (λ (p : Parts). p.history) c.self.view_is)
+          c.take_in.new.namespace c.tell-own.new.journal.rows e c.requires.known c.requires.free told.state rows c.self.invariant.3,
+      omega (arith, c.self.invariant.4, c.take_in.ensures.ended_kept, c.tell-own.ensures.kept),
+    )
 
 pub returns-clause-event : goal.returns-clause-event
-unfolding event
 returns-clause-event c =
-    let b = (goal.at.returns-clause-event c).After-tell_others-others in
-    (longer b).1 ∙ ap (λ (h : History). with_event h (event b)) (was b)
-
-pub returns-clause-legal : goal.returns-clause-legal
-returns-clause-legal c = (longer (goal.at.returns-clause-legal c).After-tell_others-others).0.legal
-
-pub serve-served-requires-clause-known : goal.serve-served-requires-clause-known
-serve-served-requires-clause-known c =
     let s = c.self.inside in
-    among (length s.opening.items) (length s.namespace.clients) c.args.client (clients-reached s.namespace s.opening.items s.journal.rows s.events c.self.invariant.0)
-    (subst (λ (h : History). c.args.client < length h.clients) (sym (ap (λ (p : Parts). p.history) c.self.view_is)) c.requires.known)
+    let e : Event = record { client = c.args.client; now = c.args.now; call = c.args.call } in
+    let told = c.in-Ok.ensures in
+    let rows = rows_entered (s.events + 1) c.take_in.new.events told.counted (step s.namespace e) c.in-Ok.outcome told.own c.take_in.new.ended.items told.ended c.args.client c.args.now c.args.call s.journal.rows c.take_in.new.journal.rows c.tell-own.new.journal.rows told.rows c.tell-own.ensures.rows in
+    event_after s.namespace s.opening.items s.journal.rows s.events c.self.invariant.0 c.args.self.now.history (ap (λ (p : Parts). p.history) c.self.view_is)
+    c.take_in.new.namespace c.tell-own.new.journal.rows e c.requires.known c.requires.free told.state rows
 
 pub returns-clause-apart : goal.returns-clause-apart
-unfolding event stepped
 returns-clause-apart c =
-    let b = (goal.at.returns-clause-apart c).After-tell_others-others in
     let s = c.self.inside in
-    let place = s.events + 1 in
-    let h = history_in s.namespace.limits s.opening.items s.journal.rows in
-    let is : next_step h (event b) ≡ stepped b = ap (λ (x : State). step x (event b)) (sym c.self.invariant.0.state) ∙ c.in-Ok-served.ensures.ok in
-    let law : IsLegal (with_event h (event b)) = subst (λ (h : History). IsLegal h) (longer b).1 (longer b).0.legal in
-    ap (λ others. replies_in others c.args.client) (c.tell_others-others.ensures.others ∙ ap (λ (m : Stepped). other_replies place m.ended) (sym is))
-    ∙ caller-apart h (event b) place law
+    let e : Event = record { client = c.args.client; now = c.args.now; call = c.args.call } in
+    let told = c.in-Ok.ensures in
+    let rows = rows_entered (s.events + 1) c.take_in.new.events told.counted (step s.namespace e) c.in-Ok.outcome told.own c.take_in.new.ended.items told.ended c.args.client c.args.now c.args.call s.journal.rows c.take_in.new.journal.rows c.tell-own.new.journal.rows told.rows c.tell-own.ensures.rows in
+    ap (λ others. replies_in others c.args.client) (c.give_away-others.ensures.all ∙ others_told (s.events + 1) c.take_in.new.events told.counted (step s.namespace e) c.in-Ok.outcome told.own c.take_in.new.ended.items told.ended c.make_room.new.list.items c.tell-own.new.others.items c.tell-own.ensures.others ∙ ap (λ told. told ++ other_replies (s.events + 1) (step s.namespace e).ended) c.make_room.ensures.empty)
+    ∙ apart_after s.namespace s.opening.items s.journal.rows s.events c.self.invariant.0 c.args.self.now.history (ap (λ (p : Parts). p.history) c.self.view_is)
+    c.take_in.new.namespace c.tell-own.new.journal.rows e c.requires.known c.requires.free told.state rows
+
+pub returns-clause-legal : goal.returns-clause-legal
+returns-clause-legal c =
+    let s = c.self.inside in
+    let e : Event = record { client = c.args.client; now = c.args.now; call = c.args.call } in
+    let told = c.in-Ok.ensures in
+    let rows = rows_entered (s.events + 1) c.take_in.new.events told.counted (step s.namespace e) c.in-Ok.outcome told.own c.take_in.new.ended.items told.ended c.args.client c.args.now c.args.call s.journal.rows c.take_in.new.journal.rows c.tell-own.new.journal.rows told.rows c.tell-own.ensures.rows in
+    legal_after s.namespace s.opening.items s.journal.rows s.events c.self.invariant.0 c.args.self.now.history (ap (λ (p : Parts). p.history) c.self.view_is)
+    c.take_in.new.namespace c.tell-own.new.journal.rows e c.requires.known c.requires.free told.state rows
+
+pub returns-clause-room : goal.returns-clause-room
+returns-clause-room c =
+    let s = c.self.inside in
+    let e : Event = record { client = c.args.client; now = c.args.now; call = c.args.call } in
+    let told = c.in-Ok.ensures in
+    let rows = rows_entered (s.events + 1) c.take_in.new.events told.counted (step s.namespace e) c.in-Ok.outcome told.own c.take_in.new.ended.items told.ended c.args.client c.args.now c.args.call s.journal.rows c.take_in.new.journal.rows c.tell-own.new.journal.rows told.rows c.tell-own.ensures.rows in
+    let count : List JournalRow → ℕ = λ rows. length rows in
+    let called = ap count told.rows ∙ length-append s.journal.rows (Called c.args.client c.args.now c.args.call ∷ []) in
+    subst (λ (n : ℕ). n + length (rows_of c.args.self.now.history) ≤ c.tell-own.new.journal.room + length (rows_of (history_in c.take_in.new.namespace.limits s.opening.items c.tell-own.new.journal.rows))) (ap (λ (p : Parts). p.room) c.self.view_is)
+    (room_after s.namespace s.opening.items s.journal.rows s.events c.self.invariant.0 c.args.self.now.history (ap (λ (p : Parts). p.history) c.self.view_is)
+    c.take_in.new.namespace c.tell-own.new.journal.rows e c.requires.known c.requires.free told.state rows s.journal.room c.tell-own.new.journal.room (omega (arith, called, told.room, c.tell-own.ensures.journal_kept)))

@@ -1,0 +1,10 @@
+pub mod Going
+pub mod Guests
+pub mod Held
+pub mod Lives
+pub mod Looks
+pub mod Making
+pub mod Openings
+pub mod Refusals
+pub mod Servers
+pub mod Steps

@@ -1,0 +1,16 @@
+pub mod Attached
+pub mod Changed
+pub mod Counted
+pub mod Decided
+pub mod Ended
+pub mod Few
+pub mod Granted
+pub mod Interrupted
+pub mod Openings
+pub mod Pids
+pub mod Quiet
+pub mod Several
+pub mod Starts
+pub mod Steps
+pub mod Waiting
+pub mod Waits

@@ -1,0 +1,5 @@
+pub mod Bounds
+pub mod Ends
+pub mod Memory
+pub mod Runs
+pub mod Telling
